@@ -1,0 +1,4 @@
+-- The laws of the definitions, for every layer above.
+pub mod Bools
+pub mod Below
+pub mod Reach

@@ -1,0 +1,161 @@
+-- The marks are the chains: what `reach` marks is what a chain leads to. Assumes nothing.
+--   reach-sound      a marked number has a chain
+--   reach-complete   a chain of links below n ends in a marked number
+use mathlib.Core.Path.{_≡_, refl, sym, _∙_, ap, subst}
+use mathlib.Core.Bool.{Bool, true, false, _&&_, _||_}
+use mathlib.Core.Logic.{_⊎_, inl, inr, ⊎-elim}
+use mathlib.Core.List.{List}
+use Prim.Native.Nat.{ℕ, zero, suc, _+_, _≤_, _<_}
+use native.Mathlib.Omega.{arith}
+use lib.ListN.{getD, length, List·getD-eq-default}
+use lib.Dec.{eqb}
+use borrow.Author.Tests.{eqb-true, eq-eqb}
+use Rattle.finite.specs.Below.{any, count, rounds, tabulate}
+use Rattle.finite.specs.Reach.{Chain, start, then, marked, grow, reach, reaches}
+use Rattle.finite.proofs.Bools.{and-intro, and-left, and-right, or-left, or-right, or-elim, test, clash}
+use Rattle.finite.proofs.Below.{le-or-lt, any-at, any-intro, count-le, count-mono, count-same, count-pos, rounds-keep, rounds-induct, length-tabulate, getD-tabulate}
+
+-- a chain goes on by another
+pub chain-append : {E : ℕ → ℕ → Bool} {a b c n m : ℕ} → Chain E a b n → Chain E b c m → Chain E a c (n + m)
+chain-append {E} {a} {b} {c} {n} p start = let z : n ≡ n + 0 = omega arith in subst (λ (k : ℕ). Chain E a b k) z p
+chain-append {E} {a} {b} {c} {n} p (then {n = m} q l) =
+    let z : suc (n + m) ≡ n + suc m = omega arith in
+    subst (λ (k : ℕ). Chain E a c k) z (then (chain-append p q) l)
+
+pub chain-first : {E : ℕ → ℕ → Bool} {a b c n : ℕ} → E a b ≡ true → Chain E b c n → Chain E a c (suc n)
+chain-first l start = then start l
+chain-first l (then q m) = then (chain-first l q) m
+
+-- the first link of a chain that has one
+pub chain-head : {E : ℕ → ℕ → Bool} {a c n : ℕ} → Chain E a c (suc n) → (b : ℕ) × (E a b ≡ true) × Chain E b c n
+chain-head (then start l) = (_, l, start)
+chain-head (then (then q m) l) = let r = chain-head (then q m) in (r .0, r .1, then (r .2) l)
+
+-- a chain of one relation is one of another that has its links
+pub chain-map : {E F : ℕ → ℕ → Bool} {a b n : ℕ} → ((i j : ℕ) → E i j ≡ true → F i j ≡ true) → Chain E a b n → Chain F a b n
+chain-map f start = start
+chain-map f (then q l) = then (chain-map f q) (f _ _ l)
+
+-- what holds at the start, and is handed on by each link, holds at the end
+pub chain-keeps : {E : ℕ → ℕ → Bool} {a b n : ℕ} (P : ℕ → Type 0) → ((i j : ℕ) → P i → E i j ≡ true → P j) → P a → Chain E a b n → P b
+chain-keeps P f p start = p
+chain-keeps P f p (then q l) = f _ _ (chain-keeps P f p q) l
+
+-- a number that each link raises is raised by the length of a chain
+pub chain-raises : {E : ℕ → ℕ → Bool} {a b n : ℕ} (r : ℕ → ℕ) → ((i j : ℕ) → E i j ≡ true → r i < r j) → Chain E a b n → r a + n ≤ r b
+chain-raises {a = a} r f start = omega arith
+chain-raises {a = a} r f (then {b = b} {c = c} q l) = let h = chain-raises r f q in let g = f b c l in omega arith
+
+module _ (E : ℕ → ℕ → Bool) (n : ℕ) where
+  marked-below : (m : List Bool) (j : ℕ) → length m ≡ n → marked m j ≡ true → j < n
+  marked-below m j e t =
+      ⊎-elim (λ g. clash t (List·getD-eq-default m false {n = j} (omega arith))) (λ l. l) (le-or-lt n j)
+
+  length-grow : (m : List Bool) → length (grow E n m) ≡ n
+  unfolding grow
+  length-grow m = length-tabulate n _
+
+  length-reach : (a : ℕ) → length (reach E n a) ≡ n
+  unfolding reach
+  length-reach a = rounds-keep (λ m. length m ≡ n) n _ _ (λ k l m e. length-grow m) (length-tabulate n _)
+
+  grow-at : (m : List Bool) (j : ℕ) → j < n → marked (grow E n m) j ≡ (marked m j || any n (λ i. marked m i && E i j))
+  unfolding grow
+  grow-at m j h = getD-tabulate n _ false j h
+
+  grow-keeps : (m : List Bool) (j : ℕ) → j < n → marked m j ≡ true → marked (grow E n m) j ≡ true
+  grow-keeps m j h t = rw (grow-at m j h) (or-left (marked m j) _ t)
+
+  grow-adds : (m : List Bool) (i j : ℕ) → i < n → j < n → marked m i ≡ true → E i j ≡ true → marked (grow E n m) j ≡ true
+  grow-adds m i j h g t l =
+      rw (grow-at m j g) (or-right (marked m j) _ (any-intro n (λ k. marked m k && E k j) i h (and-intro t l)))
+
+  -- each mark has its chain
+  Reached : ℕ → List Bool → Type 0
+  Reached a m = (length m ≡ n) × ((j : ℕ) → marked m j ≡ true → (k : ℕ) × Chain E a j k)
+
+  pub reach-sound : (a b : ℕ) → reaches E n a b ≡ true → (k : ℕ) × Chain E a b k
+  unfolding reaches reach Reached
+  reach-sound a b t = rounds-keep (Reached a) n (λ i m. grow E n m) (tabulate n (λ j. eqb j a)) more base .1 b t
+    where
+      base : Reached a (tabulate n (λ j. eqb j a))
+      base = (
+        length-tabulate n _,
+        λ j u.
+            let h = marked-below (tabulate n (λ j. eqb j a)) j (length-tabulate n _) u in
+            let e : j ≡ a = eqb-true j a (sym (getD-tabulate n (λ j. eqb j a) false j h) ∙ u) in
+            (0, subst (λ (x : ℕ). Chain E a x 0) (sym e) start),
+      )
+
+      more : (k : ℕ) → k < n → (m : List Bool) → Reached a m → Reached a (grow E n m)
+      more k l m r = (
+        length-grow m,
+        λ j u.
+            let h = marked-below (grow E n m) j (length-grow m) u in
+            ⊎-elim (λ v. r .1 j v)
+            (λ v.
+            let w = any-at n (λ i. marked m i && E i j) v in
+            let c = r .1 (w .0) (and-left (marked m (w .0)) (E (w .0) j) (w .2)) in
+            (suc (c .0), then (c .1) (and-right (marked m (w .0)) (E (w .0) j) (w .2))))
+            (or-elim (marked m j) _ (sym (grow-at m j h) ∙ u)),
+      )
+
+  -- a set of marks that no link leaves
+  Closed : List Bool → Type 0
+  Closed m = (i j : ℕ) → i < n → j < n → marked m i ≡ true → E i j ≡ true → marked m j ≡ true
+
+  size : List Bool → ℕ
+  size m = count n (marked m)
+
+  -- growing a closed set changes no mark, so it stays closed
+  closed-grow : (m : List Bool) → Closed m → Closed (grow E n m)
+  unfolding Closed
+  closed-grow m c i j h g t l =
+      grow-keeps m j g (c i j h g (back t) l)
+    where
+      back : marked (grow E n m) i ≡ true → marked m i ≡ true
+      back u =
+          ⊎-elim (λ v. v)
+          (λ v.
+          let w = any-at n (λ k. marked m k && E k i) v in
+          c (w .0) i (w .1) h (and-left (marked m (w .0)) (E (w .0) i) (w .2)) (and-right (marked m (w .0)) (E (w .0) i) (w .2)))
+          (or-elim (marked m i) _ (sym (grow-at m i h) ∙ u))
+
+  -- a set that does not grow in size is closed
+  still-closed : (m : List Bool) → size (grow E n m) ≤ size m → Closed m
+  unfolding Closed size
+  still-closed m c i j h g t l =
+      count-same n (marked m) (marked (grow E n m)) (λ k b. grow-keeps m k b) c j g (grow-adds m i j h g t l)
+
+  Grown : ℕ → List Bool → Type 0
+  Grown k m = Closed m ⊎ (k < size m)
+
+  -- n rounds are enough: each adds a mark, or the set is closed
+  reach-grown : (a : ℕ) → a < n → Grown n (reach E n a)
+  unfolding reach Grown size
+  reach-grown a h =
+      rounds-induct Grown n (λ i m. grow E n m) (tabulate n (λ j. eqb j a))
+      (λ k l m. ⊎-elim (λ c. inl (closed-grow m c)) (λ s. ⊎-elim (λ b. inl (closed-grow m (still-closed m b))) (λ b. inr (omega arith)) (le-or-lt (size (grow E n m)) (size m))))
+      (inr (count-pos n _ a h (getD-tabulate n (λ j. eqb j a) false a h ∙ eq-eqb a a refl)))
+
+  pub reach-closed : (a : ℕ) → a < n → (i j : ℕ) → i < n → j < n → reaches E n a i ≡ true → E i j ≡ true → reaches E n a j ≡ true
+  unfolding reaches Grown Closed size
+  reach-closed a h =
+      ⊎-elim (λ c. c) (λ s. absurd (let m = count-le n (marked (reach E n a)) in omega arith)) (reach-grown a h)
+
+  pub reach-start : (a : ℕ) → a < n → reaches E n a a ≡ true
+  unfolding reaches reach
+  reach-start a h =
+      rounds-keep (λ m. marked m a ≡ true) n (λ i m. grow E n m) _ (λ k l m t. grow-keeps m a h t)
+      (getD-tabulate n (λ j. eqb j a) false a h ∙ eq-eqb a a refl)
+
+  pub reach-below : (a b : ℕ) → reaches E n a b ≡ true → b < n
+  unfolding reaches
+  reach-below a b t = marked-below (reach E n a) b (length-reach a) t
+
+  -- links lead below n
+  pub reach-complete : ((i j : ℕ) → E i j ≡ true → j < n) → {a b k : ℕ} → a < n → Chain E a b k → reaches E n a b ≡ true
+  reach-complete w {a} h start = reach-start a h
+  reach-complete w {a} h (then {b = b} {c = c} q l) =
+      let t = reach-complete w h q in
+      reach-closed a h b c (reach-below a b t) (w b c l) t l

@@ -1,0 +1,2 @@
+-- Document 01, "A history", as definitions.
+pub mod History

@@ -1,0 +1,1 @@
+// Histories of calls: definitions, their laws and the claims, and no code.

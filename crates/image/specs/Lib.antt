@@ -1,0 +1,2 @@
+-- Document 01, "Image", as definitions.
+pub mod Image

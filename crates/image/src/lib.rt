@@ -1,0 +1,1 @@
+// The image of a table: definitions and their laws, and no code.

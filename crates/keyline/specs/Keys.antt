@@ -1,0 +1,85 @@
+-- Key lines: the four forms and no other, and the calls that they make (document 01, "Keys"). Assumes nothing.
+--   isLine bs call n     H, star, the call's digit, n digits, A, and nothing else
+--   number bs k w        the number that w digits spell from place k
+--   decode bs            the command of a key line
+--   keyCall t bs         the call
+use mathlib.Core.Bool.{Bool, true, false, _&&_, not, cond}
+use mathlib.Core.List.{List, [], _∷_}
+use Prim.Native.Nat.{ℕ, zero, suc, _+_, _*_, _-_}
+use lib.ListN.{length, getD}
+use lib.Dec.{eqb, leb}
+use Rattle.finite.specs.Below.{all}
+use Rattle.table.specs.declared.Table.{Table}
+use Rattle.table.specs.declared.Answer.the-variants.{Refused, Given}
+use Rattle.table.specs.declared.Outcome.{Outcome}
+use Rattle.keyline.specs.declared.Command.{Command}
+use Rattle.keyline.specs.declared.Decoded.{Decoded}
+use Rattle.keyline.specs.declared.Decoded.the-variants.{Line, Nothing}
+use Rattle.table.specs.Table.{stepsInUse}
+use Rattle.table.specs.Sound.{sound, passes}
+use Rattle.table.specs.Answer.{notSound, notKeyLine, first, unless}
+use Rattle.table.specs.Calls.{addCall, linkCall}
+use Rattle.table.specs.Clear.{clearCall}
+
+-- "Keys are ASCII: H alarm held, A alarm pressed, *, digits."
+abbrev pub held : ℕ
+held = 72
+
+abbrev pub star : ℕ
+star = 42
+
+abbrev pub pressed : ℕ
+pressed = 65
+
+abbrev pub digit : ℕ → ℕ
+digit d = 48 + d
+
+unfoldable pub isDigit : ℕ → Bool
+isDigit x = leb (digit 0) x && leb x (digit 9)
+
+unfoldable pub isLine : List ℕ → ℕ → ℕ → Bool
+isLine bs call n =
+    passes
+    (eqb (length bs) (n + 4) ∷
+    eqb (getD bs 0 0) held ∷
+    eqb (getD bs 1 0) star ∷
+    eqb (getD bs 2 0) (digit call) ∷
+    all n (λ i. isDigit (getD bs (3 + i) 0)) ∷
+    eqb (getD bs (3 + n) 0) pressed ∷
+    [])
+
+unfoldable pub number : List ℕ → ℕ → ℕ → ℕ
+number bs k zero = 0
+number bs k (suc w) = 10 * number bs k w + (getD bs (k + w) 0 - digit 0)
+
+-- "H*1, step, exit, kind, content, A adds; steps and contents have three digits, exits and kinds a single digit. H*2, step, exit, step, exit, A
+-- links. H*3, step, exit, A clears. H*4A counts. Nothing else is a key line."
+unfoldable pub decode : List ℕ → Decoded
+decode bs =
+    cond (isLine bs 1 8)
+    (Line (record { call = 1; a = number bs 3 3; b = number bs 6 1; c = number bs 7 1; d = number bs 8 3 }))
+    (cond (isLine bs 2 8)
+    (Line (record { call = 2; a = number bs 3 3; b = number bs 6 1; c = number bs 7 3; d = number bs 10 1 }))
+    (cond (isLine bs 3 4) (Line (record { call = 3; a = number bs 3 3; b = number bs 6 1; c = 0; d = 0 }))
+    (cond (isLine bs 4 0) (Line (record { call = 4; a = 0; b = 0; c = 0; d = 0 })) Nothing)))
+
+-- "in use and free for H*4"
+unfoldable pub countCall : Table → Outcome
+countCall t =
+    unless (first ((not (sound t), notSound) ∷ [])) t
+    (record { answer = Given (stepsInUse t) (t .capacity - stepsInUse t); table = t })
+
+-- the call that a command makes
+unfoldable pub obey : Table → Command → Outcome
+obey t c =
+    cond (eqb (c .call) 1) (addCall t (c .a) (c .b) (c .c) (c .d))
+    (cond (eqb (c .call) 2) (linkCall t (c .a) (c .b) (c .c) (c .d))
+    (cond (eqb (c .call) 3) (clearCall t (c .a) (c .b)) (countCall t)))
+
+-- "key line 1, 9, then its call's"
+unfoldable pub keyed : Table → Decoded → Outcome
+keyed t Nothing = record { answer = Refused notKeyLine; table = t }
+keyed t (Line c) = obey t c
+
+unfoldable pub keyCall : Table → List ℕ → Outcome
+keyCall t bs = unless (first ((not (sound t), notSound) ∷ [])) t (keyed t (decode bs))

@@ -1,0 +1,2 @@
+-- Document 01, "Keys", as definitions.
+pub mod Keys

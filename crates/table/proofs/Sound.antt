@@ -1,0 +1,161 @@
+-- The statement and the test of soundness are one: `test-sound` and `sound-test`. Assumes nothing.
+use mathlib.Core.Path.{_≡_, refl, sym, _∙_, ap}
+use mathlib.Core.Bool.{Bool, true, false, _&&_, _||_, not}
+use mathlib.Core.Logic.{_⊎_, inl, inr, ⊎-elim}
+use mathlib.Core.List.{List, [], _∷_}
+use Prim.Native.Nat.{ℕ, zero, suc, _+_, _*_, _≤_, _<_}
+use native.Mathlib.Omega.{arith}
+use lib.ListN.{length, getD}
+use lib.Dec.{eqb, leb, ltb}
+use borrow.Author.Tests.{eqb-true, eq-eqb, leb-true, le-leb, ltb-true, lt-ltb}
+use Rattle.finite.specs.Below.{all}
+use Rattle.finite.specs.Reach.{Chain, reaches}
+use Rattle.finite.proofs.Bools.{and-intro, and-left, and-right, clash, refute, test, implied, imply, otherwise, either, not-true-false}
+use Rattle.finite.proofs.Below.{le-or-lt, all-at, all-intro}
+use Rattle.finite.proofs.Reach.{chain-head, reach-sound, reach-complete, chain-first}
+use Rattle.table.specs.declared.Table.{Table}
+use Rattle.table.specs.Table.{places, exits, counters, inUse, kindOf, contentOf, ownBit, targetOf, linkBit, counterOf, holds, stronglyLinked, linksTo, StrongChain}
+use Rattle.table.specs.Sound.{Shape, Blank, Sound, passes, eachUsed, shapeTests, blankTests, ringless, soundTests, sound, kindFits}
+use Rattle.table.proofs.Links.{Wired, sound-wired, used-below, used-place, linked-used, linked-below, strongly-linked}
+
+pub passes-at : (xs : List Bool) → passes xs ≡ true → (k : ℕ) → getD xs k true ≡ true
+passes-at [] h k = refl
+passes-at (x ∷ xs) h zero = and-left x (passes xs) h
+passes-at (x ∷ xs) h (suc k) = passes-at xs (and-right x (passes xs) h) k
+
+pub each-used-at : (t : Table) (p : ℕ → Bool) → eachUsed t p ≡ true → (i : ℕ) → i < places → inUse t i ≡ true → p i ≡ true
+unfolding eachUsed
+each-used-at t p h i l u = implied (inUse t i) (p i) (all-at places _ h i l) u
+
+pub each-used-intro : (t : Table) (p : ℕ → Bool) → ((i : ℕ) → inUse t i ≡ true → p i ≡ true) → eachUsed t p ≡ true
+unfolding eachUsed
+each-used-intro t p f = all-intro places _ (λ i l. imply (inUse t i) (p i) (f i))
+
+tests-shape : (t : Table) → passes (shapeTests t) ≡ true → Shape t
+unfolding shapeTests
+tests-shape t h =
+    let at = passes-at (shapeTests t) h in
+    record {
+      used = eqb-true _ _ (at 0);
+      kinds = eqb-true _ _ (at 1);
+      contents = eqb-true _ _ (at 2);
+      own = eqb-true _ _ (at 3);
+      targets = eqb-true _ _ (at 4);
+      bits = eqb-true _ _ (at 5);
+      counts = eqb-true _ _ (at 6);
+    }
+
+shape-tests : (t : Table) → Shape t → passes (shapeTests t) ≡ true
+unfolding shapeTests
+shape-tests t s =
+    and-intro (eq-eqb _ _ (s .used))
+    (and-intro (eq-eqb _ _ (s .kinds))
+    (and-intro (eq-eqb _ _ (s .contents))
+    (and-intro (eq-eqb _ _ (s .own))
+    (and-intro (eq-eqb _ _ (s .targets))
+    (and-intro (eq-eqb _ _ (s .bits)) (and-intro (eq-eqb _ _ (s .counts)) refl))))))
+
+tests-blank : (t : Table) (i : ℕ) → passes (blankTests t i) ≡ true → Blank t i
+unfolding blankTests
+tests-blank t i h =
+    let at = passes-at (blankTests t i) h in
+    record {
+      used = eqb-true _ _ (at 0);
+      kind = eqb-true _ _ (at 1);
+      content = eqb-true _ _ (at 2);
+      own = eqb-true _ _ (at 3);
+      targets = λ e l. eqb-true _ _ (all-at exits _ (at 4) e l);
+      bits = λ e l. eqb-true _ _ (all-at exits _ (at 5) e l);
+      counts = λ b l. eqb-true _ _ (all-at counters _ (at 6) b l);
+    }
+
+blank-tests : (t : Table) (i : ℕ) → Blank t i → passes (blankTests t i) ≡ true
+unfolding blankTests
+blank-tests t i s =
+    and-intro (eq-eqb _ _ (s .used))
+    (and-intro (eq-eqb _ _ (s .kind))
+    (and-intro (eq-eqb _ _ (s .content))
+    (and-intro (eq-eqb _ _ (s .own))
+    (and-intro (all-intro exits _ (λ e l. eq-eqb _ _ (s .targets e l)))
+    (and-intro (all-intro exits _ (λ e l. eq-eqb _ _ (s .bits e l)))
+    (and-intro (all-intro counters _ (λ b l. eq-eqb _ _ (s .counts b l))) refl))))))
+
+module _ (t : Table) where
+  tests-wired : passes (soundTests t) ≡ true → Wired t
+  unfolding soundTests
+  tests-wired h =
+      let at = passes-at (soundTests t) h in
+      let shape = tests-shape t (at 0) in
+      record {
+        shape = shape;
+        most = leb-true _ _ (at 2);
+        above = λ i g l. refute (inUse t i) (λ u. let b : i < t .capacity = ltb-true _ _ (each-used-at t _ (at 4) i l u) in omega arith);
+        targets = λ i e u l g. implied (holds t i e) _ (all-at exits _ (each-used-at t _ (at 9) i (used-place shape i u) u) e l) g;
+        free = λ i l f. tests-blank t i (otherwise (inUse t i) _ (all-at places _ (at 11) i l) f);
+      }
+
+  pub test-sound : sound t ≡ true → Sound t
+  unfolding sound soundTests ringless
+  test-sound h =
+      let at = passes-at (soundTests t) h in
+      let w = tests-wired h in
+      let edge : (i j : ℕ) → stronglyLinked t i j ≡ true → j < t .capacity = λ i j s. linked-below w i j (strongly-linked t i j s) in
+      record {
+        shape = w .shape;
+        least = leb-true _ _ (at 1);
+        most = w .most;
+        last = ltb-true _ _ (at 3);
+        above = w .above;
+        alarm = at 5;
+        kinds = λ i u. each-used-at t _ (at 6) i (used-place (w .shape) i u) u;
+        own = λ i u. ltb-true _ _ (each-used-at t _ (at 7) i (used-place (w .shape) i u) u);
+        bits = λ i e u l. ltb-true _ _ (all-at exits _ (each-used-at t _ (at 8) i (used-place (w .shape) i u) u) e l);
+        targets = w .targets;
+        empty = λ i e u l g. eqb-true _ _ (otherwise (holds t i e) _ (all-at exits _ (each-used-at t _ (at 10) i (used-place (w .shape) i u) u) e l) g);
+        free = w .free;
+        counts = λ i b u l. eqb-true _ _ (all-at counters _ (each-used-at t _ (at 12) i (used-place (w .shape) i u) u) b l);
+        acyclic =
+            λ i n c.
+            let r = chain-head (c .row) in
+            let ring = each-used-at t _ (at 13) i (used-place (w .shape) i (c .begins)) (c .begins) in
+            let no = implied (stronglyLinked t i (r .0)) _ (all-at (t .capacity) _ ring (r .0) (edge i (r .0) (r .1))) (r .1) in
+            clash (reach-complete (stronglyLinked t) (t .capacity) edge (edge i (r .0) (r .1)) (r .2)) (not-true-false _ no);
+        reached =
+            λ i u.
+            let r = reach-sound (stronglyLinked t) (t .capacity) 0 i (each-used-at t _ (at 14) i (used-place (w .shape) i u) u) in
+            (r .0, record { begins = at 5; row = r .1 });
+      }
+
+  pub sound-test : Sound t → sound t ≡ true
+  unfolding sound soundTests ringless
+  sound-test s =
+      let w = sound-wired s in
+      let edge : (i j : ℕ) → stronglyLinked t i j ≡ true → j < t .capacity = λ i j h. linked-below w i j (strongly-linked t i j h) in
+      and-intro (shape-tests t (s .shape))
+      (and-intro (le-leb _ _ (s .least))
+      (and-intro (le-leb _ _ (s .most))
+      (and-intro (lt-ltb _ _ (s .last))
+      (and-intro (each-used-intro t _ (λ i u. lt-ltb _ _ (used-below w i u)))
+      (and-intro (s .alarm)
+      (and-intro (each-used-intro t _ (s .kinds))
+      (and-intro (each-used-intro t _ (λ i u. lt-ltb _ _ (s .own i u)))
+      (and-intro (each-used-intro t _ (λ i u. all-intro exits _ (λ e l. lt-ltb _ _ (s .bits i e u l))))
+      (and-intro (each-used-intro t _ (λ i u. all-intro exits _ (λ e l. imply (holds t i e) _ (s .targets i e u l))))
+      (and-intro (each-used-intro t _ (λ i u. all-intro exits _ (λ e l. either (holds t i e) _ (λ f. eq-eqb _ _ (s .empty i e u l f)))))
+      (and-intro (all-intro places _ (λ i l. either (inUse t i) _ (λ f. blank-tests t i (s .free i l f))))
+      (and-intro (each-used-intro t _ (λ i u. all-intro counters _ (λ b l. eq-eqb _ _ (s .counts i b u l))))
+      (and-intro
+      (each-used-intro t _
+      (λ i u.
+      all-intro (t .capacity) _
+      (λ j l.
+      imply (stronglyLinked t i j) _
+      (λ h.
+      ap not
+      (refute (reaches (stronglyLinked t) (t .capacity) j i)
+      (λ r.
+      let c = reach-sound (stronglyLinked t) (t .capacity) j i r in
+      s .acyclic i (c .0) (record { begins = u; row = chain-first h (c .1) })))))))
+      (and-intro
+      (each-used-intro t _ (λ i u. let c = s .reached i u in reach-complete (stronglyLinked t) (t .capacity) edge (s .least) (c .1 .row)))
+      refl))))))))))))))

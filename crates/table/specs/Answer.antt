@@ -1,0 +1,75 @@
+-- Refusals and answers by the paper's numbers (document 01, "Reasons for no"). Assumes nothing.
+--   first tests     the number of the first condition that holds, in the order listed; 0 where none does
+--   refusalOf firstOf secondOf   the paper's numbers for each case of an answer: the refusal or 0, then two numbers, zero where refused
+--   unless n t o    the outcome o where n is 0, else refusal n with the table t as it was given
+use mathlib.Core.Bool.{Bool, true, false, cond}
+use mathlib.Core.List.{List, [], _∷_}
+use Prim.Native.Nat.{ℕ}
+use lib.Dec.{eqb}
+use Rattle.table.specs.declared.Table.{Table}
+use Rattle.table.specs.declared.Answer.{Answer}
+use Rattle.table.specs.declared.Answer.the-variants.{Refused, Given}
+use Rattle.table.specs.declared.Outcome.{Outcome}
+use Rattle.table.specs.declared.Ending.{Ending}
+use Rattle.table.specs.declared.Ending.the-variants.{Open, Spent}
+
+-- the numbers of the table "Reasons for no"
+abbrev pub notSound : ℕ
+notSound = 1
+
+abbrev pub badCapacity : ℕ
+badCapacity = 2
+
+abbrev pub notInUse : ℕ
+notInUse = 3
+
+abbrev pub badExit : ℕ
+badExit = 4
+
+abbrev pub exitFilled : ℕ
+exitFilled = 5
+
+abbrev pub exitEmpty : ℕ
+exitEmpty = 6
+
+abbrev pub badKind : ℕ
+badKind = 7
+
+abbrev pub full : ℕ
+full = 8
+
+abbrev pub notKeyLine : ℕ
+notKeyLine = 9
+
+abbrev pub badResult : ℕ
+badResult = 10
+
+abbrev pub tooShort : ℕ
+tooShort = 11
+
+abbrev pub notAccepted : ℕ
+notAccepted = 12
+
+unfoldable pub first : List (Bool × ℕ) → ℕ
+first [] = 0
+first (x ∷ xs) = cond (x .0) (x .1) (first xs)
+
+unfoldable pub refusalOf : Answer → ℕ
+refusalOf (Refused n) = n
+refusalOf (Given a b) = 0
+
+unfoldable pub firstOf : Answer → ℕ
+firstOf (Refused n) = 0
+firstOf (Given a b) = a
+
+unfoldable pub secondOf : Answer → ℕ
+secondOf (Refused n) = 0
+secondOf (Given a b) = b
+
+unfoldable pub unless : ℕ → Table → Outcome → Outcome
+unless n t o = cond (eqb n 0) o (record { answer = Refused n; table = t })
+
+-- how a trial ended, by number: open 0, spent 1
+unfoldable pub endingNumber : Ending → ℕ
+endingNumber Open = 0
+endingNumber Spent = 1

@@ -1,0 +1,178 @@
+-- The calls fresh, add, link, read and trial (document 01, "Calls"); clear is in Clear. Each is the answer, the table handed back and every
+-- lent byte, for every input; the refused ones too. Assumes nothing.
+--   freshTable c    only step 0 in use, all bits 0, last number 0
+--   relink t i e j b   exit e of step i gets a link to j with bit b, or is emptied where j is 0; the counters follow
+--   numberGiven     the number that add gives
+--   addCall linkCall readCall trialCall   the calls
+use mathlib.Core.Bool.{Bool, true, false, _&&_, _||_, not, cond}
+use mathlib.Core.List.{List, [], _∷_}
+use Prim.Native.Nat.{ℕ, zero, suc, _+_, _*_, _-_}
+use lib.ListN.{length, getD, set, replicate}
+use lib.Dec.{eqb, leb, ltb}
+use Rattle.finite.specs.Below.{any, find, tabulate}
+use Rattle.table.specs.declared.Table.{Table}
+use Rattle.table.specs.declared.Answer.{Answer}
+use Rattle.table.specs.declared.Answer.the-variants.{Given}
+use Rattle.table.specs.declared.Outcome.{Outcome}
+use Rattle.table.specs.declared.Fields.{Fields}
+use Rattle.table.specs.declared.Reading.{Reading}
+use Rattle.table.specs.declared.Ending.{Ending}
+use Rattle.table.specs.declared.Ending.the-variants.{Open, Spent}
+use Rattle.table.specs.declared.Tried.{Tried}
+use Rattle.table.specs.declared.Tried.the-variants.{Refused, Ended}
+use Rattle.table.specs.Table.{places, exits, counters, exitPlace, counterPlace, inUse, kindOf, contentOf, ownBit, targetOf, linkBit, counterOf, holds, stepsInUse, withLinks, withSteps}
+use Rattle.table.specs.Sound.{contentFits, sound}
+use Rattle.table.specs.Answer.{notSound, badCapacity, notInUse, badExit, exitFilled, exitEmpty, badKind, full, badResult, tooShort, first, unless}
+
+-- Fresh: "a capacity; only step 0 in use, all bits 0, last number 0". Step 0 is of kind 0 with content 0.
+unfoldable pub freshTable : ℕ → Table
+freshTable c =
+    record {
+      capacity = c;
+      last = 0;
+      used = set (replicate places 0) 0 1;
+      kinds = replicate places 0;
+      contents = replicate places 0;
+      own = replicate places 0;
+      targets = replicate (places * exits) 0;
+      bits = replicate (places * exits) 0;
+      counts = replicate (places * counters) 0;
+    }
+
+unfoldable pub capacityFits : ℕ → Bool
+capacityFits c = leb 1 c && leb c places
+
+-- "Refused fresh and load hand back a fresh table of capacity 1."
+unfoldable pub freshCall : ℕ → Outcome
+freshCall c =
+    unless (first ((not (capacityFits c), badCapacity) ∷ [])) (freshTable 1)
+    (record { answer = Given 0 0; table = freshTable c })
+
+-- the counters with counter b of step j one lower, or one higher; step 0 stands for no step
+unfoldable pub lowered : ℕ → ℕ → List ℕ → List ℕ
+lowered j b counts = cond (eqb j 0) counts (set counts (counterPlace j b) (getD counts (counterPlace j b) 0 - 1))
+
+unfoldable pub raised : ℕ → ℕ → List ℕ → List ℕ
+raised j b counts = cond (eqb j 0) counts (set counts (counterPlace j b) (getD counts (counterPlace j b) 0 + 1))
+
+-- the link that exit e of step i held leaves the counters of its target, and the link to j with bit b takes its place and is counted
+unfoldable pub relink : Table → ℕ → ℕ → ℕ → ℕ → Table
+relink t i e j b =
+    withLinks t (set (t .targets) (exitPlace i e) j) (set (t .bits) (exitPlace i e) b)
+    (raised j b (lowered (targetOf t i e) (linkBit t i e) (t .counts)))
+
+-- "going upward from the number after the last given, past the top to 1, to the first free one"
+unfoldable pub after : ℕ → ℕ → ℕ
+after capacity k = cond (ltb (k + 1) capacity) (k + 1) 1
+
+unfoldable pub numberGiven : ℕ → ℕ → (ℕ → Bool) → ℕ
+numberGiven capacity last free = find capacity (after capacity) (after capacity last) free
+
+unfoldable pub addRefusal : Table → ℕ → ℕ → ℕ → ℕ → ℕ
+addRefusal t holder e kind content =
+    first
+    ((not (sound t), notSound) ∷
+    (not (inUse t holder), notInUse) ∷
+    (leb exits e, badExit) ∷
+    (holds t holder e, exitFilled) ∷
+    (not (contentFits kind content), badKind) ∷
+    (eqb (stepsInUse t) (t .capacity), full) ∷
+    [])
+
+-- step n is taken into use, with its kind and content, as the number last given; a free step's bit is 0 and its exits are empty
+unfoldable pub withStep : Table → ℕ → ℕ → ℕ → Table
+withStep t n kind content = withSteps t n (set (t .used) n 1) (set (t .kinds) n kind) (set (t .contents) n content) (t .own)
+
+-- "The holder's exit gets a link to it with bit 0. The answer is the number."
+unfoldable pub addTable : Table → ℕ → ℕ → ℕ → ℕ → ℕ → Table
+addTable t holder e kind content n = relink (withStep t n kind content) holder e n 0
+
+unfoldable pub addCall : Table → ℕ → ℕ → ℕ → ℕ → Outcome
+addCall t holder e kind content =
+    let n = numberGiven (t .capacity) (t .last) (λ k. not (inUse t k)) in
+    unless (addRefusal t holder e kind content) t
+    (record { answer = Given n 0; table = addTable t holder e kind content n })
+
+unfoldable pub linkRefusal : Table → ℕ → ℕ → ℕ → ℕ → ℕ
+linkRefusal t source e second f =
+    first
+    ((not (sound t), notSound) ∷
+    (not (inUse t source), notInUse) ∷
+    (leb exits e, badExit) ∷
+    (not (holds t source e), exitEmpty) ∷
+    (not (inUse t second), notInUse) ∷
+    (leb exits f, badExit) ∷
+    (holds t second f, exitFilled) ∷
+    [])
+
+-- the bit that a weak link to j has: not its target's
+unfoldable pub weakBit : Table → ℕ → ℕ
+weakBit t j = 1 - ownBit t j
+
+-- "copies the source's target into the second exit, always weak"
+unfoldable pub linkTable : Table → ℕ → ℕ → ℕ → ℕ → Table
+linkTable t source e second f = relink t second f (targetOf t source e) (weakBit t (targetOf t source e))
+
+unfoldable pub linkCall : Table → ℕ → ℕ → ℕ → ℕ → Outcome
+linkCall t source e second f =
+    unless (linkRefusal t source e second f) t
+    (record { answer = Given 0 0; table = linkTable t source e second f })
+
+-- "all its fields"
+unfoldable pub fieldsOf : Table → ℕ → Fields
+fieldsOf t i =
+    record {
+      kind = kindOf t i;
+      content = contentOf t i;
+      own = ownBit t i;
+      targets = tabulate exits (targetOf t i);
+      bits = tabulate exits (linkBit t i);
+      counts = tabulate counters (counterOf t i);
+    }
+
+unfoldable pub noFields : Fields
+noFields =
+    record {
+      kind = 0;
+      content = 0;
+      own = 0;
+      targets = replicate exits 0;
+      bits = replicate exits 0;
+      counts = replicate counters 0;
+    }
+
+unfoldable pub readRefusal : Table → ℕ → ℕ
+readRefusal t i = first ((not (sound t), notSound) ∷ (not (inUse t i), notInUse) ∷ [])
+
+unfoldable pub readCall : Table → ℕ → Reading
+readCall t i =
+    let n = readRefusal t i in
+    record { refusal = n; fields = cond (eqb n 0) (fieldsOf t i) noFields }
+
+-- the answer of a trial, and the lent trace as it is left
+pub record TrialOutcome : Type 0 where
+  pub answer : Tried
+  pub trace : List ℕ
+
+-- from step i, after so many moves: "Each result byte takes that exit and writes the number of the step entered as a byte of the lent trace.
+-- It ends 'open' at an empty exit, or 'spent' when no results are left"
+unfoldable pub tryFrom : Table → ℕ → ℕ → List ℕ → List ℕ → TrialOutcome
+tryFrom t i moves trace [] = record { answer = Ended Spent i moves; trace = trace }
+tryFrom t i moves trace (r ∷ rs) =
+    elim (holds t i r) [
+      | false ↦ record { answer = Ended Open i moves; trace = trace }
+      | true ↦ tryFrom t (targetOf t i r) (moves + 1) (set trace moves (targetOf t i r)) rs
+    ]
+
+unfoldable pub trialRefusal : Table → List ℕ → List ℕ → ℕ
+trialRefusal t results trace =
+    first
+    ((not (sound t), notSound) ∷
+    (any (length results) (λ k. leb exits (getD results k 0)), badResult) ∷
+    (ltb (length trace) (length results), tooShort) ∷
+    [])
+
+unfoldable pub trialCall : Table → List ℕ → List ℕ → TrialOutcome
+trialCall t results trace =
+    let n = trialRefusal t results trace in
+    cond (eqb n 0) (tryFrom t 0 0 trace results) (record { answer = Refused n; trace = trace })

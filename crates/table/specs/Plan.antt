@@ -1,0 +1,154 @@
+-- The plain plan (the abstract state): a table without bits and counters, and the same calls drawn on it from their arguments alone
+-- (document 01, "The plain plan of a table"). What it shares with the table is what 01 shares: the ranges of kinds and contents, the bound of
+-- capacities and exits, and add's rule for the number given. Assumes nothing.
+--   planOf t        the plain plan of a table
+--   planInUse planTarget planHolds planLinked planCount   read on a plan what a table's steps and exits say
+--   freshPlan drawAdd drawLink drawClear   the plan after an accepted call
+--   addNo linkNo clearNo readNo trialNo    the refusal of a call, read on the plan; "1 never holds there"
+use mathlib.Core.Bool.{Bool, true, false, _&&_, not, cond}
+use mathlib.Core.List.{List, [], _∷_}
+use mathlib.Core.Option.{Option, none, some}
+use Prim.Native.Nat.{ℕ, zero, suc, _+_, _-_}
+use lib.ListN.{length, getD, set, replicate}
+use lib.Dec.{eqb, leb, ltb}
+use Rattle.finite.specs.Below.{any, count, tabulate}
+use Rattle.finite.specs.Reach.{marked, reach}
+use Rattle.table.specs.declared.Table.{Table}
+use Rattle.table.specs.Table.{exits, inUse, kindOf, contentOf, targetOf}
+use Rattle.table.specs.Sound.{contentFits}
+use Rattle.table.specs.Answer.{notInUse, badExit, exitFilled, exitEmpty, badKind, full, badResult, tooShort, first}
+use Rattle.table.specs.Calls.{numberGiven}
+
+-- what a plan keeps of a step in use: "the number, kind, content and four targets"; the number is its place in the list of steps
+pub record PlanStep : Type 0 where
+  pub kind : ℕ
+  pub content : ℕ
+  pub targets : List ℕ
+
+-- "its capacity, its last number given and, for each step in use, .."; a number that is not in use has none
+pub record Plan : Type 0 where
+  pub capacity : ℕ
+  pub last : ℕ
+  pub steps : List (Option PlanStep)
+
+-- the plan's entry for step i of a table
+unfoldable pub planStep : Table → ℕ → Option PlanStep
+planStep t i =
+    cond (inUse t i) (some (record { kind = kindOf t i; content = contentOf t i; targets = tabulate exits (targetOf t i) })) none
+
+unfoldable pub planOf : Table → Plan
+planOf t = record { capacity = t .capacity; last = t .last; steps = tabulate (t .capacity) (planStep t) }
+
+abbrev pub stepOf : Plan → ℕ → Option PlanStep
+stepOf p i = getD (p .steps) i none
+
+abbrev pub isStep : Option PlanStep → Bool
+isStep none = false
+isStep (some s) = true
+
+abbrev pub targetIn : Option PlanStep → ℕ → ℕ
+targetIn none e = 0
+targetIn (some s) e = getD (s .targets) e 0
+
+unfoldable pub planInUse : Plan → ℕ → Bool
+planInUse p i = isStep (stepOf p i)
+
+unfoldable pub planTarget : Plan → ℕ → ℕ → ℕ
+planTarget p i e = targetIn (stepOf p i) e
+
+unfoldable pub planHolds : Plan → ℕ → ℕ → Bool
+planHolds p i e = not (eqb (planTarget p i e) 0)
+
+unfoldable pub planLinked : Plan → ℕ → ℕ → Bool
+planLinked p i j = any exits (λ e. planHolds p i e && eqb (planTarget p i e) j)
+
+unfoldable pub planCount : Plan → ℕ
+planCount p = count (p .capacity) (planInUse p)
+
+-- "It starts as a fresh table's, from the capacity": step 0, the alarm
+unfoldable pub freshPlan : ℕ → Plan
+freshPlan c =
+    record {
+      capacity = c;
+      last = 0;
+      steps = tabulate c (λ i. cond (eqb i 0) (some (record { kind = 0; content = 0; targets = replicate exits 0 })) none);
+    }
+
+-- a step with another target at exit e
+abbrev pub retargeted : ℕ → ℕ → Option PlanStep → Option PlanStep
+retargeted e j none = none
+retargeted e j (some s) = some (record { kind = s .kind; content = s .content; targets = set (s .targets) e j })
+
+unfoldable pub withTarget : Plan → ℕ → ℕ → ℕ → Plan
+withTarget p i e j = record { capacity = p .capacity; last = p .last; steps = set (p .steps) i (retargeted e j (stepOf p i)) }
+
+unfoldable pub planNumber : Plan → ℕ
+planNumber p = numberGiven (p .capacity) (p .last) (λ k. not (planInUse p k))
+
+-- "Adding puts in the new step, numbered by add's rule, and the holder's target, and makes the new number the last given."
+unfoldable pub drawAdd : Plan → ℕ → ℕ → ℕ → ℕ → Plan
+drawAdd p holder e kind content =
+    let n = planNumber p in
+    withTarget
+    (record {
+      capacity = p .capacity;
+      last = n;
+      steps = set (p .steps) n (some (record { kind = kind; content = content; targets = replicate exits 0 }));
+    })
+    holder
+    e
+    n
+
+-- "Linking fills one target with a copy of another."
+unfoldable pub drawLink : Plan → ℕ → ℕ → ℕ → ℕ → Plan
+drawLink p source e second f = withTarget p second f (planTarget p source e)
+
+-- "then takes out every step that no chain of targets reaches from step 0; .. and all else in the plan stays"
+unfoldable pub pruned : Plan → Plan
+pruned p =
+    let m = reach (planLinked p) (p .capacity) 0 in
+    record { capacity = p .capacity; last = p .last; steps = tabulate (p .capacity) (λ i. cond (marked m i) (stepOf p i) none) }
+
+-- "Clearing empties one target and then .."
+unfoldable pub drawClear : Plan → ℕ → ℕ → Plan
+drawClear p i e = pruned (withTarget p i e 0)
+
+unfoldable pub addNo : Plan → ℕ → ℕ → ℕ → ℕ → ℕ
+addNo p holder e kind content =
+    first
+    ((not (planInUse p holder), notInUse) ∷
+    (leb exits e, badExit) ∷
+    (planHolds p holder e, exitFilled) ∷
+    (not (contentFits kind content), badKind) ∷
+    (eqb (planCount p) (p .capacity), full) ∷
+    [])
+
+unfoldable pub linkNo : Plan → ℕ → ℕ → ℕ → ℕ → ℕ
+linkNo p source e second f =
+    first
+    ((not (planInUse p source), notInUse) ∷
+    (leb exits e, badExit) ∷
+    (not (planHolds p source e), exitEmpty) ∷
+    (not (planInUse p second), notInUse) ∷
+    (leb exits f, badExit) ∷
+    (planHolds p second f, exitFilled) ∷
+    [])
+
+unfoldable pub clearNo : Plan → ℕ → ℕ → ℕ
+clearNo p i e =
+    first
+    ((not (planInUse p i), notInUse) ∷
+    (leb exits e, badExit) ∷
+    (not (planHolds p i e), exitEmpty) ∷
+    [])
+
+unfoldable pub readNo : Plan → ℕ → ℕ
+readNo p i = first ((not (planInUse p i), notInUse) ∷ [])
+
+-- the results stand in the call by value; of the trace only the length counts
+unfoldable pub trialNo : Plan → List ℕ → ℕ → ℕ
+trialNo p results room =
+    first
+    ((any (length results) (λ k. leb exits (getD results k 0)), badResult) ∷
+    (ltb room (length results), tooShort) ∷
+    [])

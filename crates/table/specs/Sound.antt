@@ -1,0 +1,126 @@
+-- Sound (well formed: the invariant of every table that the calls hand out), document 01, "A table is sound when".
+--   Sound t     the statement, a field for each clause of 01's list, in its order
+--   sound t     the test, which computes; `sound-test` and `test-sound` of the proofs join the two
+-- Assumes nothing.
+use mathlib.Core.Path.{_≡_}
+use mathlib.Core.Bool.{Bool, true, false, _&&_, _||_, not, cond}
+use mathlib.Core.List.{List, [], _∷_}
+use Prim.Native.Nat.{ℕ, zero, suc, _+_, _*_, _≤_, _<_}
+use lib.ListN.{length, getD}
+use lib.Dec.{eqb, leb, ltb}
+use Rattle.finite.specs.Below.{all}
+use Rattle.finite.specs.Reach.{Chain, reaches}
+use Rattle.table.specs.declared.Table.{Table}
+use Rattle.table.specs.Table.{places, exits, counters, inUse, kindOf, contentOf, ownBit, targetOf, linkBit, counterOf, holds, stronglyLinked, linksTo, StrongChain}
+
+-- "Kinds": the contents of a kind that can be added: 1 contact, a phone book entry; 2 spoken message; 3 wait, in seconds; no other
+unfoldable pub contentFits : ℕ → ℕ → Bool
+contentFits kind content =
+    cond (eqb kind 1) (leb content 99)
+    (cond (eqb kind 2) (leb content 15)
+    (cond (eqb kind 3) (leb 1 content && leb content 600)
+    false))
+
+-- 0 alarm (step 0 only, content 0)
+unfoldable pub kindFits : ℕ → ℕ → ℕ → Bool
+kindFits i kind content = cond (eqb i 0) (eqb kind 0 && eqb content 0) (contentFits kind content)
+
+-- the arrays have a place for each step, exit and counter
+pub record Shape (t : Table) : Type 0 where
+  pub used : length (t .used) ≡ places
+  pub kinds : length (t .kinds) ≡ places
+  pub contents : length (t .contents) ≡ places
+  pub own : length (t .own) ≡ places
+  pub targets : length (t .targets) ≡ places * exits
+  pub bits : length (t .bits) ≡ places * exits
+  pub counts : length (t .counts) ≡ places * counters
+
+-- a free step: all fields zero or empty
+pub record Blank (t : Table) (i : ℕ) : Type 0 where
+  pub used : getD (t .used) i 0 ≡ 0
+  pub kind : kindOf t i ≡ 0
+  pub content : contentOf t i ≡ 0
+  pub own : ownBit t i ≡ 0
+  pub targets : (e : ℕ) → e < exits → targetOf t i e ≡ 0
+  pub bits : (e : ℕ) → e < exits → linkBit t i e ≡ 0
+  pub counts : (b : ℕ) → b < counters → counterOf t i b ≡ 0
+
+pub record Sound (t : Table) : Type 0 where
+  pub shape : Shape t
+  -- "the capacity is in range, the last number given is below it, and no step at or above it is in use"
+  pub least : 1 ≤ t .capacity
+  pub most : t .capacity ≤ places
+  pub last : t .last < t .capacity
+  pub above : (i : ℕ) → t .capacity ≤ i → i < places → inUse t i ≡ false
+  -- "step 0 is in use, and kinds and contents are in range"; a bit is 0 or 1
+  pub alarm : inUse t 0 ≡ true
+  pub kinds : (i : ℕ) → inUse t i ≡ true → kindFits i (kindOf t i) (contentOf t i) ≡ true
+  pub own : (i : ℕ) → inUse t i ≡ true → ownBit t i < 2
+  pub bits : (i e : ℕ) → inUse t i ≡ true → e < exits → linkBit t i e < 2
+  -- "every link leads to a step in use other than 0, an exit left empty carries a zero bit, and a step not in use has all fields zero or empty"
+  pub targets : (i e : ℕ) → inUse t i ≡ true → e < exits → holds t i e ≡ true → inUse t (targetOf t i e) ≡ true
+  pub empty : (i e : ℕ) → inUse t i ≡ true → e < exits → holds t i e ≡ false → linkBit t i e ≡ 0
+  pub free : (i : ℕ) → i < places → inUse t i ≡ false → Blank t i
+  -- "both counters of every step in use are exact"
+  pub counts : (i b : ℕ) → inUse t i ≡ true → b < counters → counterOf t i b ≡ linksTo t i b
+  -- "strong links form no ring, and each step in use but 0 is reached from 0 by strong links alone"
+  pub acyclic : (i n : ℕ) → StrongChain t i i (suc n) → ⊥
+  pub reached : (i : ℕ) → inUse t i ≡ true → (n : ℕ) × StrongChain t 0 i n
+
+-- all tests of a list are passed
+abbrev pub passes : List Bool → Bool
+passes [] = true
+passes (x ∷ xs) = x && passes xs
+
+-- the test p is passed by each step in use
+unfoldable pub eachUsed : Table → (ℕ → Bool) → Bool
+eachUsed t p = all places (λ i. not (inUse t i) || p i)
+
+unfoldable pub shapeTests : Table → List Bool
+shapeTests t =
+    eqb (length (t .used)) places ∷
+    eqb (length (t .kinds)) places ∷
+    eqb (length (t .contents)) places ∷
+    eqb (length (t .own)) places ∷
+    eqb (length (t .targets)) (places * exits) ∷
+    eqb (length (t .bits)) (places * exits) ∷
+    eqb (length (t .counts)) (places * counters) ∷
+    []
+
+unfoldable pub blankTests : Table → ℕ → List Bool
+blankTests t i =
+    eqb (getD (t .used) i 0) 0 ∷
+    eqb (kindOf t i) 0 ∷
+    eqb (contentOf t i) 0 ∷
+    eqb (ownBit t i) 0 ∷
+    all exits (λ e. eqb (targetOf t i e) 0) ∷
+    all exits (λ e. eqb (linkBit t i e) 0) ∷
+    all counters (λ b. eqb (counterOf t i b) 0) ∷
+    []
+
+-- no step that i has a strong link to leads back to i
+unfoldable pub ringless : Table → ℕ → Bool
+ringless t i = all (t .capacity) (λ j. not (stronglyLinked t i j) || not (reaches (stronglyLinked t) (t .capacity) j i))
+
+-- the clauses of `Sound`, in its order
+unfoldable pub soundTests : Table → List Bool
+soundTests t =
+    passes (shapeTests t) ∷
+    leb 1 (t .capacity) ∷
+    leb (t .capacity) places ∷
+    ltb (t .last) (t .capacity) ∷
+    eachUsed t (λ i. ltb i (t .capacity)) ∷
+    inUse t 0 ∷
+    eachUsed t (λ i. kindFits i (kindOf t i) (contentOf t i)) ∷
+    eachUsed t (λ i. ltb (ownBit t i) 2) ∷
+    eachUsed t (λ i. all exits (λ e. ltb (linkBit t i e) 2)) ∷
+    eachUsed t (λ i. all exits (λ e. not (holds t i e) || inUse t (targetOf t i e))) ∷
+    eachUsed t (λ i. all exits (λ e. holds t i e || eqb (linkBit t i e) 0)) ∷
+    all places (λ i. inUse t i || passes (blankTests t i)) ∷
+    eachUsed t (λ i. all counters (λ b. eqb (counterOf t i b) (linksTo t i b))) ∷
+    eachUsed t (ringless t) ∷
+    eachUsed t (λ i. reaches (stronglyLinked t) (t .capacity) 0 i) ∷
+    []
+
+unfoldable pub sound : Table → Bool
+sound t = passes (soundTests t)

@@ -1,0 +1,120 @@
+-- The table: its steps, exits, links and counters (document 01, "The table"). Assumes nothing.
+--   inUse t i           step i is in use
+--   kindOf contentOf ownBit   its kind, its content, the bit of its own
+--   targetOf t i e, linkBit t i e   what exit e of step i holds: the target, 0 where it is empty, and the link's bit
+--   counterOf t i b     counter b of step i
+--   holds t i e         exit e of step i holds a link (an edge); else it is empty
+--   strong t i e        that link is strong: its bit equals its target's bit; a link that is not strong is weak
+--   linked t i j, stronglyLinked t i j   some exit of i holds a link, or a strong link, to j
+--   linksTo t j b       the number of links with bit b to j
+--   stepsInUse t        the number of steps in use
+use mathlib.Core.Path.{_≡_}
+use mathlib.Core.Bool.{Bool, true, false, _&&_, not}
+use mathlib.Core.List.{List, [], _∷_}
+use Prim.Native.Nat.{ℕ, zero, suc, _+_, _*_}
+use lib.ListN.{getD, set, replicate}
+use lib.Dec.{eqb}
+use Rattle.finite.specs.Below.{any, count}
+use Rattle.finite.specs.Reach.{Chain}
+use Rattle.table.specs.declared.Table.{Table}
+
+-- a table has places for 128 steps; a step has four exits and two counters
+abbrev pub places : ℕ
+places = 128
+
+abbrev pub exits : ℕ
+exits = 4
+
+abbrev pub counters : ℕ
+counters = 2
+
+-- where exit e, and counter b, of step i stand
+unfoldable pub exitPlace : ℕ → ℕ → ℕ
+exitPlace i e = i * exits + e
+
+unfoldable pub counterPlace : ℕ → ℕ → ℕ
+counterPlace i b = i * counters + b
+
+unfoldable pub inUse : Table → ℕ → Bool
+inUse t i = eqb (getD (t .used) i 0) 1
+
+unfoldable pub kindOf : Table → ℕ → ℕ
+kindOf t i = getD (t .kinds) i 0
+
+unfoldable pub contentOf : Table → ℕ → ℕ
+contentOf t i = getD (t .contents) i 0
+
+unfoldable pub ownBit : Table → ℕ → ℕ
+ownBit t i = getD (t .own) i 0
+
+unfoldable pub targetOf : Table → ℕ → ℕ → ℕ
+targetOf t i e = getD (t .targets) (exitPlace i e) 0
+
+unfoldable pub linkBit : Table → ℕ → ℕ → ℕ
+linkBit t i e = getD (t .bits) (exitPlace i e) 0
+
+unfoldable pub counterOf : Table → ℕ → ℕ → ℕ
+counterOf t i b = getD (t .counts) (counterPlace i b) 0
+
+-- "An exit is empty or holds a link: a target and a bit." No link leads to step 0, so the target 0 says that it is empty.
+unfoldable pub holds : Table → ℕ → ℕ → Bool
+holds t i e = not (eqb (targetOf t i e) 0)
+
+-- "a link is strong if its bit equals its target's bit, else weak"
+unfoldable pub strong : Table → ℕ → ℕ → Bool
+strong t i e = holds t i e && eqb (linkBit t i e) (ownBit t (targetOf t i e))
+
+-- exit e of step i holds a link to j
+unfoldable pub leads : Table → ℕ → ℕ → ℕ → Bool
+leads t i e j = holds t i e && eqb (targetOf t i e) j
+
+unfoldable pub linked : Table → ℕ → ℕ → Bool
+linked t i j = any exits (λ e. leads t i e j)
+
+unfoldable pub stronglyLinked : Table → ℕ → ℕ → Bool
+stronglyLinked t i j = any exits (λ e. leads t i e j && strong t i e)
+
+-- the exit that stands at place p of the arrays holds a link with bit b to j
+unfoldable pub countsAt : Table → ℕ → ℕ → ℕ → Bool
+countsAt t j b p = not (eqb j 0) && eqb (getD (t .targets) p 0) j && eqb (getD (t .bits) p 0) b
+
+-- "Counter 0 of a step counts the links with bit 0 to it, counter 1 those with bit 1": over the exits of all steps below the capacity
+unfoldable pub linksTo : Table → ℕ → ℕ → ℕ
+linksTo t j b = count (t .capacity * exits) (countsAt t j b)
+
+unfoldable pub stepsInUse : Table → ℕ
+stepsInUse t = count (t .capacity) (inUse t)
+
+-- "A chain begins at a step in use and is a row of links .. It is strong if all its links are." n is the number of its links.
+pub record StrongChain (t : Table) (a b n : ℕ) : Type 0 where
+  pub begins : inUse t a ≡ true
+  pub row : Chain (stronglyLinked t) a b n
+
+-- Two ways to write a table: with other links and counters, and with another last number and other steps. The rest is as it was.
+unfoldable pub withLinks : Table → List ℕ → List ℕ → List ℕ → Table
+withLinks t targets bits counts =
+    record {
+      capacity = t .capacity;
+      last = t .last;
+      used = t .used;
+      kinds = t .kinds;
+      contents = t .contents;
+      own = t .own;
+      targets = targets;
+      bits = bits;
+      counts = counts;
+    }
+
+unfoldable pub withSteps : Table → ℕ → List ℕ → List ℕ → List ℕ → List ℕ → Table
+withSteps t last used kinds contents own =
+    record {
+      capacity = t .capacity;
+      last = last;
+      used = used;
+      kinds = kinds;
+      contents = contents;
+      own = own;
+      targets = t .targets;
+      bits = t .bits;
+      counts = t .counts;
+    }
