@@ -7,7 +7,8 @@ use Prim.Native.Nat.{ℕ, zero, suc, _+_, _-_, _≤_, _<_}
 use native.Mathlib.Nat.{eq-or-lt-of-le, le-of-suc-le-suc, not-suc-le-zero}
 use native.Mathlib.Numerals.{add-one}
 use native.Mathlib.Omega.{arith}
-use lib.ListN.{length, getD}
+use lib.ListN.{length, getD, set, length-set}
+use lib.Seq.{ext-getD, getD-set-same, getD-set-other}
 use lib.Dec.{leb, eqb}
 use borrow.Author.Tests.{leb-true, leb-false, eqb-true, eqb-false}
 use Rattle.finite.specs.Below.{all, any, one, count, find, lowest, rounds, tabulateFrom, tabulate}
@@ -164,6 +165,24 @@ count-split (suc n) p q =
     one-split true false = refl
     one-split false b = refl
 
+-- all pass, or one does not
+pub count-gap : (n : ℕ) (p : ℕ → Bool) → (count n p ≡ n) ⊎ ((k : ℕ) × (k < n) × (p k ≡ false))
+unfolding count
+count-gap zero p = inl refl
+count-gap (suc n) p =
+    ⊎-elim
+    (λ c. ⊎-elim (λ t. inl (let o : one (p n) ≡ 1 = one-true t in omega arith)) (λ t. inr (n, omega arith, t)) (test (p n)))
+    (λ r. inr (r .0, omega (arith, r .1), r .2))
+    (count-gap n p)
+
+-- what is counted can be named
+pub count-some : (n : ℕ) (p : ℕ → Bool) → 0 < count n p → (k : ℕ) × (k < n) × (p k ≡ true)
+count-some n p h = any-at n p (not-false (any n p) (λ f. let z = count-none n p (any-none n p f) in omega arith))
+  where
+    not-false : (b : Bool) → (b ≡ false → ⊥) → b ≡ true
+    not-false true g = refl
+    not-false false g = absurd (g refl)
+
 -- the search that finds: from k by `next`, within f looks
 pub find-hit : (f : ℕ) (next : ℕ → ℕ) (k : ℕ) (p : ℕ → Bool) → p k ≡ true → find (suc f) next k p ≡ k
 unfolding find
@@ -182,6 +201,33 @@ find-ext (suc f) next k p q h =
     (λ t. find-hit f next k p t ∙ sym (find-hit f next k q (sym (h k) ∙ t)))
     (λ t. find-miss f next k p t ∙ find-ext f next (next k) p q h ∙ sym (find-miss f next k q (sym (h k) ∙ t)))
     (test (p k))
+
+-- the number that m turns of `next` lead to
+unfoldable pub walk : (ℕ → ℕ) → ℕ → ℕ → ℕ
+walk next zero k = k
+walk next (suc m) k = walk next m (next k)
+
+-- a number that passes and is met within f looks: what is found passes
+pub find-reaches : (next : ℕ → ℕ) (p : ℕ → Bool) (m f k : ℕ) → m < f → p (walk next m k) ≡ true → p (find f next k p) ≡ true
+unfolding walk
+find-reaches next p m zero k l t = absurd (not-suc-le-zero l)
+find-reaches next p zero (suc f) k l t = rw (find-hit f next k p t) t
+find-reaches next p (suc m) (suc f) k l t =
+    ⊎-elim (λ a. rw (find-hit f next k p a) a)
+    (λ a. rw (find-miss f next k p a) (find-reaches next p m f (next k) (le-of-suc-le-suc l) t))
+    (test (p k))
+
+-- what `next` keeps, the search keeps
+pub find-keeps : (P : ℕ → Type 0) (next : ℕ → ℕ) (p : ℕ → Bool) → ((k : ℕ) → P k → P (next k)) → (f k : ℕ) → P k → P (find f next k p)
+unfolding find
+find-keeps P next p h zero k x = x
+find-keeps P next p h (suc f) k x =
+    ⊎-elim (λ a. rw (find-hit f next k p a) x) (λ a. rw (find-miss f next k p a) (find-keeps P next p h f (next k) (h k x))) (test (p k))
+
+pub walk-add : (next : ℕ → ℕ) (m n k : ℕ) → walk next (m + n) k ≡ walk next n (walk next m k)
+unfolding walk
+walk-add next zero n k = let z : 0 + n ≡ n = omega arith in rw z
+walk-add next (suc m) n k = let z : suc m + n ≡ suc (m + n) = omega arith in rw z (walk-add next m n (next k))
 
 -- upward: what is found below the end passes, and nothing before it does
 seek : (f k : ℕ) (p : ℕ → Bool) → ((i : ℕ) → k ≤ i → i < find f (λ j. j + 1) k p → p i ≡ false)
@@ -265,3 +311,17 @@ module _ {A : Type 0} where
   unfolding tabulate
   tabulate-ext n f g h =
       tabulate-from-ext n 0 f g (λ i l. let e : 0 + i ≡ i = omega arith in rw e (h i l))
+
+  -- a list of n entries with one of them replaced
+  pub tabulate-set : (n k : ℕ) (f g : ℕ → A) (x : A) → k < n → f k ≡ x → ((i : ℕ) → i < n → (i ≡ k → ⊥) → f i ≡ g i) →
+      tabulate n f ≡ set (tabulate n g) k x
+  tabulate-set n k f g x l here other =
+      ext-getD x (tabulate n f) (set (tabulate n g) k x)
+      (length-tabulate n f ∙ sym (length-set (tabulate n g) k x ∙ length-tabulate n g))
+      (λ i h.
+      let low : i < n = rw (length-tabulate n f) at h in
+      getD-tabulate n f x i low
+      ∙ ⊎-elim
+      (λ (q : i ≡ k). rw q (here ∙ sym (getD-set-same (tabulate n g) k x x (rw (length-tabulate n g) l))))
+      (λ d. other i low d ∙ sym (getD-set-other (tabulate n g) k i x x d ∙ getD-tabulate n g x i low))
+      (eq-or-ne i k))

@@ -2,6 +2,10 @@
 use mathlib.Core.Path.{_≡_, refl, sym, _∙_, ap}
 use mathlib.Core.Bool.{Bool, true, false, _&&_, _||_, not, cond, true≢false}
 use mathlib.Core.Logic.{_⊎_, inl, inr}
+use mathlib.Core.List.{List, [], _∷_}
+use Prim.Native.Nat.{ℕ, zero, suc}
+use lib.ListN.{getD}
+use Rattle.finite.specs.Below.{passes}
 
 pub and-intro : {a b : Bool} → a ≡ true → b ≡ true → (a && b) ≡ true
 and-intro {a} {b} p q = rw (p, q)
@@ -77,3 +81,9 @@ otherwise false b h t = h
 pub either : (a b : Bool) → (a ≡ false → b ≡ true) → (a || b) ≡ true
 either true b f = refl
 either false b f = f refl
+
+-- each test of a list that is passed
+pub passes-at : (xs : List Bool) → passes xs ≡ true → (k : ℕ) → getD xs k true ≡ true
+passes-at [] h k = refl
+passes-at (x ∷ xs) h zero = and-left x (passes xs) h
+passes-at (x ∷ xs) h (suc k) = passes-at xs (and-right x (passes xs) h) k

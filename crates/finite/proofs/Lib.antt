@@ -2,3 +2,4 @@
 pub mod Bools
 pub mod Below
 pub mod Reach
+pub mod Select

@@ -6,6 +6,8 @@
 --   lowest n p     the lowest number below n that passes p, or n where none does
 --   rounds n f a   a, changed by f 0, then by f 1, .. up to f (n - 1)
 --   tabulate n f   the list f 0, f 1, .. f (n - 1)
+--   passes tests   all tests of a list are passed
+--   one b          1 for a test that is passed, 0 for one that is not
 use mathlib.Core.Bool.{Bool, true, false, _&&_, _||_}
 use mathlib.Core.List.{List, [], _∷_}
 use Prim.Native.Nat.{ℕ, zero, suc, _+_}
@@ -18,7 +20,6 @@ unfoldable pub any : ℕ → (ℕ → Bool) → Bool
 any zero p = false
 any (suc n) p = any n p || p n
 
--- 1 for a test that is passed
 abbrev pub one : Bool → ℕ
 one true = 1
 one false = 0
@@ -33,6 +34,10 @@ find (suc f) next k p = elim (p k) [ true ↦ k | false ↦ find f next (next k)
 
 unfoldable pub lowest : ℕ → (ℕ → Bool) → ℕ
 lowest n p = find n (λ k. k + 1) 0 p
+
+abbrev pub passes : List Bool → Bool
+passes [] = true
+passes (x ∷ xs) = x && passes xs
 
 module _ {A : Type 0} where
   unfoldable pub rounds : ℕ → (ℕ → A → A) → A → A

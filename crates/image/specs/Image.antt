@@ -1,28 +1,32 @@
 -- The image of a table: its records, which images are accepted, what is written (document 01, "Image"). Assumes nothing.
 --   word n, wordAt bs at        two bytes, little-endian, written and read
 --   recordBytes kind fields     a record: its length in bytes, its kind, its fields, each a word
+--   imageSize n                 the length in bytes of an image with n step records
 --   image t                     the written image: the header, then a record for each step in use, in ascending step number
 --   writeCall t buffer          the call
 --   numberIn kindIn contentIn bitsIn targetIn   the fields of the k-th step record of an image
---   accepted bs                 the image is accepted
+--   recordOf bs i, recordField   the record of step i, and one of its fields
+--   framed bs, accepted bs      the bytes are such records; the image is accepted
 --   imageTable bs, imagePlan bs   the table and the plain plan that its records say
 --   loadCall bs                 the call
-use mathlib.Core.Bool.{Bool, true, false, _&&_, not, cond}
+--   SameRecords bs cs           two images differ at most in the order of their step records
+use mathlib.Core.Path.{_≡_}
+use mathlib.Core.Bool.{Bool, _&&_, not, cond}
 use mathlib.Core.List.{List, [], _∷_, _++_}
-use mathlib.Core.Option.{Option, none, some}
-use Prim.Native.Nat.{ℕ, zero, suc, _+_, _*_, _-_, _/_, _%_, _^_}
-use lib.ListN.{length, getD, set, drop, replicate}
+use mathlib.Core.Option.{none, some}
+use Prim.Native.Nat.{ℕ, zero, suc, _+_, _*_, _/_, _%_, _^_, _<_}
+use lib.ListN.{length, getD, drop}
 use lib.Dec.{eqb, leb, ltb}
-use Rattle.finite.specs.Below.{all, any, one, lowest, tabulate}
+use Rattle.finite.specs.Below.{all, one, lowest, tabulate, passes}
 use Rattle.table.specs.declared.Table.{Table}
 use Rattle.table.specs.declared.Answer.{Answer}
 use Rattle.table.specs.declared.Answer.the-variants.{Refused, Given}
 use Rattle.table.specs.declared.Outcome.{Outcome}
 use Rattle.table.specs.Table.{places, exits, counters, inUse, kindOf, contentOf, ownBit, targetOf, linkBit, linksTo, stepsInUse, withLinks}
-use Rattle.table.specs.Sound.{sound, passes}
+use Rattle.table.specs.Sound.{sound}
 use Rattle.table.specs.Answer.{notSound, tooShort, notAccepted, first, unless}
 use Rattle.table.specs.Calls.{freshTable}
-use Rattle.table.specs.Plan.{Plan, PlanStep}
+use Rattle.table.specs.Plan.{Plan}
 
 -- "two bytes each, little-endian; so are all fields"
 unfoldable pub word : ℕ → List ℕ
@@ -39,46 +43,49 @@ words (n ∷ ns) = word n ++ words ns
 unfoldable pub recordSize : ℕ → ℕ
 recordSize n = 2 * (n + 2)
 
--- "Each record begins with its length in bytes, then its kind"
+-- "Each record begins with its length in bytes (the whole record), then its kind"
 unfoldable pub recordBytes : ℕ → List ℕ → List ℕ
 recordBytes kind fields = words (recordSize (length fields) ∷ kind ∷ fields)
 
 -- "Kind 1, length 10, first: capacity, last number given, steps in use."
-abbrev pub headerKind : ℕ
-headerKind = 1
+abbrev pub headerRecordKind : ℕ
+headerRecordKind = 1
 
-abbrev pub headerFields : ℕ
-headerFields = 3
+abbrev pub headerFieldCount : ℕ
+headerFieldCount = 3
 
--- "Kind 2, length 20, one for each step in use: number, step kind, content, bits, four targets (0 is empty)."
-abbrev pub stepKind : ℕ
-stepKind = 2
+-- "Kind 2, length 20, one for each step in use: number, step kind, content, bits .., four targets (0 is empty)."
+abbrev pub stepRecordKind : ℕ
+stepRecordKind = 2
 
-abbrev pub stepFields : ℕ
-stepFields = 8
+abbrev pub stepFieldCount : ℕ
+stepFieldCount = 8
 
-unfoldable pub headerOf : Table → List ℕ
-headerOf t = t .capacity ∷ t .last ∷ stepsInUse t ∷ []
+unfoldable pub headerFieldsOf : Table → List ℕ
+headerFieldsOf t = t .capacity ∷ t .last ∷ stepsInUse t ∷ []
 
 -- "bits (a sum of 1, 2, 4, 8 for the four exits in order and 16 for the step, so at most 31)"
 unfoldable pub bitsOf : Table → ℕ → ℕ
 bitsOf t i = linkBit t i 0 + 2 * linkBit t i 1 + 4 * linkBit t i 2 + 8 * linkBit t i 3 + 16 * ownBit t i
 
-unfoldable pub stepRecord : Table → ℕ → List ℕ
-stepRecord t i =
+unfoldable pub stepFieldsOf : Table → ℕ → List ℕ
+stepFieldsOf t i =
     i ∷ kindOf t i ∷ contentOf t i ∷ bitsOf t i ∷ targetOf t i 0 ∷ targetOf t i 1 ∷ targetOf t i 2 ∷ targetOf t i 3 ∷ []
 
 -- the records of the steps in use below n
 unfoldable pub stepsBelow : Table → ℕ → List ℕ
 stepsBelow t zero = []
-stepsBelow t (suc n) = stepsBelow t n ++ cond (inUse t n) (recordBytes stepKind (stepRecord t n)) []
+stepsBelow t (suc n) = stepsBelow t n ++ cond (inUse t n) (recordBytes stepRecordKind (stepFieldsOf t n)) []
 
 -- "the writer's order is open": it is ascending here
 unfoldable pub image : Table → List ℕ
-image t = recordBytes headerKind (headerOf t) ++ stepsBelow t (t .capacity)
+image t = recordBytes headerRecordKind (headerFieldsOf t) ++ stepsBelow t (t .capacity)
+
+abbrev pub imageSize : ℕ → ℕ
+imageSize n = recordSize headerFieldCount + recordSize stepFieldCount * n
 
 unfoldable pub imageLength : Table → ℕ
-imageLength t = recordSize headerFields + recordSize stepFields * stepsInUse t
+imageLength t = imageSize (stepsInUse t)
 
 -- the answer of write image, and the lent buffer as it is left
 pub record WriteOutcome : Type 0 where
@@ -113,9 +120,9 @@ lastIn bs = fieldAt bs 0 1
 unfoldable pub countIn : List ℕ → ℕ
 countIn bs = fieldAt bs 0 2
 
--- the k-th step record, of any order
+-- where the k-th step record begins
 unfoldable pub stepPlace : ℕ → ℕ
-stepPlace k = recordSize headerFields + recordSize stepFields * k
+stepPlace k = imageSize k
 
 unfoldable pub numberIn : List ℕ → ℕ → ℕ
 numberIn bs k = fieldAt bs (stepPlace k) 0
@@ -144,8 +151,8 @@ unfoldable pub hasRecord : List ℕ → ℕ → Bool
 hasRecord bs i = ltb (recordOf bs i) (countIn bs)
 
 -- a field of step i's record, or 0 where it has none
-unfoldable pub said : List ℕ → ℕ → (ℕ → ℕ) → ℕ
-said bs i field = cond (hasRecord bs i) (field (recordOf bs i)) 0
+unfoldable pub recordField : List ℕ → ℕ → (ℕ → ℕ) → ℕ
+recordField bs i field = cond (hasRecord bs i) (field (recordOf bs i)) 0
 
 -- "Counters are worked out on loading."
 unfoldable pub counted : Table → Table
@@ -158,24 +165,25 @@ imageTable bs =
       capacity = capacityIn bs;
       last = lastIn bs;
       used = tabulate places (λ i. one (hasRecord bs i));
-      kinds = tabulate places (λ i. said bs i (kindIn bs));
-      contents = tabulate places (λ i. said bs i (contentIn bs));
-      own = tabulate places (λ i. said bs i (λ k. bitIn bs k exits));
-      targets = tabulate (places * exits) (λ p. said bs (p / exits) (λ k. targetIn bs k (p % exits)));
-      bits = tabulate (places * exits) (λ p. said bs (p / exits) (λ k. bitIn bs k (p % exits)));
+      kinds = tabulate places (λ i. recordField bs i (kindIn bs));
+      contents = tabulate places (λ i. recordField bs i (contentIn bs));
+      own = tabulate places (λ i. recordField bs i (λ k. bitIn bs k exits));
+      targets = tabulate (places * exits) (λ p. recordField bs (p / exits) (λ k. targetIn bs k (p % exits)));
+      bits = tabulate (places * exits) (λ p. recordField bs (p / exits) (λ k. bitIn bs k (p % exits)));
       counts = [];
     })
 
--- "these records to its last byte"
+-- "these records to its last byte, .. the count right": the length is that of the header and as many step records as it says
 unfoldable pub framed : List ℕ → Bool
 framed bs =
     passes
     (eqb (length bs) (stepPlace (countIn bs)) ∷
-    recordAt bs 0 headerKind headerFields ∷
-    all (countIn bs) (λ k. recordAt bs (stepPlace k) stepKind stepFields) ∷
+    recordAt bs 0 headerRecordKind headerFieldCount ∷
+    all (countIn bs) (λ k. recordAt bs (stepPlace k) stepRecordKind stepFieldCount) ∷
     [])
 
--- "An image is accepted exactly if it is these records to its last byte, no step twice, the count right, and the table sound."
+-- "An image is accepted exactly if it is these records to its last byte, no step twice, the count right, and the table sound." A record of a
+-- step that no table has, or with bits above 31, is none of these records.
 unfoldable pub accepted : List ℕ → Bool
 accepted bs =
     passes
@@ -208,3 +216,22 @@ imagePlan bs =
           }))
           none);
     }
+
+-- record k of one image and record l of another have the same eight fields
+abbrev pub SameFields : List ℕ → ℕ → List ℕ → ℕ → Type 0
+SameFields bs k cs l = (i : ℕ) → i < stepFieldCount → fieldAt bs (stepPlace k) i ≡ fieldAt cs (stepPlace l) i
+
+-- no step has two records
+abbrev pub Once : List ℕ → Type 0
+Once bs = (j k : ℕ) → j < countIn bs → k < countIn bs → numberIn bs j ≡ numberIn bs k → j ≡ k
+
+-- two images that differ at most in the order of their step records
+pub record SameRecords (bs cs : List ℕ) : Type 0 where
+  pub size : length bs ≡ length cs
+  pub capacity : capacityIn bs ≡ capacityIn cs
+  pub last : lastIn bs ≡ lastIn cs
+  pub count : countIn bs ≡ countIn cs
+  pub there : (k : ℕ) → k < countIn bs → (l : ℕ) × (l < countIn cs) × SameFields bs k cs l
+  pub back : (l : ℕ) → l < countIn cs → (k : ℕ) × (k < countIn bs) × SameFields bs k cs l
+  pub once : Once bs
+  pub onceBack : Once cs

@@ -1,22 +1,24 @@
 -- Key lines: the four forms and no other, and the calls that they make (document 01, "Keys"). Assumes nothing.
 --   isLine bs call n     H, star, the call's digit, n digits, A, and nothing else
---   number bs k w        the number that w digits spell from place k
+--   decimal bs k w       the number that w digits spell from place k
 --   decode bs            the command of a key line
---   keyCall t bs         the call
-use mathlib.Core.Bool.{Bool, true, false, _&&_, not, cond}
+--   callDigit            the digit after the star
+--   perform, keyCall     the call that a command makes, and the call of a key line
+use mathlib.Core.Bool.{Bool, _&&_, not, cond}
 use mathlib.Core.List.{List, [], _∷_}
 use Prim.Native.Nat.{ℕ, zero, suc, _+_, _*_, _-_}
 use lib.ListN.{length, getD}
 use lib.Dec.{eqb, leb}
-use Rattle.finite.specs.Below.{all}
+use Rattle.finite.specs.Below.{all, passes}
 use Rattle.table.specs.declared.Table.{Table}
 use Rattle.table.specs.declared.Answer.the-variants.{Refused, Given}
 use Rattle.table.specs.declared.Outcome.{Outcome}
 use Rattle.keyline.specs.declared.Command.{Command}
+use Rattle.keyline.specs.declared.Command.the-variants.{Add, Link, Clear, Count}
 use Rattle.keyline.specs.declared.Decoded.{Decoded}
 use Rattle.keyline.specs.declared.Decoded.the-variants.{Line, Nothing}
 use Rattle.table.specs.Table.{stepsInUse}
-use Rattle.table.specs.Sound.{sound, passes}
+use Rattle.table.specs.Sound.{sound}
 use Rattle.table.specs.Answer.{notSound, notKeyLine, first, unless}
 use Rattle.table.specs.Calls.{addCall, linkCall}
 use Rattle.table.specs.Clear.{clearCall}
@@ -48,38 +50,39 @@ isLine bs call n =
     eqb (getD bs (3 + n) 0) pressed ∷
     [])
 
-unfoldable pub number : List ℕ → ℕ → ℕ → ℕ
-number bs k zero = 0
-number bs k (suc w) = 10 * number bs k w + (getD bs (k + w) 0 - digit 0)
+unfoldable pub decimal : List ℕ → ℕ → ℕ → ℕ
+decimal bs k zero = 0
+decimal bs k (suc w) = 10 * decimal bs k w + (getD bs (k + w) 0 - digit 0)
 
 -- "H*1, step, exit, kind, content, A adds; steps and contents have three digits, exits and kinds a single digit. H*2, step, exit, step, exit, A
 -- links. H*3, step, exit, A clears. H*4A counts. Nothing else is a key line."
 unfoldable pub decode : List ℕ → Decoded
 decode bs =
-    cond (isLine bs 1 8)
-    (Line (record { call = 1; a = number bs 3 3; b = number bs 6 1; c = number bs 7 1; d = number bs 8 3 }))
-    (cond (isLine bs 2 8)
-    (Line (record { call = 2; a = number bs 3 3; b = number bs 6 1; c = number bs 7 3; d = number bs 10 1 }))
-    (cond (isLine bs 3 4) (Line (record { call = 3; a = number bs 3 3; b = number bs 6 1; c = 0; d = 0 }))
-    (cond (isLine bs 4 0) (Line (record { call = 4; a = 0; b = 0; c = 0; d = 0 })) Nothing)))
+    cond (isLine bs 1 8) (Line (Add (decimal bs 3 3) (decimal bs 6 1) (decimal bs 7 1) (decimal bs 8 3)))
+    (cond (isLine bs 2 8) (Line (Link (decimal bs 3 3) (decimal bs 6 1) (decimal bs 7 3) (decimal bs 10 1)))
+    (cond (isLine bs 3 4) (Line (Clear (decimal bs 3 3) (decimal bs 6 1)))
+    (cond (isLine bs 4 0) (Line Count) Nothing)))
+
+unfoldable pub callDigit : Command → ℕ
+callDigit (Add holder e kind content) = 1
+callDigit (Link source e second f) = 2
+callDigit (Clear i e) = 3
+callDigit Count = 4
 
 -- "in use and free for H*4"
-unfoldable pub countCall : Table → Outcome
-countCall t =
-    unless (first ((not (sound t), notSound) ∷ [])) t
-    (record { answer = Given (stepsInUse t) (t .capacity - stepsInUse t); table = t })
+unfoldable pub spokenCounts : Table → Outcome
+spokenCounts t = record { answer = Given (stepsInUse t) (t .capacity - stepsInUse t); table = t }
 
--- the call that a command makes
-unfoldable pub obey : Table → Command → Outcome
-obey t c =
-    cond (eqb (c .call) 1) (addCall t (c .a) (c .b) (c .c) (c .d))
-    (cond (eqb (c .call) 2) (linkCall t (c .a) (c .b) (c .c) (c .d))
-    (cond (eqb (c .call) 3) (clearCall t (c .a) (c .b)) (countCall t)))
+unfoldable pub perform : Table → Command → Outcome
+perform t (Add holder e kind content) = addCall t holder e kind content
+perform t (Link source e second f) = linkCall t source e second f
+perform t (Clear i e) = clearCall t i e
+perform t Count = spokenCounts t
 
 -- "key line 1, 9, then its call's"
-unfoldable pub keyed : Table → Decoded → Outcome
-keyed t Nothing = record { answer = Refused notKeyLine; table = t }
-keyed t (Line c) = obey t c
+unfoldable pub performLine : Table → Decoded → Outcome
+performLine t Nothing = record { answer = Refused notKeyLine; table = t }
+performLine t (Line c) = perform t c
 
 unfoldable pub keyCall : Table → List ℕ → Outcome
-keyCall t bs = unless (first ((not (sound t), notSound) ∷ [])) t (keyed t (decode bs))
+keyCall t bs = unless (first ((not (sound t), notSound) ∷ [])) t (performLine t (decode bs))

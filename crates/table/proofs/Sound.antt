@@ -8,20 +8,15 @@ use native.Mathlib.Omega.{arith}
 use lib.ListN.{length, getD}
 use lib.Dec.{eqb, leb, ltb}
 use borrow.Author.Tests.{eqb-true, eq-eqb, leb-true, le-leb, ltb-true, lt-ltb}
-use Rattle.finite.specs.Below.{all}
+use Rattle.finite.specs.Below.{all, passes}
 use Rattle.finite.specs.Reach.{Chain, reaches}
-use Rattle.finite.proofs.Bools.{and-intro, and-left, and-right, clash, refute, test, implied, imply, otherwise, either, not-true-false}
+use Rattle.finite.proofs.Bools.{passes-at, and-intro, and-left, and-right, clash, refute, test, implied, imply, otherwise, either, not-true-false}
 use Rattle.finite.proofs.Below.{le-or-lt, all-at, all-intro}
 use Rattle.finite.proofs.Reach.{chain-head, reach-sound, reach-complete, chain-first}
 use Rattle.table.specs.declared.Table.{Table}
 use Rattle.table.specs.Table.{places, exits, counters, inUse, kindOf, contentOf, ownBit, targetOf, linkBit, counterOf, holds, stronglyLinked, linksTo, StrongChain}
-use Rattle.table.specs.Sound.{Shape, Blank, Sound, passes, eachUsed, shapeTests, blankTests, ringless, soundTests, sound, kindFits}
+use Rattle.table.specs.Sound.{Shape, Blank, Sound, capacityFits, eachUsed, shapeTests, blankTests, ringless, soundTests, sound, kindFits}
 use Rattle.table.proofs.Links.{Wired, sound-wired, used-below, used-place, linked-used, linked-below, strongly-linked}
-
-pub passes-at : (xs : List Bool) → passes xs ≡ true → (k : ℕ) → getD xs k true ≡ true
-passes-at [] h k = refl
-passes-at (x ∷ xs) h zero = and-left x (passes xs) h
-passes-at (x ∷ xs) h (suc k) = passes-at xs (and-right x (passes xs) h) k
 
 pub each-used-at : (t : Table) (p : ℕ → Bool) → eachUsed t p ≡ true → (i : ℕ) → i < places → inUse t i ≡ true → p i ≡ true
 unfolding eachUsed
@@ -82,58 +77,57 @@ blank-tests t i s =
 
 module _ (t : Table) where
   tests-wired : passes (soundTests t) ≡ true → Wired t
-  unfolding soundTests
+  unfolding soundTests capacityFits
   tests-wired h =
       let at = passes-at (soundTests t) h in
       let shape = tests-shape t (at 0) in
       record {
         shape = shape;
-        most = leb-true _ _ (at 2);
-        above = λ i g l. refute (inUse t i) (λ u. let b : i < t .capacity = ltb-true _ _ (each-used-at t _ (at 4) i l u) in omega arith);
-        targets = λ i e u l g. implied (holds t i e) _ (all-at exits _ (each-used-at t _ (at 9) i (used-place shape i u) u) e l) g;
-        free = λ i l f. tests-blank t i (otherwise (inUse t i) _ (all-at places _ (at 11) i l) f);
+        most = leb-true _ _ (and-right (leb 1 (t .capacity)) _ (at 1));
+        above = λ i g l. refute (inUse t i) (λ u. let b : i < t .capacity = ltb-true _ _ (each-used-at t _ (at 3) i l u) in omega arith);
+        targets = λ i e u l g. implied (holds t i e) _ (all-at exits _ (each-used-at t _ (at 8) i (used-place shape i u) u) e l) g;
+        free = λ i l f. tests-blank t i (otherwise (inUse t i) _ (all-at places _ (at 10) i l) f);
       }
 
   pub test-sound : sound t ≡ true → Sound t
-  unfolding sound soundTests ringless
+  unfolding sound soundTests capacityFits ringless
   test-sound h =
       let at = passes-at (soundTests t) h in
       let w = tests-wired h in
       let edge : (i j : ℕ) → stronglyLinked t i j ≡ true → j < t .capacity = λ i j s. linked-below w i j (strongly-linked t i j s) in
       record {
         shape = w .shape;
-        least = leb-true _ _ (at 1);
+        least = leb-true _ _ (and-left (leb 1 (t .capacity)) _ (at 1));
         most = w .most;
-        last = ltb-true _ _ (at 3);
+        last = ltb-true _ _ (at 2);
         above = w .above;
-        alarm = at 5;
-        kinds = λ i u. each-used-at t _ (at 6) i (used-place (w .shape) i u) u;
-        own = λ i u. ltb-true _ _ (each-used-at t _ (at 7) i (used-place (w .shape) i u) u);
-        bits = λ i e u l. ltb-true _ _ (all-at exits _ (each-used-at t _ (at 8) i (used-place (w .shape) i u) u) e l);
+        alarm = at 4;
+        kinds = λ i u. each-used-at t _ (at 5) i (used-place (w .shape) i u) u;
+        own = λ i u. ltb-true _ _ (each-used-at t _ (at 6) i (used-place (w .shape) i u) u);
+        bits = λ i e u l. ltb-true _ _ (all-at exits _ (each-used-at t _ (at 7) i (used-place (w .shape) i u) u) e l);
         targets = w .targets;
-        empty = λ i e u l g. eqb-true _ _ (otherwise (holds t i e) _ (all-at exits _ (each-used-at t _ (at 10) i (used-place (w .shape) i u) u) e l) g);
+        empty = λ i e u l g. eqb-true _ _ (otherwise (holds t i e) _ (all-at exits _ (each-used-at t _ (at 9) i (used-place (w .shape) i u) u) e l) g);
         free = w .free;
-        counts = λ i b u l. eqb-true _ _ (all-at counters _ (each-used-at t _ (at 12) i (used-place (w .shape) i u) u) b l);
+        counts = λ i b u l. eqb-true _ _ (all-at counters _ (each-used-at t _ (at 11) i (used-place (w .shape) i u) u) b l);
         acyclic =
             λ i n c.
             let r = chain-head (c .row) in
-            let ring = each-used-at t _ (at 13) i (used-place (w .shape) i (c .begins)) (c .begins) in
+            let ring = each-used-at t _ (at 12) i (used-place (w .shape) i (c .begins)) (c .begins) in
             let no = implied (stronglyLinked t i (r .0)) _ (all-at (t .capacity) _ ring (r .0) (edge i (r .0) (r .1))) (r .1) in
             clash (reach-complete (stronglyLinked t) (t .capacity) edge (edge i (r .0) (r .1)) (r .2)) (not-true-false _ no);
         reached =
             λ i u.
-            let r = reach-sound (stronglyLinked t) (t .capacity) 0 i (each-used-at t _ (at 14) i (used-place (w .shape) i u) u) in
-            (r .0, record { begins = at 5; row = r .1 });
+            let r = reach-sound (stronglyLinked t) (t .capacity) 0 i (each-used-at t _ (at 13) i (used-place (w .shape) i u) u) in
+            (r .0, record { begins = at 4; row = r .1 });
       }
 
   pub sound-test : Sound t → sound t ≡ true
-  unfolding sound soundTests ringless
+  unfolding sound soundTests capacityFits ringless
   sound-test s =
       let w = sound-wired s in
       let edge : (i j : ℕ) → stronglyLinked t i j ≡ true → j < t .capacity = λ i j h. linked-below w i j (strongly-linked t i j h) in
       and-intro (shape-tests t (s .shape))
-      (and-intro (le-leb _ _ (s .least))
-      (and-intro (le-leb _ _ (s .most))
+      (and-intro (and-intro (le-leb _ _ (s .least)) (le-leb _ _ (s .most)))
       (and-intro (lt-ltb _ _ (s .last))
       (and-intro (each-used-intro t _ (λ i u. lt-ltb _ _ (used-below w i u)))
       (and-intro (s .alarm)
@@ -158,4 +152,4 @@ module _ (t : Table) where
       s .acyclic i (c .0) (record { begins = u; row = chain-first h (c .1) })))))))
       (and-intro
       (each-used-intro t _ (λ i u. let c = s .reached i u in reach-complete (stronglyLinked t) (t .capacity) edge (s .least) (c .1 .row)))
-      refl))))))))))))))
+      refl)))))))))))))

@@ -1,8 +1,9 @@
 -- Refusals and answers by the paper's numbers (document 01, "Reasons for no"). Assumes nothing.
 --   first tests     the number of the first condition that holds, in the order listed; 0 where none does
 --   refusalOf firstOf secondOf   the paper's numbers for each case of an answer: the refusal or 0, then two numbers, zero where refused
---   unless n t o    the outcome o where n is 0, else refusal n with the table t as it was given
-use mathlib.Core.Bool.{Bool, true, false, cond}
+--   triedRefusal endingOf lastOf movesOf   the same for a trial: the refusal or 0, how it ended, the last step, the moves
+--   unless n t o    the outcome o where n is 0, else refusal n with the table t
+use mathlib.Core.Bool.{Bool, cond}
 use mathlib.Core.List.{List, [], _∷_}
 use Prim.Native.Nat.{ℕ}
 use lib.Dec.{eqb}
@@ -12,6 +13,8 @@ use Rattle.table.specs.declared.Answer.the-variants.{Refused, Given}
 use Rattle.table.specs.declared.Outcome.{Outcome}
 use Rattle.table.specs.declared.Ending.{Ending}
 use Rattle.table.specs.declared.Ending.the-variants.{Open, Spent}
+use Rattle.table.specs.declared.Tried.{Tried}
+use Rattle.table.specs.declared.Tried.the-variants.{Refused as TrialRefused, Ended}
 
 -- the numbers of the table "Reasons for no"
 abbrev pub notSound : ℕ
@@ -73,3 +76,19 @@ unless n t o = cond (eqb n 0) o (record { answer = Refused n; table = t })
 unfoldable pub endingNumber : Ending → ℕ
 endingNumber Open = 0
 endingNumber Spent = 1
+
+unfoldable pub triedRefusal : Tried → ℕ
+triedRefusal (TrialRefused n) = n
+triedRefusal (Ended e last moves) = 0
+
+unfoldable pub endingOf : Tried → ℕ
+endingOf (TrialRefused n) = 0
+endingOf (Ended e last moves) = endingNumber e
+
+unfoldable pub lastOf : Tried → ℕ
+lastOf (TrialRefused n) = 0
+lastOf (Ended e last moves) = last
+
+unfoldable pub movesOf : Tried → ℕ
+movesOf (TrialRefused n) = 0
+movesOf (Ended e last moves) = moves

@@ -2,26 +2,25 @@
 -- lent byte, for every input; the refused ones too. Assumes nothing.
 --   freshTable c    only step 0 in use, all bits 0, last number 0
 --   relink t i e j b   exit e of step i gets a link to j with bit b, or is emptied where j is 0; the counters follow
---   numberGiven     the number that add gives
---   addCall linkCall readCall trialCall   the calls
-use mathlib.Core.Bool.{Bool, true, false, _&&_, _||_, not, cond}
+--   numberGiven     the number that add gives: the first free one of a circle; on a full table, where add is refused, it is not used
+--   resultsFit      every line result is below 4
+--   freshCall addCall linkCall readCall trialCall   the calls
+use mathlib.Core.Bool.{Bool, true, false, not, cond}
 use mathlib.Core.List.{List, [], _∷_}
-use Prim.Native.Nat.{ℕ, zero, suc, _+_, _*_, _-_}
+use Prim.Native.Nat.{ℕ, _+_, _*_, _-_}
 use lib.ListN.{length, getD, set, replicate}
 use lib.Dec.{eqb, leb, ltb}
-use Rattle.finite.specs.Below.{any, find, tabulate}
+use Rattle.finite.specs.Below.{all, find, tabulate}
 use Rattle.table.specs.declared.Table.{Table}
-use Rattle.table.specs.declared.Answer.{Answer}
 use Rattle.table.specs.declared.Answer.the-variants.{Given}
 use Rattle.table.specs.declared.Outcome.{Outcome}
 use Rattle.table.specs.declared.Fields.{Fields}
 use Rattle.table.specs.declared.Reading.{Reading}
-use Rattle.table.specs.declared.Ending.{Ending}
 use Rattle.table.specs.declared.Ending.the-variants.{Open, Spent}
 use Rattle.table.specs.declared.Tried.{Tried}
 use Rattle.table.specs.declared.Tried.the-variants.{Refused, Ended}
 use Rattle.table.specs.Table.{places, exits, counters, exitPlace, counterPlace, inUse, kindOf, contentOf, ownBit, targetOf, linkBit, counterOf, holds, stepsInUse, withLinks, withSteps}
-use Rattle.table.specs.Sound.{contentFits, sound}
+use Rattle.table.specs.Sound.{capacityFits, contentFits, sound}
 use Rattle.table.specs.Answer.{notSound, badCapacity, notInUse, badExit, exitFilled, exitEmpty, badKind, full, badResult, tooShort, first, unless}
 
 -- Fresh: "a capacity; only step 0 in use, all bits 0, last number 0". Step 0 is of kind 0 with content 0.
@@ -38,9 +37,6 @@ freshTable c =
       bits = replicate (places * exits) 0;
       counts = replicate (places * counters) 0;
     }
-
-unfoldable pub capacityFits : ℕ → Bool
-capacityFits c = leb 1 c && leb c places
 
 -- "Refused fresh and load hand back a fresh table of capacity 1."
 unfoldable pub freshCall : ℕ → Outcome
@@ -154,7 +150,7 @@ pub record TrialOutcome : Type 0 where
   pub answer : Tried
   pub trace : List ℕ
 
--- from step i, after so many moves: "Each result byte takes that exit and writes the number of the step entered as a byte of the lent trace.
+-- from step i, after so many moves: "Each result byte, 0 to 3, takes that exit and writes the number of the step entered as a byte of the lent trace.
 -- It ends 'open' at an empty exit, or 'spent' when no results are left"
 unfoldable pub tryFrom : Table → ℕ → ℕ → List ℕ → List ℕ → TrialOutcome
 tryFrom t i moves trace [] = record { answer = Ended Spent i moves; trace = trace }
@@ -164,11 +160,14 @@ tryFrom t i moves trace (r ∷ rs) =
       | true ↦ tryFrom t (targetOf t i r) (moves + 1) (set trace moves (targetOf t i r)) rs
     ]
 
+unfoldable pub resultsFit : List ℕ → Bool
+resultsFit results = all (length results) (λ k. ltb (getD results k 0) exits)
+
 unfoldable pub trialRefusal : Table → List ℕ → List ℕ → ℕ
 trialRefusal t results trace =
     first
     ((not (sound t), notSound) ∷
-    (any (length results) (λ k. leb exits (getD results k 0)), badResult) ∷
+    (not (resultsFit results), badResult) ∷
     (ltb (length trace) (length results), tooShort) ∷
     [])
 

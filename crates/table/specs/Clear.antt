@@ -1,17 +1,17 @@
 -- Clear: the four rules in their order (document 01, "Clearing an exit"). Assumes nothing.
 --   emptied t i e     rule 1: the exit is emptied and the counter lowered
 --   stops t i e       rule 1: the link was weak, or its target still has a strong link
---   doubtful t        rule 2: the steps in use with no strong chain from step 0
+--   doubtful t        rule 2: the steps in use with no strong chain from step 0 (garbage candidates)
 --   wanted r i        rule 3: the doubtful step i has a link from a step that is not doubtful
---   takeBack t k      rule 3: its bit is flipped, then every link out of it is made weak
---   repair            rule 3: the lowest wanted step is taken back, while there is one
+--   restored t k      rule 3: its bit is flipped, then every link out of it is made weak
+--   repair repairOf   rule 3: the lowest wanted step is restored, while there is one
 --   release t d       rule 4: the steps still doubtful are freed
 --   clearCall         the call
 use mathlib.Core.Bool.{Bool, true, false, _&&_, _||_, not, cond}
 use mathlib.Core.List.{List, [], _∷_}
-use Prim.Native.Nat.{ℕ, zero, suc, _+_, _-_}
-use lib.ListN.{getD, set}
-use lib.Dec.{eqb, leb, ltb}
+use Prim.Native.Nat.{ℕ, zero, suc, _-_}
+use lib.ListN.{set}
+use lib.Dec.{leb, ltb}
 use Rattle.finite.specs.Below.{any, count, lowest, rounds, tabulate}
 use Rattle.finite.specs.Reach.{marked, reach}
 use Rattle.table.specs.declared.Table.{Table}
@@ -30,17 +30,17 @@ emptied t i e = relink t i e 0 0
 unfoldable pub heldStrongly : Table → ℕ → Bool
 heldStrongly t j = ltb 0 (counterOf t j (ownBit t j))
 
--- "If the link was weak, or the target still has a strong link, stop"
+-- "If the link was weak, or the target still has a strong link, stop with counts 0 and 0."
 unfoldable pub stops : Table → ℕ → ℕ → Bool
 stops t i e = not (strong t i e) || heldStrongly (emptied t i e) (targetOf t i e)
 
--- 2. "Steps with no strong chain from step 0 are doubtful." The marks of the steps below the capacity.
+-- 2. "Steps with no strong chain from step 0 are doubtful." The marks of the steps below the capacity; withdrawing exits is a way to find them.
 unfoldable pub doubtful : Table → List Bool
 doubtful t =
     let m = reach (stronglyLinked t) (t .capacity) 0 in
     tabulate (t .capacity) (λ i. inUse t i && not (marked m i))
 
--- a table under repair: the steps that are doubtful in it
+-- a table under repair, and the steps still doubtful
 pub record Repair : Type 0 where
   pub table : Table
   pub doubt : List Bool
@@ -56,8 +56,8 @@ unfoldable pub weakened : Table → ℕ → ℕ → Table
 weakened t k e = cond (strong t k e) (relink t k e (targetOf t k e) (weakBit t (targetOf t k e))) t
 
 -- "flip its bit, .. then make every link out of it weak, one to itself included"
-unfoldable pub takeBack : Table → ℕ → Table
-takeBack t k = rounds exits (λ e u. weakened u k e) (flipped t k)
+unfoldable pub restored : Table → ℕ → Table
+restored t k = rounds exits (λ e u. weakened u k e) (flipped t k)
 
 -- "take the lowest-numbered such step, .. count it no longer doubtful": at most f times
 unfoldable pub repair : ℕ → Repair → Repair
@@ -66,14 +66,18 @@ repair (suc f) r =
     let k = lowest (r .table .capacity) (wanted r) in
     elim (ltb k (r .table .capacity)) [
       | false ↦ r
-      | true ↦ repair f (record { table = takeBack (r .table) k; doubt = set (r .doubt) k false })
+      | true ↦ repair f (record { table = restored (r .table) k; doubt = set (r .doubt) k false })
     ]
+
+-- rules 2 and 3, on the table with the exit emptied
+unfoldable pub repairOf : Table → Repair
+repairOf t = repair (t .capacity) (record { table = t; doubt = doubtful t })
 
 -- 4. "their links leave the counters"
 unfoldable pub unlinked : Table → ℕ → Table
 unlinked t i = rounds exits (λ e u. relink u i e 0 0) t
 
--- "and their records become zero and empty"
+-- "and their records become zero and empty": their exits are empty already
 unfoldable pub blanked : Table → ℕ → Table
 blanked t i =
     withSteps
@@ -98,9 +102,11 @@ size d n = count n (marked d)
 -- rules 2 to 4, on the table with the exit emptied; "The answer is two counts: steps made doubtful, steps freed."
 unfoldable pub repaired : Table → Outcome
 repaired t =
-    let d = doubtful t in
-    let r = repair (t .capacity) (record { table = t; doubt = d }) in
-    record { answer = Given (size d (t .capacity)) (size (r .doubt) (t .capacity)); table = release (r .table) (r .doubt) }
+    let r = repairOf t in
+    record {
+      answer = Given (size (doubtful t) (t .capacity)) (size (r .doubt) (t .capacity));
+      table = release (r .table) (r .doubt);
+    }
 
 unfoldable pub clearRefusal : Table → ℕ → ℕ → ℕ
 clearRefusal t i e =

@@ -1,14 +1,15 @@
 -- The plain plan (the abstract state): a table without bits and counters, and the same calls drawn on it from their arguments alone
--- (document 01, "The plain plan of a table"). What it shares with the table is what 01 shares: the ranges of kinds and contents, the bound of
--- capacities and exits, and add's rule for the number given. Assumes nothing.
+-- (document 01, "The plain plan of a table"). What it shares with the table is what 01 shares: the ranges of contents and results, the number of
+-- exits, add's rule for the number given, and the numbers of refusals and "the first that holds". Assumes nothing.
 --   planOf t        the plain plan of a table
 --   planInUse planTarget planHolds planLinked planCount   read on a plan what a table's steps and exits say
---   freshPlan drawAdd drawLink drawClear   the plan after an accepted call
---   addNo linkNo clearNo readNo trialNo    the refusal of a call, read on the plan; "1 never holds there"
+--   freshPlan planAdd planLink planClear   the plan after an accepted call
+--   planAddRefusal and so on   the refusal of a call, read on the plan; "1 never holds there"
+--   replan          a plan with another last number and other steps
 use mathlib.Core.Bool.{Bool, true, false, _&&_, not, cond}
 use mathlib.Core.List.{List, [], _∷_}
 use mathlib.Core.Option.{Option, none, some}
-use Prim.Native.Nat.{ℕ, zero, suc, _+_, _-_}
+use Prim.Native.Nat.{ℕ}
 use lib.ListN.{length, getD, set, replicate}
 use lib.Dec.{eqb, leb, ltb}
 use Rattle.finite.specs.Below.{any, count, tabulate}
@@ -17,7 +18,7 @@ use Rattle.table.specs.declared.Table.{Table}
 use Rattle.table.specs.Table.{exits, inUse, kindOf, contentOf, targetOf}
 use Rattle.table.specs.Sound.{contentFits}
 use Rattle.table.specs.Answer.{notInUse, badExit, exitFilled, exitEmpty, badKind, full, badResult, tooShort, first}
-use Rattle.table.specs.Calls.{numberGiven}
+use Rattle.table.specs.Calls.{numberGiven, resultsFit}
 
 -- what a plan keeps of a step in use: "the number, kind, content and four targets"; the number is its place in the list of steps
 pub record PlanStep : Type 0 where
@@ -46,15 +47,15 @@ abbrev pub isStep : Option PlanStep → Bool
 isStep none = false
 isStep (some s) = true
 
-abbrev pub targetIn : Option PlanStep → ℕ → ℕ
-targetIn none e = 0
-targetIn (some s) e = getD (s .targets) e 0
+abbrev pub stepTarget : Option PlanStep → ℕ → ℕ
+stepTarget none e = 0
+stepTarget (some s) e = getD (s .targets) e 0
 
 unfoldable pub planInUse : Plan → ℕ → Bool
 planInUse p i = isStep (stepOf p i)
 
 unfoldable pub planTarget : Plan → ℕ → ℕ → ℕ
-planTarget p i e = targetIn (stepOf p i) e
+planTarget p i e = stepTarget (stepOf p i) e
 
 unfoldable pub planHolds : Plan → ℕ → ℕ → Bool
 planHolds p i e = not (eqb (planTarget p i e) 0)
@@ -79,42 +80,41 @@ abbrev pub retargeted : ℕ → ℕ → Option PlanStep → Option PlanStep
 retargeted e j none = none
 retargeted e j (some s) = some (record { kind = s .kind; content = s .content; targets = set (s .targets) e j })
 
+unfoldable pub replan : Plan → ℕ → List (Option PlanStep) → Plan
+replan p last steps = record { capacity = p .capacity; last = last; steps = steps }
+
 unfoldable pub withTarget : Plan → ℕ → ℕ → ℕ → Plan
-withTarget p i e j = record { capacity = p .capacity; last = p .last; steps = set (p .steps) i (retargeted e j (stepOf p i)) }
+withTarget p i e j = replan p (p .last) (set (p .steps) i (retargeted e j (stepOf p i)))
 
 unfoldable pub planNumber : Plan → ℕ
 planNumber p = numberGiven (p .capacity) (p .last) (λ k. not (planInUse p k))
 
 -- "Adding puts in the new step, numbered by add's rule, and the holder's target, and makes the new number the last given."
-unfoldable pub drawAdd : Plan → ℕ → ℕ → ℕ → ℕ → Plan
-drawAdd p holder e kind content =
+unfoldable pub planAdd : Plan → ℕ → ℕ → ℕ → ℕ → Plan
+planAdd p holder e kind content =
     let n = planNumber p in
     withTarget
-    (record {
-      capacity = p .capacity;
-      last = n;
-      steps = set (p .steps) n (some (record { kind = kind; content = content; targets = replicate exits 0 }));
-    })
+    (replan p n (set (p .steps) n (some (record { kind = kind; content = content; targets = replicate exits 0 }))))
     holder
     e
     n
 
 -- "Linking fills one target with a copy of another."
-unfoldable pub drawLink : Plan → ℕ → ℕ → ℕ → ℕ → Plan
-drawLink p source e second f = withTarget p second f (planTarget p source e)
+unfoldable pub planLink : Plan → ℕ → ℕ → ℕ → ℕ → Plan
+planLink p source e second f = withTarget p second f (planTarget p source e)
 
 -- "then takes out every step that no chain of targets reaches from step 0; .. and all else in the plan stays"
 unfoldable pub pruned : Plan → Plan
 pruned p =
     let m = reach (planLinked p) (p .capacity) 0 in
-    record { capacity = p .capacity; last = p .last; steps = tabulate (p .capacity) (λ i. cond (marked m i) (stepOf p i) none) }
+    replan p (p .last) (tabulate (p .capacity) (λ i. cond (marked m i) (stepOf p i) none))
 
 -- "Clearing empties one target and then .."
-unfoldable pub drawClear : Plan → ℕ → ℕ → Plan
-drawClear p i e = pruned (withTarget p i e 0)
+unfoldable pub planClear : Plan → ℕ → ℕ → Plan
+planClear p i e = pruned (withTarget p i e 0)
 
-unfoldable pub addNo : Plan → ℕ → ℕ → ℕ → ℕ → ℕ
-addNo p holder e kind content =
+unfoldable pub planAddRefusal : Plan → ℕ → ℕ → ℕ → ℕ → ℕ
+planAddRefusal p holder e kind content =
     first
     ((not (planInUse p holder), notInUse) ∷
     (leb exits e, badExit) ∷
@@ -123,8 +123,8 @@ addNo p holder e kind content =
     (eqb (planCount p) (p .capacity), full) ∷
     [])
 
-unfoldable pub linkNo : Plan → ℕ → ℕ → ℕ → ℕ → ℕ
-linkNo p source e second f =
+unfoldable pub planLinkRefusal : Plan → ℕ → ℕ → ℕ → ℕ → ℕ
+planLinkRefusal p source e second f =
     first
     ((not (planInUse p source), notInUse) ∷
     (leb exits e, badExit) ∷
@@ -134,21 +134,17 @@ linkNo p source e second f =
     (planHolds p second f, exitFilled) ∷
     [])
 
-unfoldable pub clearNo : Plan → ℕ → ℕ → ℕ
-clearNo p i e =
+unfoldable pub planClearRefusal : Plan → ℕ → ℕ → ℕ
+planClearRefusal p i e =
     first
     ((not (planInUse p i), notInUse) ∷
     (leb exits e, badExit) ∷
     (not (planHolds p i e), exitEmpty) ∷
     [])
 
-unfoldable pub readNo : Plan → ℕ → ℕ
-readNo p i = first ((not (planInUse p i), notInUse) ∷ [])
+unfoldable pub planReadRefusal : Plan → ℕ → ℕ
+planReadRefusal p i = first ((not (planInUse p i), notInUse) ∷ [])
 
--- the results stand in the call by value; of the trace only the length counts
-unfoldable pub trialNo : Plan → List ℕ → ℕ → ℕ
-trialNo p results room =
-    first
-    ((any (length results) (λ k. leb exits (getD results k 0)), badResult) ∷
-    (ltb room (length results), tooShort) ∷
-    [])
+-- the results stand in the call by value, and of the trace only the length counts: nothing is asked of the plan
+unfoldable pub planTrialRefusal : List ℕ → ℕ → ℕ
+planTrialRefusal results room = first ((not (resultsFit results), badResult) ∷ (ltb room (length results), tooShort) ∷ [])

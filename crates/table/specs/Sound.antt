@@ -1,17 +1,21 @@
--- Sound (well formed: the invariant of every table that the calls hand out), document 01, "A table is sound when".
---   Sound t     the statement, a field for each clause of 01's list, in its order
---   sound t     the test, which computes; `sound-test` and `test-sound` of the proofs join the two
--- Assumes nothing.
+-- Sound (well formed: the invariant), document 01, "A table is sound when". Assumes nothing.
+--   Sound t      the statement: 01's clauses in their order, and before them that the arrays have their lengths and that bits are 0 or 1
+--   sound t      the test, which computes; `test-sound` and `sound-test` of the proofs join the two
+--   contentFits capacityFits   the ranges of contents, by kind, and of capacities: one place for each
 use mathlib.Core.Path.{_≡_}
 use mathlib.Core.Bool.{Bool, true, false, _&&_, _||_, not, cond}
 use mathlib.Core.List.{List, [], _∷_}
-use Prim.Native.Nat.{ℕ, zero, suc, _+_, _*_, _≤_, _<_}
+use Prim.Native.Nat.{ℕ, suc, _*_, _≤_, _<_}
 use lib.ListN.{length, getD}
 use lib.Dec.{eqb, leb, ltb}
-use Rattle.finite.specs.Below.{all}
-use Rattle.finite.specs.Reach.{Chain, reaches}
+use Rattle.finite.specs.Below.{all, passes}
+use Rattle.finite.specs.Reach.{reaches}
 use Rattle.table.specs.declared.Table.{Table}
 use Rattle.table.specs.Table.{places, exits, counters, inUse, kindOf, contentOf, ownBit, targetOf, linkBit, counterOf, holds, stronglyLinked, linksTo, StrongChain}
+
+-- "A table has a capacity of 1 to 128"
+unfoldable pub capacityFits : ℕ → Bool
+capacityFits c = leb 1 c && leb c places
 
 -- "Kinds": the contents of a kind that can be added: 1 contact, a phone book entry; 2 spoken message; 3 wait, in seconds; no other
 unfoldable pub contentFits : ℕ → ℕ → Bool
@@ -67,11 +71,6 @@ pub record Sound (t : Table) : Type 0 where
   pub acyclic : (i n : ℕ) → StrongChain t i i (suc n) → ⊥
   pub reached : (i : ℕ) → inUse t i ≡ true → (n : ℕ) × StrongChain t 0 i n
 
--- all tests of a list are passed
-abbrev pub passes : List Bool → Bool
-passes [] = true
-passes (x ∷ xs) = x && passes xs
-
 -- the test p is passed by each step in use
 unfoldable pub eachUsed : Table → (ℕ → Bool) → Bool
 eachUsed t p = all places (λ i. not (inUse t i) || p i)
@@ -106,8 +105,7 @@ ringless t i = all (t .capacity) (λ j. not (stronglyLinked t i j) || not (reach
 unfoldable pub soundTests : Table → List Bool
 soundTests t =
     passes (shapeTests t) ∷
-    leb 1 (t .capacity) ∷
-    leb (t .capacity) places ∷
+    capacityFits (t .capacity) ∷
     ltb (t .last) (t .capacity) ∷
     eachUsed t (λ i. ltb i (t .capacity)) ∷
     inUse t 0 ∷

@@ -1,4 +1,4 @@
--- The table: its steps, exits, links and counters (document 01, "The table"). Assumes nothing.
+-- The table: its steps (nodes), exits (edge slots), links (edges) and counters (document 01, "The table"). Assumes nothing.
 --   inUse t i           step i is in use
 --   kindOf contentOf ownBit   its kind, its content, the bit of its own
 --   targetOf t i e, linkBit t i e   what exit e of step i holds: the target, 0 where it is empty, and the link's bit
@@ -6,13 +6,16 @@
 --   holds t i e         exit e of step i holds a link (an edge); else it is empty
 --   strong t i e        that link is strong: its bit equals its target's bit; a link that is not strong is weak
 --   linked t i j, stronglyLinked t i j   some exit of i holds a link, or a strong link, to j
+--   leads t i e j       exit e of step i holds a link to j; countsAt t j b p says the same of the exit at place p, with bit b
 --   linksTo t j b       the number of links with bit b to j
 --   stepsInUse t        the number of steps in use
+--   StrongChain t a b n   a strong chain (path) of n links from a to b
+--   withLinks withSteps   a table with other links and counters, or with another last number and other steps
 use mathlib.Core.Path.{_≡_}
-use mathlib.Core.Bool.{Bool, true, false, _&&_, not}
-use mathlib.Core.List.{List, [], _∷_}
-use Prim.Native.Nat.{ℕ, zero, suc, _+_, _*_}
-use lib.ListN.{getD, set, replicate}
+use mathlib.Core.Bool.{Bool, true, _&&_, not}
+use mathlib.Core.List.{List}
+use Prim.Native.Nat.{ℕ, _+_, _*_}
+use lib.ListN.{getD}
 use lib.Dec.{eqb}
 use Rattle.finite.specs.Below.{any, count}
 use Rattle.finite.specs.Reach.{Chain}
@@ -90,7 +93,7 @@ pub record StrongChain (t : Table) (a b n : ℕ) : Type 0 where
   pub begins : inUse t a ≡ true
   pub row : Chain (stronglyLinked t) a b n
 
--- Two ways to write a table: with other links and counters, and with another last number and other steps. The rest is as it was.
+-- Two ways to write a table; what is not named is as it was.
 unfoldable pub withLinks : Table → List ℕ → List ℕ → List ℕ → Table
 withLinks t targets bits counts =
     record {

@@ -58,5 +58,5 @@ pub enum Ending {
 // The answer of a trial: the number of its refusal, or how it ended, the last step and the moves made.
 pub enum Tried {
     Refused(u16),
-    Ended(Ending, u16, u16),
+    Ended(Ending, u16, usize),
 }

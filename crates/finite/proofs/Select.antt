@@ -1,0 +1,107 @@
+-- Numbering by a count: a number that passes a test has as its index how many pass below it. Assumes nothing.
+--   select            each index below the count is that of a number
+--   count-injective   no two numbers have one index
+--   count-values      n values that differ are counted as n
+--   lowest-only       a search finds the only number that passes
+--   tabulate-entries  a list is tabulated by its entries
+use mathlib.Core.Path.{_≡_, refl, sym, _∙_}
+use mathlib.Core.Bool.{Bool, true, false}
+use mathlib.Core.Logic.{⊎-elim}
+use mathlib.Core.List.{List}
+use Prim.Native.Nat.{ℕ, zero, suc, _≤_, _<_}
+use native.Mathlib.Nat.{not-suc-le-zero}
+use native.Mathlib.Omega.{arith}
+use lib.ListN.{length, getD}
+use lib.Seq.{ext-getD}
+use lib.Dec.{eqb, ltb}
+use borrow.Author.Tests.{eqb-true, eq-eqb, ne-eqb, ltb-true, lt-ltb}
+use Rattle.finite.specs.Below.{any, one, count, lowest, tabulate}
+use Rattle.finite.proofs.Bools.{or-left, or-right, or-elim, test, clash, same-test}
+use Rattle.finite.proofs.Below.{le-or-lt, any-at, any-intro, any-false, count-change, count-none, lowest-passes, lowest-first, length-tabulate, getD-tabulate}
+
+-- a longer range counts no less, and more by each number that passes
+pub count-grows : (p : ℕ → Bool) (m n : ℕ) → m ≤ n → count m p ≤ count n p
+unfolding count
+count-grows p m zero h = let e : m ≡ 0 = omega arith in rw e (omega arith)
+count-grows p m (suc n) h =
+    ⊎-elim (λ l. omega (arith, count-grows p m n l)) (λ (l : n < m). let e : m ≡ suc n = omega arith in rw e (omega arith)) (le-or-lt m n)
+
+pub count-rises : (p : ℕ → Bool) (i n : ℕ) → i < n → p i ≡ true → count i p < count n p
+unfolding count
+count-rises p i n h t =
+    let g = count-grows p (suc i) n h in
+    let x : one (p i) ≡ 1 = rw t in
+    omega arith
+
+pub count-injective : (p : ℕ → Bool) (i j : ℕ) → p i ≡ true → p j ≡ true → count i p ≡ count j p → i ≡ j
+count-injective p i j t u e =
+    let a : ¬ (i < j) = λ h. omega (arith, count-rises p i j h t) in
+    let b : ¬ (j < i) = λ h. omega (arith, count-rises p j i h u) in
+    omega arith
+
+-- the number with index k among those below n that pass
+pub record Selected (n : ℕ) (p : ℕ → Bool) (k : ℕ) : Type 0 where
+  pub number : ℕ
+  pub below : number < n
+  pub passes : p number ≡ true
+  pub index : count number p ≡ k
+
+pub select : (n : ℕ) (p : ℕ → Bool) (k : ℕ) → k < count n p → Selected n p k
+unfolding count
+select zero p k h = absurd (not-suc-le-zero h)
+select (suc n) p k h =
+    ⊎-elim
+    (λ l. ⊎-elim (λ t. last t l) (λ f. absurd (let x : one (p n) ≡ 0 = rw f in omega arith)) (test (p n)))
+    (λ l. before (select n p k l))
+    (le-or-lt (count n p) k)
+  where
+    before : Selected n p k → Selected (suc n) p k
+    before s = record { number = s .number; below = omega (arith, s .below); passes = s .passes; index = s .index }
+
+    last : p n ≡ true → count n p ≤ k → Selected (suc n) p k
+    last t l = record { number = n; below = omega arith; passes = t; index = let x : one (p n) ≡ 1 = rw t in omega arith }
+
+-- i is f k for some k below n
+abbrev pub isValue : (ℕ → ℕ) → ℕ → ℕ → Bool
+isValue f n i = any n (λ k. eqb (f k) i)
+
+-- n values below c that all differ are n numbers below c
+pub count-values : (c n : ℕ) (f : ℕ → ℕ) → ((k : ℕ) → k < n → f k < c) → ((j k : ℕ) → j < k → k < n → f j ≡ f k → ⊥) → count c (isValue f n) ≡ n
+unfolding any
+count-values c zero f b d = count-none c _ (λ k l. refl)
+count-values c (suc n) f b d =
+    let h = count-values c n f (λ k l. b k (omega arith)) (λ j k a l. d j k a (omega arith)) in
+    let x = count-change c (isValue f n) (isValue f (suc n)) (f n) (b n (omega arith)) other in
+    let y : one (isValue f n (f n)) ≡ 0 = rw fresh in
+    let z : one (isValue f (suc n) (f n)) ≡ 1 = rw (or-right (isValue f n (f n)) (eqb (f n) (f n)) (eq-eqb (f n) (f n) refl)) in
+    omega arith
+  where
+    other : (i : ℕ) → i < c → (i ≡ f n → ⊥) → isValue f (suc n) i ≡ isValue f n i
+    other i l ne =
+        same-test (isValue f (suc n) i) (isValue f n i)
+        (λ t. ⊎-elim (λ a. a) (λ a. absurd (ne (sym (eqb-true (f n) i a)))) (or-elim (isValue f n i) (eqb (f n) i) t))
+        (λ t. or-left (isValue f n i) (eqb (f n) i) t)
+
+    fresh : isValue f n (f n) ≡ false
+    fresh = any-false n (λ k. eqb (f k) (f n)) (λ k l. ne-eqb (f k) (f n) (d k n l (omega arith)))
+
+pub lowest-most : (n : ℕ) (p : ℕ → Bool) (k : ℕ) → p k ≡ true → lowest n p ≤ k
+lowest-most n p k t = ⊎-elim (λ l. l) (λ l. clash t (lowest-first n p k l)) (le-or-lt (lowest n p) k)
+
+-- the search finds something exactly where something is there
+pub lowest-any : (n : ℕ) (p : ℕ → Bool) → ltb (lowest n p) n ≡ any n p
+lowest-any n p =
+    same-test (ltb (lowest n p) n) (any n p)
+    (λ t. let l = ltb-true (lowest n p) n t in any-intro n p (lowest n p) l (lowest-passes n p l))
+    (λ t. let r = any-at n p t in lt-ltb (lowest n p) n (omega (arith, lowest-most n p (r .0) (r .2), r .1)))
+
+pub lowest-only : (n : ℕ) (p : ℕ → Bool) (k : ℕ) → k < n → p k ≡ true → ((j : ℕ) → j < n → p j ≡ true → j ≡ k) → lowest n p ≡ k
+lowest-only n p k h t u =
+    let l = ltb-true (lowest n p) n (lowest-any n p ∙ any-intro n p k h t) in
+    u (lowest n p) l (lowest-passes n p l)
+
+module _ {A : Type 0} where
+  pub tabulate-entries : (n : ℕ) (f : ℕ → A) (l : List A) (d : A) → length l ≡ n → ((i : ℕ) → i < n → f i ≡ getD l i d) → tabulate n f ≡ l
+  tabulate-entries n f l d e h =
+      ext-getD d (tabulate n f) l (length-tabulate n f ∙ sym e)
+      (λ i b. let c : i < n = omega (arith, length-tabulate n f) in getD-tabulate n f d i c ∙ h i c)

@@ -1,0 +1,203 @@
+-- One call of a history on a sound table: the table that it leaves is sound, its plan is the plan drawn, and what is heard is what the plan
+-- says. Assumes nothing.
+--   Agrees t c      the three facts of the call c on t
+--   call-agrees     every call with any arguments
+use mathlib.Core.Path.{_≡_, refl, sym, _∙_, ap, ap₂, subst}
+use mathlib.Core.Bool.{Bool, true, false, _&&_, not, cond}
+use mathlib.Core.Logic.{_⊎_, inl, inr, ⊎-elim}
+use mathlib.Core.List.{List, [], _∷_}
+use Prim.Native.Nat.{ℕ, zero, suc, _+_, _-_, _≤_, _<_}
+use native.Mathlib.Omega.{arith}
+use lib.ListN.{length, set}
+use lib.Dec.{eqb, ltb}
+use borrow.Author.Tests.{eq-eqb, ne-eqb}
+use Rattle.finite.proofs.Bools.{test}
+use Rattle.finite.proofs.Below.{eq-or-ne, count-ext}
+use Rattle.table.specs.declared.Table.{Table}
+use Rattle.table.specs.declared.Answer.{Answer}
+use Rattle.table.specs.declared.Answer.the-variants.{Refused, Given}
+use Rattle.table.specs.declared.Outcome.{Outcome}
+use Rattle.table.specs.Table.{inUse, targetOf, holds, stepsInUse}
+use Rattle.table.specs.Sound.{Sound}
+use Rattle.table.specs.Answer.{first, unless, refusalOf, firstOf, secondOf, triedRefusal}
+use Rattle.table.specs.Calls.{numberGiven, addRefusal, addTable, addCall, linkRefusal, linkTable, linkCall, readRefusal, readCall, trialRefusal, tryFrom, trialCall}
+use Rattle.table.specs.Clear.{emptied, clearRefusal, clearCall}
+use Rattle.table.specs.Plan.{Plan, planOf, planCount, planNumber, planAdd, planLink, planClear, planAddRefusal, planLinkRefusal, planClearRefusal, planReadRefusal, planTrialRefusal}
+use Rattle.table.proofs.Links.{sound-wired}
+use Rattle.table.proofs.Plan.{plan-capacity, plan-count}
+use Rattle.table.proofs.Calls.{Orders, done, next, first-same, past-sound, unless-zero, unless-refused, add-refusal, link-refusal, clear-refusal, read-refusal, trial-refusal, add-fits, link-fits, clear-fits, number-plan, add-sound, add-plan, link-sound, link-plan, clearing, clear-cleared, clear-plan}
+use Rattle.table.proofs.Clear.{Cleared}
+use Rattle.image.specs.Image.{imageSize, imageLength, writeRefusal, writeCall}
+use Rattle.keyline.specs.declared.Command.{Command}
+use Rattle.keyline.specs.declared.Command.the-variants.{Add, Link, Clear, Count}
+use Rattle.keyline.specs.declared.Decoded.{Decoded}
+use Rattle.keyline.specs.declared.Decoded.the-variants.{Line, Nothing}
+use Rattle.keyline.specs.Keys.{decode, callDigit, spokenCounts, perform, performLine, keyCall}
+use Rattle.history.specs.History.{Call, add, link, clear, read, trial, write, keyLine, Heard, onlyRefusal, heardAs, callOf, Ran, ran, run, Drawn, drawUnless, drawAdd, drawLink, drawClear, drawCount, unchanged, planWriteRefusal, drawCommand, drawLine, draw}
+
+-- an outcome and what is drawn beside it
+record Beside (digit : ℕ) (o : Outcome) (d : Drawn) : Type 0 where
+  sound : Sound (o .table)
+  plan : planOf (o .table) ≡ d .plan
+  heard : heardAs digit (o .answer) ≡ d .heard
+
+cond-same : (b : Bool) → _≡_ {A = ℕ} (cond b 0 0) 0
+cond-same true = refl
+cond-same false = refl
+
+heard-refused : (digit n : ℕ) → heardAs digit (Refused n) ≡ onlyRefusal n
+unfolding heardAs onlyRefusal refusalOf firstOf secondOf
+heard-refused digit n =
+    λ i.
+    record {
+      refusal = n;
+      given = cond-same (eqb digit 1) i;
+      freed = cond-same (eqb digit 3) i;
+      spokenUsed = cond-same (eqb digit 4) i;
+      spokenFree = cond-same (eqb digit 4) i;
+    }
+
+-- refused alike, or accepted with an outcome beside the drawing
+beside-unless : {t : Table} (digit n m : ℕ) (o : Outcome) (d : Drawn) → Sound t → n ≡ m → (n ≡ 0 → Beside digit o d) →
+    Beside digit (unless n t o) (drawUnless m (planOf t) d)
+unfolding drawUnless
+beside-unless {t} digit n m o d s q f =
+    ⊎-elim
+    (λ (z : n ≡ 0). rw (unless-zero n t o z, eq-eqb m 0 (sym q ∙ z)) (f z))
+    (λ (z : n ≡ 0 → ⊥).
+    rw (unless-refused n t o z, ne-eqb m 0 (λ y. z (q ∙ y)))
+    (record { sound = s; plan = refl; heard = heard-refused digit n ∙ ap onlyRefusal q }))
+    (eq-or-ne n 0)
+
+module _ {t : Table} (s : Sound t) where
+  beside-add : (holder e kind content : ℕ) → Beside 1 (addCall t holder e kind content) (drawAdd (planOf t) holder e kind content)
+  unfolding addCall drawAdd
+  beside-add holder e kind content =
+      beside-unless 1 _ _ _ _ s (add-refusal s holder e kind content)
+      (λ z.
+      let f = add-fits t holder e kind content z in
+      record { sound = add-sound s holder e kind content f; plan = add-plan s holder e kind content f; heard = given-heard (number-plan s) })
+    where
+      given-heard : {n m : ℕ} → n ≡ m → heardAs 1 (Given n 0) ≡ record { refusal = 0; given = m; freed = 0; spokenUsed = 0; spokenFree = 0 }
+      given-heard q = unfold heardAs refusalOf firstOf secondOf in (λ i. record { refusal = 0; given = q i; freed = 0; spokenUsed = 0; spokenFree = 0 })
+
+  beside-link : (source e second f : ℕ) → Beside 2 (linkCall t source e second f) (drawLink (planOf t) source e second f)
+  unfolding linkCall drawLink
+  beside-link source e second f =
+      beside-unless 2 _ _ _ _ s (link-refusal s source e second f)
+      (λ z.
+      let g = link-fits t source e second f z in
+      record {
+        sound = link-sound s source e second f g;
+        plan = link-plan s source e second f g;
+        heard = (unfold heardAs onlyRefusal refusalOf firstOf secondOf in refl);
+      })
+
+  emptied-count : (i e : ℕ) → stepsInUse (emptied t i e) ≡ stepsInUse t
+  emptied-count i e = unfold stepsInUse emptied Rattle.table.specs.Calls.relink Rattle.table.specs.Table.withLinks inUse in refl
+
+  beside-clear : (i e : ℕ) → Beside 3 (clearCall t i e) (drawClear (planOf t) i e)
+  unfolding clearCall drawClear
+  beside-clear i e =
+      beside-unless 3 _ _ _ _ s (clear-refusal s i e)
+      (λ z.
+      let g = clear-fits t i e z in
+      let r = clear-cleared s i e g in
+      let c = r .3 in
+      record {
+        sound = c .sound;
+        plan = clear-plan s i e g;
+        heard =
+            ap (heardAs 3) (r .2)
+            ∙ freed-heard (r .0)
+            (let before = plan-count (sound-wired s) in
+            let after = ap planCount (sym (clear-plan s i e g)) ∙ plan-count (sound-wired (c .sound)) in
+            let fall = c .fall in
+            let same = emptied-count i e in
+            omega arith);
+      })
+    where
+      freed-heard : (d : ℕ) {n m : ℕ} → n ≡ m → heardAs 3 (Given d n) ≡ record { refusal = 0; given = 0; freed = m; spokenUsed = 0; spokenFree = 0 }
+      freed-heard d q = unfold heardAs refusalOf firstOf secondOf in (λ i. record { refusal = 0; given = 0; freed = q i; spokenUsed = 0; spokenFree = 0 })
+
+  beside-count : Beside 4 (spokenCounts t) (drawCount (planOf t))
+  unfolding spokenCounts drawCount
+  beside-count =
+      record {
+        sound = s;
+        plan = refl;
+        heard = spoken (sym (plan-count (sound-wired s))) (ap₂ _-_ (sym (plan-capacity t)) (sym (plan-count (sound-wired s))));
+      }
+    where
+      spoken : {a b c d : ℕ} → a ≡ b → c ≡ d → heardAs 4 (Given a c) ≡ record { refusal = 0; given = 0; freed = 0; spokenUsed = b; spokenFree = d }
+      spoken q r = unfold heardAs refusalOf firstOf secondOf in (λ i. record { refusal = 0; given = 0; freed = 0; spokenUsed = q i; spokenFree = r i })
+
+  beside-command : (c : Command) → Beside (callDigit c) (perform t c) (drawCommand (planOf t) c)
+  unfolding callDigit perform drawCommand
+  beside-command (Add holder e kind content) = beside-add holder e kind content
+  beside-command (Link source e second f) = beside-link source e second f
+  beside-command (Clear i e) = beside-clear i e
+  beside-command Count = beside-count
+
+  beside-line : (d : Decoded) → Beside (callOf d) (performLine t d) (drawLine (planOf t) d)
+  unfolding callOf performLine drawLine unchanged
+  beside-line Nothing = record { sound = s; plan = refl; heard = heard-refused _ _ }
+  beside-line (Line c) = beside-command c
+
+  beside-keys : (bs : List ℕ) → Beside (callOf (decode bs)) (keyCall t bs) (drawLine (planOf t) (decode bs))
+  unfolding keyCall
+  beside-keys bs = rw (unless-zero _ t (performLine t (decode bs)) (past-sound s [] ∙ (unfold first in refl))) (beside-line (decode bs))
+
+  read-heard : (i : ℕ) → readCall t i .refusal ≡ planReadRefusal (planOf t) i
+  unfolding readCall
+  read-heard i = read-refusal s i
+
+  -- an accepted trial is refused by no number
+  tried-zero : (i moves : ℕ) (trace results : List ℕ) → triedRefusal (tryFrom t i moves trace results .answer) ≡ 0
+  unfolding tryFrom triedRefusal
+  tried-zero i moves trace [] = refl
+  tried-zero i moves trace (r ∷ rs) =
+      ⊎-elim (λ (h : holds t i r ≡ true). rw (h, tryFrom) (tried-zero (targetOf t i r) (moves + 1) (set trace moves (targetOf t i r)) rs))
+      (λ (h : holds t i r ≡ false). rw (h, tryFrom))
+      (test (holds t i r))
+
+  trial-heard : (results trace : List ℕ) → triedRefusal (trialCall t results trace .answer) ≡ planTrialRefusal results (length trace)
+  unfolding trialCall triedRefusal
+  trial-heard results trace =
+      let n = trialRefusal t results trace in
+      let here : triedRefusal (trialCall t results trace .answer) ≡ n =
+      ⊎-elim
+      (λ (z : n ≡ 0). rw (eq-eqb n 0 z) (tried-zero 0 0 trace results ∙ sym z))
+      (λ (z : n ≡ 0 → ⊥). rw (ne-eqb n 0 z))
+      (eq-or-ne n 0) in
+      here ∙ trial-refusal s results trace
+
+  write-refusal : (room : ℕ) → writeRefusal t room ≡ planWriteRefusal (planOf t) room
+  unfolding writeRefusal planWriteRefusal imageLength
+  write-refusal room =
+      past-sound s _ ∙ first-same (next (ap (λ (n : ℕ). ltb room (imageSize n)) (sym (plan-count (sound-wired s)))) (λ _. done))
+
+  written-refusal : (buffer : List ℕ) → refusalOf (writeCall t buffer .answer) ≡ writeRefusal t (length buffer)
+  unfolding writeCall refusalOf
+  written-refusal buffer =
+      ⊎-elim
+      (λ (z : writeRefusal t (length buffer) ≡ 0). rw (eq-eqb _ 0 z) (sym z))
+      (λ (z : writeRefusal t (length buffer) ≡ 0 → ⊥). rw (ne-eqb _ 0 z))
+      (eq-or-ne (writeRefusal t (length buffer)) 0)
+
+-- what a call on a sound table comes to
+pub record Agrees (t : Table) (c : Call) : Type 0 where
+  pub sound : Sound (run t c .table)
+  pub plan : planOf (run t c .table) ≡ draw (planOf t) c .plan
+  pub heard : run t c .heard ≡ draw (planOf t) c .heard
+
+pub call-agrees : {t : Table} → Sound t → (c : Call) → Agrees t c
+unfolding run ran draw unchanged
+call-agrees s (add holder e kind content) = let b = beside-add s holder e kind content in record { sound = b .sound; plan = b .plan; heard = b .heard }
+call-agrees s (link source e second f) = let b = beside-link s source e second f in record { sound = b .sound; plan = b .plan; heard = b .heard }
+call-agrees s (clear i e) = let b = beside-clear s i e in record { sound = b .sound; plan = b .plan; heard = b .heard }
+call-agrees s (read i) = record { sound = s; plan = refl; heard = ap onlyRefusal (read-heard s i) }
+call-agrees s (trial results trace) = record { sound = s; plan = refl; heard = ap onlyRefusal (trial-heard s results trace) }
+call-agrees s (write buffer) =
+    record { sound = s; plan = refl; heard = ap onlyRefusal (written-refusal s buffer ∙ write-refusal s (length buffer)) }
+call-agrees s (keyLine bs) = let b = beside-keys s bs in record { sound = b .sound; plan = b .plan; heard = b .heard }

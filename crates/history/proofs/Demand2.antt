@@ -1,0 +1,96 @@
+-- Demand 2, call by call: what an accepted add, link and clear do on a sound table, and the spoken counts. Assumes nothing.
+use mathlib.Core.Path.{_≡_, refl, sym, _∙_, ap, ap₂}
+use mathlib.Core.Bool.{Bool, true, false, _&&_, not}
+use mathlib.Core.Logic.{_↔_}
+use Prim.Native.Nat.{ℕ, _+_, _-_, _<_}
+use native.Mathlib.Omega.{arith}
+use Rattle.finite.specs.Reach.{Chain, reaches}
+use Rattle.finite.proofs.Bools.{and-intro, and-left, and-right, clash, refute, not-true-false}
+use Rattle.finite.proofs.Reach.{reach-sound, reach-complete}
+use Rattle.table.specs.declared.Table.{Table}
+use Rattle.table.specs.declared.Answer.the-variants.{Given}
+use Rattle.table.specs.declared.Outcome.{Outcome}
+use Rattle.table.specs.Table.{inUse, linked, stronglyLinked, stepsInUse, withLinks}
+use Rattle.table.specs.Sound.{Sound}
+use Rattle.table.specs.Calls.{relink, addRefusal, addCall, linkRefusal, linkCall}
+use Rattle.table.specs.Clear.{emptied, clearRefusal, clearCall}
+use Rattle.table.specs.Plan.{planOf}
+use Rattle.table.proofs.Links.{sound-wired, linked-below}
+use Rattle.table.proofs.Formed.{formed-wired}
+use Rattle.table.proofs.Spine.{strong-below}
+use Rattle.table.proofs.Plan.{plan-capacity, plan-count}
+use Rattle.table.proofs.Calls.{unless-zero, add-fits, link-fits, clear-fits, number-plan, add-sound, add-plan, link-sound, link-plan, clearing, clear-cleared, clear-plan}
+use Rattle.table.proofs.Clear.{Cleared, formed-emptied, sound-reached}
+use Rattle.keyline.specs.Keys.{spokenCounts}
+use Rattle.history.specs.Demands.{AddDemand, LinkDemand, ClearDemand, CountDemand}
+
+pub add-demand : (t : Table) → Sound t → (holder e kind content : ℕ) → addRefusal t holder e kind content ≡ 0 →
+    AddDemand t holder e kind content (addCall t holder e kind content)
+unfolding addCall
+add-demand t s holder e kind content z =
+    let f = add-fits t holder e kind content z in
+    rw (unless-zero _ t _ z)
+    (record {
+      sound = add-sound s holder e kind content f;
+      plan = add-plan s holder e kind content f;
+      answer = ap (λ (n : ℕ). Given n 0) (number-plan s);
+    })
+
+pub link-demand : (t : Table) → Sound t → (source e second f : ℕ) → linkRefusal t source e second f ≡ 0 →
+    LinkDemand t source e second f (linkCall t source e second f)
+unfolding linkCall
+link-demand t s source e second f z =
+    let g = link-fits t source e second f z in
+    rw (unless-zero _ t _ z)
+    (record { sound = link-sound s source e second f g; plan = link-plan s source e second f g; answer = refl })
+
+-- a computed reach and its chains
+reach-iff : (t : Table) → ((a b : ℕ) → linked t a b ≡ true → b < t .capacity) → 0 < t .capacity → (k : ℕ) →
+    (reaches (linked t) (t .capacity) 0 k ≡ true) ↔ ((n : ℕ) × Chain (linked t) 0 k n)
+reach-iff t edge low k = ((λ r. reach-sound (linked t) (t .capacity) 0 k r), λ c. reach-complete (linked t) (t .capacity) edge low (c .1))
+
+pub clear-demand : (t : Table) → Sound t → (i e : ℕ) → clearRefusal t i e ≡ 0 → ClearDemand t i e (clearCall t i e)
+unfolding clearCall emptied relink withLinks
+clear-demand t s i e z =
+    let g = clear-fits t i e z in
+    let r = clear-cleared s i e g in
+    let c = r .3 in
+    let u = emptied t i e in
+    let formed = formed-emptied t s i e (g .used) (g .exit) (g .filled) in
+    let w = formed-wired formed in
+    let links = reach-iff u (λ a b l. linked-below w a b l) (formed .least) in
+    let after = reach-iff (clearing s i e g .table) (λ a b l. linked-below (sound-wired (c .sound)) a b l) (c .sound .least) in
+    rw (unless-zero _ t (clearing s i e g) z)
+    (record {
+      sound = c .sound;
+      plan = clear-plan s i e g;
+      kept = λ k. ((λ y. links k .0 (sym (c .used k) ∙ y)), λ x. c .used k ∙ links k .1 x);
+      used = λ k. ((λ y. after k .0 (sym (sound-reached (c .sound) k) ∙ y)), λ x. sound-reached (c .sound) k ∙ after k .1 x);
+      doubts = r .0;
+      freed = r .1;
+      answer = r .2;
+      doubtful = λ k. inUse u k && not (reaches (stronglyLinked u) (u .capacity) 0 k);
+      doubted =
+          λ k. (
+            (λ y. (
+              and-left (inUse u k) _ y,
+              λ n x. clash (reach-complete (stronglyLinked u) (u .capacity) (strong-below w) (formed .least) (x .row)) (not-true-false _ (and-right (inUse u k) _ y)),
+            )),
+            λ y.
+                and-intro (y .0)
+                (ap not (refute _ (λ x. let p = reach-sound (stronglyLinked u) (u .capacity) 0 k x in y .1 (p .0) (record { begins = formed .alarm; row = p .1 })))),
+          );
+      counted = c .doubtfuls;
+      fall = c .fall ∙ emptied-count t i e;
+    })
+  where
+    emptied-count : (t : Table) (i e : ℕ) → stepsInUse (emptied t i e) ≡ stepsInUse t
+    emptied-count t i e = unfold stepsInUse emptied relink withLinks inUse in refl
+
+pub count-demand : (t : Table) → Sound t → CountDemand t (spokenCounts t)
+unfolding spokenCounts
+count-demand t s =
+    record {
+      same = refl;
+      spoken = ap₂ Given (sym (plan-count (sound-wired s))) (ap₂ _-_ (sym (plan-capacity t)) (sym (plan-count (sound-wired s))));
+    }

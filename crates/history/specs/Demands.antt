@@ -1,0 +1,67 @@
+-- Demands 2 and 3 as statements over the definitions; `Claims` of the proofs proves them. Assumes nothing.
+--   Demand3 f cs        of the history that begins with f and makes the calls cs
+--   AddDemand LinkDemand ClearDemand CountDemand   what an accepted call does on a sound table (demand 2)
+use mathlib.Core.Path.{_≡_}
+use mathlib.Core.Bool.{Bool, true}
+use mathlib.Core.Logic.{_↔_}
+use mathlib.Core.List.{List}
+use Prim.Native.Nat.{ℕ, _+_, _-_, _<_}
+use Rattle.finite.specs.Below.{count}
+use Rattle.finite.specs.Reach.{Chain}
+use Rattle.table.specs.declared.Table.{Table}
+use Rattle.table.specs.declared.Answer.{Answer}
+use Rattle.table.specs.declared.Answer.the-variants.{Given}
+use Rattle.table.specs.declared.Outcome.{Outcome}
+use Rattle.table.specs.Table.{places, counters, inUse, counterOf, linked, linksTo, stepsInUse, StrongChain}
+use Rattle.table.specs.Sound.{Sound}
+use Rattle.table.specs.Clear.{emptied}
+use Rattle.table.specs.Plan.{Plan, planOf, planCount, planNumber, planAdd, planLink, planClear}
+use Rattle.history.specs.History.{First, Call, tableAfter, heardBy, planAfter, drawnBy, firstRefusal, planFirstRefusal, firstTable, firstPlan}
+
+-- Demand 3, one statement about the whole history. "After the list"
+pub record Demand3 (f : First) (cs : List Call) : Type 0 where
+  -- "every strong chain has fewer links than there are steps in use"
+  pub short : (a b n : ℕ) → StrongChain (tableAfter (firstTable f) cs) a b n → n < stepsInUse (tableAfter (firstTable f) cs)
+  -- "every step in use but step 0 ends a strong chain from step 0"
+  pub reached : (i : ℕ) → inUse (tableAfter (firstTable f) cs) i ≡ true → (i ≡ 0 → ⊥) → (n : ℕ) × StrongChain (tableAfter (firstTable f) cs) 0 i n
+  -- "capacity, last number given, steps in use, their kinds, contents and targets equal those of the plain plan that the calls' arguments alone draw"
+  pub plan : planOf (tableAfter (firstTable f) cs) ≡ planAfter (firstPlan f) cs
+  -- "and so do all refusals, numbers given, freed counts and spoken counts"
+  pub begun : firstRefusal f ≡ planFirstRefusal f
+  pub heard : heardBy (firstTable f) cs ≡ drawnBy (firstPlan f) cs
+  -- "stored counters 0 and 1 of each step are the numbers of links to it with bit 0 and with bit 1"
+  pub counts : (i b : ℕ) → i < places → b < counters → counterOf (tableAfter (firstTable f) cs) i b ≡ linksTo (tableAfter (firstTable f) cs) i b
+
+-- Demand 2. "On a sound table, adding, linking and clearing change the plain plan as" the plan's own definitions say: o is the outcome.
+pub record AddDemand (t : Table) (holder e kind content : ℕ) (o : Outcome) : Type 0 where
+  pub sound : Sound (o .table)
+  pub plan : planOf (o .table) ≡ planAdd (planOf t) holder e kind content
+  pub answer : o .answer ≡ Given (planNumber (planOf t)) 0
+
+pub record LinkDemand (t : Table) (source e second f : ℕ) (o : Outcome) : Type 0 where
+  pub sound : Sound (o .table)
+  pub plan : planOf (o .table) ≡ planLink (planOf t) source e second f
+  pub answer : o .answer ≡ Given 0 0
+
+pub record ClearDemand (t : Table) (i e : ℕ) (o : Outcome) : Type 0 where
+  pub sound : Sound (o .table)
+  pub plan : planOf (o .table) ≡ planClear (planOf t) i e
+  -- "after a clearing, a step is in use exactly if a chain of links of either strength leads to it from step 0": once the exit is emptied, and
+  -- in the table handed back
+  pub kept : (k : ℕ) → (inUse (o .table) k ≡ true) ↔ ((n : ℕ) × Chain (linked (emptied t i e)) 0 k n)
+  pub used : (k : ℕ) → (inUse (o .table) k ≡ true) ↔ ((n : ℕ) × Chain (linked (o .table)) 0 k n)
+  -- "The answer is two counts: steps made doubtful, steps freed."
+  pub doubts : ℕ
+  pub freed : ℕ
+  pub answer : o .answer ≡ Given doubts freed
+  -- "the number of steps with no strong chain from step 0 once the exit is emptied, before any bit is flipped"
+  pub doubtful : ℕ → Bool
+  pub doubted : (k : ℕ) → (doubtful k ≡ true) ↔ ((inUse (emptied t i e) k ≡ true) × ((n : ℕ) → StrongChain (emptied t i e) 0 k n → ⊥))
+  pub counted : doubts ≡ count (t .capacity) doubtful
+  -- "freed is the fall in steps in use"
+  pub fall : stepsInUse (o .table) + freed ≡ stepsInUse t
+
+-- "the spoken counts are of those steps and of the free rest"
+pub record CountDemand (t : Table) (o : Outcome) : Type 0 where
+  pub same : o .table ≡ t
+  pub spoken : o .answer ≡ Given (planCount (planOf t)) (planOf t .capacity - planCount (planOf t))

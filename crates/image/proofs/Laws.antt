@@ -1,0 +1,52 @@
+-- What is claimed of images (document 01, "Image"), each law by citing where it is proved: written images load as the table that was written,
+-- accepted images are sound, draw the plan that their records say, and are written again with the same records. Assumes nothing.
+use mathlib.Core.Path.{_≡_}
+use mathlib.Core.Bool.{true}
+use mathlib.Core.List.{List}
+use Prim.Native.Nat.{ℕ, _<_}
+use lib.ListN.{length}
+use Rattle.finite.specs.Below.{count}
+use Rattle.table.specs.declared.Table.{Table}
+use Rattle.table.specs.declared.Answer.the-variants.{Given}
+use Rattle.table.specs.Table.{inUse}
+use Rattle.table.specs.Sound.{Sound, sound}
+use Rattle.table.specs.Plan.{planOf}
+use Rattle.table.proofs.Sound.{sound-test}
+use Rattle.image.specs.Image.{image, imageLength, countIn, numberIn, imageTable, accepted, loadCall, imagePlan, SameRecords}
+use Rattle.image.proofs.Written
+use Rattle.image.proofs.Loaded
+use Rattle.image.proofs.RoundTrip
+use Rattle.image.proofs.Rewritten
+
+-- the header has 10 bytes, and each record of a step in use 20
+pub image-length : (t : Table) → length (image t) ≡ imageLength t
+image-length t = Written.image-length t
+
+-- "each step in use has its record once", in the image of any table, sound or not
+pub used-written : (t : Table) (i : ℕ) → i < t .capacity → inUse t i ≡ true → (k : ℕ) × (k < countIn (image t)) × (numberIn (image t) k ≡ i)
+used-written t i h u = (count i (inUse t), Written.index-below t i h u, Written.image-number t i h u)
+
+pub image-distinct : (t : Table) (j k : ℕ) → j < countIn (image t) → k < countIn (image t) → numberIn (image t) j ≡ numberIn (image t) k → j ≡ k
+image-distinct t = Written.image-distinct t
+
+-- "and the image loads as the same table"
+pub decode-encode : (t : Table) → Sound t → imageTable (image t) ≡ t
+decode-encode t s = RoundTrip.decode-encode t s
+
+pub encode-accepted : (t : Table) → Sound t → accepted (image t) ≡ true
+encode-accepted t s = RoundTrip.encode-accepted t s (sound-test t s)
+
+pub load-encode : (t : Table) → Sound t → loadCall (image t) ≡ record { answer = Given 0 0; table = t }
+load-encode t s = RoundTrip.load-encode t s (sound-test t s)
+
+-- "accepted exactly if .. and the table sound"
+pub accepted-sound : (bs : List ℕ) → accepted bs ≡ true → sound (imageTable bs) ≡ true
+accepted-sound bs a = Loaded.accepted-sound bs a
+
+-- the plain plan starts "as the accepted image's records say"
+pub accepted-plan : (bs : List ℕ) → accepted bs ≡ true → planOf (imageTable bs) ≡ imagePlan bs
+accepted-plan bs a = Loaded.accepted-plan bs a
+
+-- an accepted image, loaded and written, differs at most in the order of its step records
+pub accepted-rewritten : (bs : List ℕ) → accepted bs ≡ true → SameRecords bs (image (imageTable bs))
+accepted-rewritten bs a = Rewritten.accepted-rewritten bs a

@@ -1,0 +1,8 @@
+-- The laws of the image, for every layer above; Laws states those that are claimed.
+pub mod Words
+pub mod Bits
+pub mod Written
+pub mod Loaded
+pub mod RoundTrip
+pub mod Rewritten
+pub mod Laws

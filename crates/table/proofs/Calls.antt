@@ -1,0 +1,247 @@
+-- Each call on a sound table, for any arguments: it is refused as its plan says, and where it is accepted the table handed back is sound and
+-- its plan is the plan's call. Assumes nothing.
+--   first-zero      no condition of an order holds
+--   add-refusal link-refusal clear-refusal read-refusal trial-refusal   the table's refusal is the plan's
+--   Accepted..      the conditions of an accepted call, as facts
+use mathlib.Core.Path.{_≡_, refl, sym, _∙_, ap, ap₂, subst}
+use mathlib.Core.Bool.{Bool, true, false, _&&_, not, cond}
+use mathlib.Core.Logic.{_⊎_, inl, inr, ⊎-elim}
+use mathlib.Core.List.{List, [], _∷_}
+use mathlib.Core.Option.{some}
+use Prim.Native.Nat.{ℕ, zero, suc, _+_, _-_, _≤_, _<_}
+use native.Mathlib.Omega.{arith}
+use lib.ListN.{length, getD, set, replicate}
+use lib.Dec.{eqb, leb, ltb}
+use borrow.Author.Tests.{eqb-true, eqb-false, eq-eqb, ne-eqb, leb-false}
+use Rattle.finite.specs.Below.{find}
+use Rattle.finite.specs.Reach.{reaches}
+use Rattle.finite.proofs.Bools.{and-left, and-right, clash, test, not-true-false, not-false-true}
+use Rattle.finite.proofs.Below.{find-ext}
+use Rattle.finite.proofs.Reach.{chain-keeps, reach-sound}
+use Rattle.table.specs.declared.Table.{Table}
+use Rattle.table.specs.declared.Answer.the-variants.{Given, Refused}
+use Rattle.table.specs.declared.Outcome.{Outcome}
+use Rattle.table.specs.Table.{exits, inUse, kindOf, contentOf, targetOf, holds, linked, stepsInUse}
+use Rattle.table.specs.Sound.{Sound, contentFits, sound}
+use Rattle.table.specs.Answer.{notSound, first, unless}
+use Rattle.table.specs.Calls.{numberGiven, relink, withStep, addRefusal, addTable, addCall, weakBit, linkRefusal, linkTable, linkCall, readRefusal, resultsFit, trialRefusal}
+use Rattle.table.specs.Clear.{emptied, stops, doubtful, repairOf, release, size, repaired, clearRefusal, clearCall}
+use Rattle.table.specs.Plan.{Plan, planOf, planInUse, planTarget, planHolds, planCount, planNumber, replan, withTarget, planAdd, planLink, pruned, planClear, planAddRefusal, planLinkRefusal, planClearRefusal, planReadRefusal, planTrialRefusal}
+use Rattle.table.proofs.Links.{Wired, sound-wired, linked-used}
+use Rattle.table.proofs.Sound.{sound-test}
+use Rattle.table.proofs.Formed.{Formed, sound-formed, formed-wired}
+use Rattle.table.proofs.Edits.{number-given, sound-link, sound-add, formed-with-step, with-step-kept}
+use Rattle.table.proofs.Clear.{Cleared, formed-emptied, cleared-stop, cleared-repair}
+use Rattle.table.proofs.Plan.{plan-capacity, plan-last, plan-used, plan-target, plan-holds, plan-count, plan-relink, plan-with-step, plan-pruned}
+
+-- two orders with the same conditions, each asked for only where those before it do not hold
+pub data Orders : List (Bool × ℕ) → List (Bool × ℕ) → Type 0 where
+  done : Orders [] []
+  next : {c c′ : Bool} {n : ℕ} {xs ys : List (Bool × ℕ)} → c ≡ c′ → (c ≡ false → Orders xs ys) → Orders ((c, n) ∷ xs) ((c′, n) ∷ ys)
+
+pub first-same : {xs ys : List (Bool × ℕ)} → Orders xs ys → first xs ≡ first ys
+unfolding first
+first-same done = refl
+first-same (next {c} {c′} {n} {xs} {ys} q f) = go c c′ q (λ z. first-same (f z))
+  where
+    go : (c c′ : Bool) → c ≡ c′ → (c ≡ false → first xs ≡ first ys) → cond c n (first xs) ≡ cond c′ n (first ys)
+    go true c′ q g = rw (sym q)
+    go false c′ q g = rw (sym q) (g refl)
+
+-- no number of an order is 0
+unfoldable pub nonzero : List (Bool × ℕ) → Bool
+nonzero [] = true
+nonzero (x ∷ xs) = not (eqb (x .1) 0) && nonzero xs
+
+cond-zero : (c : Bool) (n r : ℕ) → not (eqb n 0) ≡ true → cond c n r ≡ 0 → (c ≡ false) × (r ≡ 0)
+cond-zero true n r d q = absurd (eqb-false n 0 (not-true-false _ d) q)
+cond-zero false n r d q = (refl, q)
+
+-- where the refusal is 0, no condition holds
+pub first-zero : (xs : List (Bool × ℕ)) → first xs ≡ 0 → nonzero xs ≡ true → (k : ℕ) → getD xs k (false, 0) .0 ≡ false
+unfolding first nonzero
+first-zero [] z d k = refl
+first-zero (x ∷ xs) z d zero = cond-zero (x .0) (x .1) (first xs) (and-left (not (eqb (x .1) 0)) (nonzero xs) d) z .0
+first-zero (x ∷ xs) z d (suc k) =
+    first-zero xs (cond-zero (x .0) (x .1) (first xs) (and-left (not (eqb (x .1) 0)) (nonzero xs) d) z .1)
+    (and-right (not (eqb (x .1) 0)) (nonzero xs) d)
+    k
+
+pub unless-zero : (n : ℕ) (t : Table) (o : Outcome) → n ≡ 0 → unless n t o ≡ o
+unfolding unless
+unless-zero n t o q = rw (eq-eqb n 0 q)
+
+pub unless-refused : (n : ℕ) (t : Table) (o : Outcome) → (n ≡ 0 → ⊥) → unless n t o ≡ record { answer = Refused n; table = t }
+unfolding unless
+unless-refused n t o d = rw (ne-eqb n 0 d)
+
+module _ {t : Table} (s : Sound t) where
+  w : Wired t
+  w = sound-wired s
+
+  -- a sound table passes the first condition of every order
+  pub past-sound : (xs : List (Bool × ℕ)) → first ((not (sound t), notSound) ∷ xs) ≡ first xs
+  unfolding first
+  past-sound xs = rw (sound-test t s)
+
+  pub add-refusal : (holder e kind content : ℕ) → addRefusal t holder e kind content ≡ planAddRefusal (planOf t) holder e kind content
+  unfolding addRefusal planAddRefusal
+  add-refusal holder e kind content =
+      past-sound _
+      ∙ first-same
+      (next (ap not (sym (plan-used w holder)))
+      (λ _. next refl
+      (λ l. next (sym (plan-holds w holder e (leb-false exits e l)))
+      (λ _. next refl (λ _. next (ap₂ eqb (sym (plan-count w)) (sym (plan-capacity t))) (λ _. done))))))
+
+  pub link-refusal : (source e second f : ℕ) → linkRefusal t source e second f ≡ planLinkRefusal (planOf t) source e second f
+  unfolding linkRefusal planLinkRefusal
+  link-refusal source e second f =
+      past-sound _
+      ∙ first-same
+      (next (ap not (sym (plan-used w source)))
+      (λ _. next refl
+      (λ l. next (ap not (sym (plan-holds w source e (leb-false exits e l))))
+      (λ _. next (ap not (sym (plan-used w second)))
+      (λ _. next refl (λ x. next (sym (plan-holds w second f (leb-false exits f x))) (λ _. done)))))))
+
+  pub clear-refusal : (i e : ℕ) → clearRefusal t i e ≡ planClearRefusal (planOf t) i e
+  unfolding clearRefusal planClearRefusal
+  clear-refusal i e =
+      past-sound _
+      ∙ first-same
+      (next (ap not (sym (plan-used w i)))
+      (λ _. next refl (λ l. next (ap not (sym (plan-holds w i e (leb-false exits e l)))) (λ _. done))))
+
+  pub read-refusal : (i : ℕ) → readRefusal t i ≡ planReadRefusal (planOf t) i
+  unfolding readRefusal planReadRefusal
+  read-refusal i = past-sound _ ∙ first-same (next (ap not (sym (plan-used w i))) (λ _. done))
+
+  pub trial-refusal : (results trace : List ℕ) → trialRefusal t results trace ≡ planTrialRefusal results (length trace)
+  unfolding trialRefusal planTrialRefusal
+  trial-refusal results trace = past-sound _
+
+-- the conditions of an accepted call
+pub record AddFits (t : Table) (holder e kind content : ℕ) : Type 0 where
+  pub used : inUse t holder ≡ true
+  pub exit : e < exits
+  pub empty : holds t holder e ≡ false
+  pub fits : contentFits kind content ≡ true
+  pub room : stepsInUse t ≡ t .capacity → ⊥
+
+pub record LinkFits (t : Table) (source e second f : ℕ) : Type 0 where
+  pub used : inUse t source ≡ true
+  pub exit : e < exits
+  pub filled : holds t source e ≡ true
+  pub second-used : inUse t second ≡ true
+  pub second-exit : f < exits
+  pub empty : holds t second f ≡ false
+
+pub record ClearFits (t : Table) (i e : ℕ) : Type 0 where
+  pub used : inUse t i ≡ true
+  pub exit : e < exits
+  pub filled : holds t i e ≡ true
+
+pub add-fits : (t : Table) (holder e kind content : ℕ) → addRefusal t holder e kind content ≡ 0 → AddFits t holder e kind content
+unfolding addRefusal nonzero
+add-fits t holder e kind content z =
+    let at = first-zero _ z refl in
+    record {
+      used = not-false-true _ (at 1);
+      exit = leb-false exits e (at 2);
+      empty = at 3;
+      fits = not-false-true _ (at 4);
+      room = eqb-false _ _ (at 5);
+    }
+
+pub link-fits : (t : Table) (source e second f : ℕ) → linkRefusal t source e second f ≡ 0 → LinkFits t source e second f
+unfolding linkRefusal nonzero
+link-fits t source e second f z =
+    let at = first-zero _ z refl in
+    record {
+      used = not-false-true _ (at 1);
+      exit = leb-false exits e (at 2);
+      filled = not-false-true _ (at 3);
+      second-used = not-false-true _ (at 4);
+      second-exit = leb-false exits f (at 5);
+      empty = at 6;
+    }
+
+pub clear-fits : (t : Table) (i e : ℕ) → clearRefusal t i e ≡ 0 → ClearFits t i e
+unfolding clearRefusal nonzero
+clear-fits t i e z =
+    let at = first-zero _ z refl in
+    record { used = not-false-true _ (at 1); exit = leb-false exits e (at 2); filled = not-false-true _ (at 3) }
+
+module _ {t : Table} (s : Sound t) where
+  pub number-plan : numberGiven (t .capacity) (t .last) (λ k. not (inUse t k)) ≡ planNumber (planOf t)
+  unfolding planNumber planOf
+  number-plan = number-ext (t .capacity) (t .last) _ _ (λ k. ap not (sym (plan-used (sound-wired s) k)))
+    where
+      number-ext : (n last : ℕ) (p q : ℕ → Bool) → ((k : ℕ) → p k ≡ q k) → numberGiven n last p ≡ numberGiven n last q
+      number-ext n last p q h = unfold numberGiven in find-ext n _ _ p q h
+
+  module _ (holder e kind content : ℕ) (f : AddFits t holder e kind content) where
+    abbrev n : ℕ
+    n = numberGiven (t .capacity) (t .last) (λ k. not (inUse t k))
+
+    pub add-sound : Sound (addTable t holder e kind content n)
+    add-sound =
+        let g = number-given s (f .room) in
+        sound-add t s holder e kind content n (f .used) (f .exit) (f .empty) (f .fits) (g .2) (g .1) (g .0)
+
+    pub add-plan : planOf (addTable t holder e kind content n) ≡ planAdd (planOf t) holder e kind content
+    unfolding addTable planAdd
+    add-plan =
+        let g = number-given s (f .room) in
+        let formed = formed-with-step t (sound-formed s) n kind content (g .2) (g .1) (g .0) (f .fits) in
+        let kept = with-step-kept t (sound-formed s) n kind content (g .2) (g .1) (g .0) (f .fits) holder (f .used) in
+        plan-relink (withStep t n kind content) formed holder e n 0 kept (f .exit)
+        ∙ ap (λ (p : Plan). withTarget p holder e n) (plan-with-step t (sound-formed s) n kind content (g .2) (g .1) (g .0) (f .fits))
+        ∙ ap
+        (λ (m : ℕ).
+        withTarget (replan (planOf t) m (set (planOf t .steps) m (some (record { kind = kind; content = content; targets = replicate exits 0 })))) holder e m)
+        number-plan
+
+  module _ (source e second f : ℕ) (g : LinkFits t source e second f) where
+    pub link-sound : Sound (linkTable t source e second f)
+    link-sound = sound-link t s source e second f (g .used) (g .exit) (g .filled) (g .second-used) (g .second-exit) (g .empty)
+
+    pub link-plan : planOf (linkTable t source e second f) ≡ planLink (planOf t) source e second f
+    unfolding linkTable planLink
+    link-plan =
+        plan-relink t (sound-formed s) second f (targetOf t source e) (weakBit t (targetOf t source e)) (g .second-used) (g .second-exit)
+        ∙ ap (withTarget (planOf t) second f) (sym (plan-target (sound-wired s) source e (g .exit)))
+
+  module _ (i e : ℕ) (g : ClearFits t i e) where
+    -- the outcome of an accepted clearing
+    abbrev pub clearing : Outcome
+    clearing = cond (stops t i e) (record { answer = Given 0 0; table = emptied t i e }) (repaired (emptied t i e))
+
+    pub clear-cleared : (doubts : ℕ) × (freed : ℕ) × (clearing .answer ≡ Given doubts freed) × Cleared (emptied t i e) doubts freed (clearing .table)
+    unfolding repaired repairOf
+    clear-cleared =
+        ⊎-elim
+        (λ (h : stops t i e ≡ true). rw h (0, 0, refl, cleared-stop t s i e (g .used) (g .exit) (g .filled) h))
+        (λ (h : stops t i e ≡ false). rw h (_, _, refl, cleared-repair t s i e (g .used) (g .exit) (g .filled)))
+        (test (stops t i e))
+
+    pub clear-plan : planOf (clearing .table) ≡ planClear (planOf t) i e
+    unfolding planClear
+    clear-plan =
+        let c = clear-cleared .3 in
+        let formed = formed-emptied t s i e (g .used) (g .exit) (g .filled) in
+        plan-pruned (emptied t i e) (clearing .table) (formed-wired formed) (c .capacity) (c .last) (c .used)
+        (λ k y. cleared-still k y)
+        (c .kind)
+        (c .content)
+        (c .target)
+        ∙ ap pruned (unfold emptied in plan-relink t (sound-formed s) i e 0 0 (g .used) (g .exit))
+      where
+        cleared-still : (k : ℕ) → inUse (clearing .table) k ≡ true → inUse (emptied t i e) k ≡ true
+        cleared-still k y =
+            let f = formed-wired (formed-emptied t s i e (g .used) (g .exit) (g .filled)) in
+            let r = reach-sound (linked (emptied t i e)) _ 0 k (sym (clear-cleared .3 .used k) ∙ y) in
+            chain-keeps (λ x. inUse (emptied t i e) x ≡ true) (λ a b _ l. linked-used f a b l .1)
+            (formed-emptied t s i e (g .used) (g .exit) (g .filled) .alarm)
+            (r .1)

@@ -1,0 +1,216 @@
+-- A table whose fields are in order, whatever its strong links: the clauses of `Sound` but the last two. Edits of one exit or one bit keep it.
+-- Assumes nothing.
+--   Formed t        all clauses of `Sound` but those on rings and on reach, with exact counters for free steps too
+--   Fit t j b       (j, b) may stand in an exit: it is empty, or a link to a step in use
+use mathlib.Core.Path.{_≡_, refl, sym, _∙_, ap, subst}
+use mathlib.Core.Bool.{Bool, true, false, _&&_, not, cond}
+use mathlib.Core.Logic.{_⊎_, inl, inr, ⊎-elim}
+use Prim.Native.Nat.{ℕ, zero, suc, _+_, _*_, _-_, _/_, _%_, _≤_, _<_}
+use native.Mathlib.Omega.{arith}
+use lib.ListN.{length, getD, set, length-set}
+use lib.Seq.{getD-set-same, getD-set-other}
+use lib.Dec.{eqb}
+use borrow.Author.Tests.{eqb-true, eqb-false, eq-eqb, ne-eqb}
+use Rattle.finite.specs.Below.{count}
+use Rattle.finite.proofs.Bools.{and-intro, and-left, and-right, clash, refute, test, not-true-false}
+use Rattle.finite.proofs.Below.{eq-or-ne, count-none}
+use Rattle.table.specs.declared.Table.{Table}
+use Rattle.table.specs.Table.{places, exits, counters, exitPlace, inUse, kindOf, contentOf, ownBit, targetOf, linkBit, counterOf, holds, strong, countsAt, linksTo, withLinks, withSteps}
+use Rattle.table.specs.Sound.{Shape, Blank, Sound, kindFits}
+use Rattle.table.specs.Calls.{relink}
+use Rattle.table.specs.Clear.{flipped}
+use Rattle.table.proofs.Links.{Wired, sound-wired, used-below, used-place, holder-used, holds-target, target-holds, empty-target, target-empty}
+use Rattle.table.proofs.Relink.{Exact, exit-place-below, exit-place-split, relink-shape, relink-target, relink-bit, relink-target-other, relink-bit-other, relink-exact}
+
+pub record Formed (t : Table) : Type 0 where
+  pub shape : Shape t
+  pub least : 1 ≤ t .capacity
+  pub most : t .capacity ≤ places
+  pub last : t .last < t .capacity
+  pub above : (i : ℕ) → t .capacity ≤ i → i < places → inUse t i ≡ false
+  pub alarm : inUse t 0 ≡ true
+  pub kinds : (i : ℕ) → inUse t i ≡ true → kindFits i (kindOf t i) (contentOf t i) ≡ true
+  pub own : (i : ℕ) → inUse t i ≡ true → ownBit t i < 2
+  pub bits : (i e : ℕ) → inUse t i ≡ true → e < exits → linkBit t i e < 2
+  pub targets : (i e : ℕ) → inUse t i ≡ true → e < exits → holds t i e ≡ true → inUse t (targetOf t i e) ≡ true
+  pub empty : (i e : ℕ) → inUse t i ≡ true → e < exits → holds t i e ≡ false → linkBit t i e ≡ 0
+  pub free : (i : ℕ) → i < places → inUse t i ≡ false → Blank t i
+  pub exact : Exact t
+
+-- no exit leads to k: no link to it is counted
+pub none-lead : (t : Table) (k c : ℕ) → ((i e : ℕ) → e < exits → holds t i e ≡ true → targetOf t i e ≡ k → ⊥) → linksTo t k c ≡ 0
+unfolding linksTo countsAt targetOf
+none-lead t k c alone =
+    count-none (t .capacity * exits) _
+    (λ p l.
+    refute (countsAt t k c p)
+    (λ h.
+    let both = and-left (not (eqb k 0) && eqb (getD (t .targets) p 0) k) _ h in
+    let same : getD (t .targets) p 0 ≡ k = eqb-true _ _ (and-right (not (eqb k 0)) _ both) in
+    let nonzero : k ≡ 0 → ⊥ = eqb-false k 0 (not-true-false _ (and-left (not (eqb k 0)) _ both)) in
+    let here : targetOf t (p / exits) (p % exits) ≡ k = ap (λ (q : ℕ). getD (t .targets) q 0) (exit-place-split p) ∙ same in
+    alone (p / exits) (p % exits) (omega arith) (target-holds t (p / exits) (p % exits) (λ z. nonzero (sym here ∙ z))) here))
+
+-- where links lead to steps in use alone, no link leads to a free step
+pub no-links : (t : Table) → ((i e : ℕ) → e < exits → holds t i e ≡ true → inUse t (targetOf t i e) ≡ true) →
+    (k c : ℕ) → inUse t k ≡ false → linksTo t k c ≡ 0
+no-links t lead k c f = none-lead t k c (λ i e l h q. clash (rw q at (lead i e l h)) f)
+
+-- a held exit leads to a step in use
+pub lead-used : {t : Table} → Wired t → (i e : ℕ) → e < exits → holds t i e ≡ true → inUse t (targetOf t i e) ≡ true
+lead-used w i e l h = w .targets i e (holder-used w i e l h) l h
+
+pub sound-formed : {t : Table} → Sound t → Formed t
+sound-formed {t} s =
+    record {
+      shape = s .shape;
+      least = s .least;
+      most = s .most;
+      last = s .last;
+      above = s .above;
+      alarm = s .alarm;
+      kinds = s .kinds;
+      own = s .own;
+      bits = s .bits;
+      targets = s .targets;
+      empty = s .empty;
+      free = s .free;
+      exact =
+          λ k c l b.
+          ⊎-elim (λ u. s .counts k c u b)
+          (λ f. s .free k l f .counts c b ∙ sym (no-links t (lead-used (sound-wired s)) k c f))
+          (test (inUse t k));
+    }
+
+pub formed-wired : {t : Table} → Formed t → Wired t
+formed-wired f = record { shape = f .shape; most = f .most; above = f .above; targets = f .targets; free = f .free }
+
+pub formed-place : {t : Table} → Formed t → (i : ℕ) → inUse t i ≡ true → i < places
+formed-place f = used-place (f .shape)
+
+pub formed-below : {t : Table} → Formed t → (i : ℕ) → inUse t i ≡ true → i < t .capacity
+formed-below f = used-below (formed-wired f)
+
+abbrev pub Fit : Table → ℕ → ℕ → Type 0
+Fit t j b = ((j ≡ 0) × (b ≡ 0)) ⊎ ((inUse t j ≡ true) × (j ≡ 0 → ⊥) × (b < 2))
+
+fit-bit : (t : Table) (j b : ℕ) → Fit t j b → b < 2
+fit-bit t j b = ⊎-elim (λ z. omega (arith, z .1)) (λ f. f .2)
+
+-- one exit, or all others
+pub at-exit : (i e k f : ℕ) → ((k ≡ i) × (f ≡ e)) ⊎ ((k ≡ i) × (f ≡ e) → ⊥)
+at-exit i e k f =
+    ⊎-elim (λ a. ⊎-elim (λ b. inl (a, b)) (λ b. inr (λ c. b (c .1))) (eq-or-ne f e)) (λ a. inr (λ c. a (c .0))) (eq-or-ne k i)
+
+module _ (t : Table) (g : Formed t) (i e j b : ℕ) (u : inUse t i ≡ true) (le : e < exits) (fit : Fit t j b) where
+  fit-below : j < places
+  fit-below = ⊎-elim (λ z. omega (arith, z .0)) (λ f. formed-place g j (f .0)) fit
+
+  lead : (k f : ℕ) → f < exits → holds (relink t i e j b) k f ≡ true → inUse t (targetOf (relink t i e j b) k f) ≡ true
+  lead k f l h =
+      let li = formed-place g i u in
+      ⊎-elim
+      (λ (s : (k ≡ i) × (f ≡ e)).
+      let here : targetOf (relink t i e j b) k f ≡ j = rw (s .0, s .1) (relink-target t (g .shape) i e j b li le) in
+      rw here (⊎-elim (λ z. absurd (holds-target _ k f h (here ∙ z .0))) (λ y. y .0) fit))
+      (λ d.
+      let other = relink-target-other t (g .shape) i e j b li le k f l d in
+      rw other (lead-used (formed-wired g) k f l (target-holds t k f (λ z. holds-target _ k f h (other ∙ z)))))
+      (at-exit i e k f)
+
+  pub formed-relink : Formed (relink t i e j b)
+  unfolding relink withLinks inUse kindOf contentOf ownBit
+  formed-relink =
+      let li = formed-place g i u in
+      let w = formed-wired g in
+      let old : targetOf t i e < places =
+      ⊎-elim (λ h. formed-place g (targetOf t i e) (g .targets i e u le h)) (λ h. omega (arith, empty-target t i e h)) (test (holds t i e)) in
+      let exact = relink-exact t (g .shape) i e j b li le (formed-below g i u) old (g .bits i e u le) fit-below (fit-bit t j b fit) (g .exact) in
+      record {
+        shape = relink-shape t (g .shape) i e j b li le;
+        least = g .least;
+        most = g .most;
+        last = g .last;
+        above = g .above;
+        alarm = g .alarm;
+        kinds = g .kinds;
+        own = g .own;
+        bits =
+            λ k f v l.
+            ⊎-elim
+            (λ (s : (k ≡ i) × (f ≡ e)). rw (s .0, s .1, relink-bit t (g .shape) i e j b li le) (fit-bit t j b fit))
+            (λ d. rw (relink-bit-other t (g .shape) i e j b li le k f l d) (g .bits k f v l))
+            (at-exit i e k f);
+        targets = λ k f v l h. lead k f l h;
+        empty =
+            λ k f v l h.
+            ⊎-elim
+            (λ (s : (k ≡ i) × (f ≡ e)).
+            let here : targetOf (relink t i e j b) k f ≡ j = rw (s .0, s .1) (relink-target t (g .shape) i e j b li le) in
+            let bit : linkBit (relink t i e j b) k f ≡ b = rw (s .0, s .1) (relink-bit t (g .shape) i e j b li le) in
+            bit ∙ ⊎-elim (λ z. z .1) (λ y. absurd (y .1 (sym here ∙ empty-target _ k f h))) fit)
+            (λ d.
+            relink-bit-other t (g .shape) i e j b li le k f l d
+            ∙ g .empty k f v l (target-empty t k f (sym (relink-target-other t (g .shape) i e j b li le k f l d) ∙ empty-target _ k f h)))
+            (at-exit i e k f);
+        free =
+            λ k l f.
+            let blank = g .free k l f in
+            let apart : (e′ : ℕ) → (k ≡ i) × (e′ ≡ e) → ⊥ = λ e′ s. clash u (rw (s .0) at f) in
+            record {
+              used = blank .used;
+              kind = blank .kind;
+              content = blank .content;
+              own = blank .own;
+              targets = λ e′ x. relink-target-other t (g .shape) i e j b li le k e′ x (apart e′) ∙ blank .targets e′ x;
+              bits = λ e′ x. relink-bit-other t (g .shape) i e j b li le k e′ x (apart e′) ∙ blank .bits e′ x;
+              counts = λ c x. exact k c l x ∙ no-links (relink t i e j b) lead k c f;
+            };
+        exact = exact;
+      }
+
+-- the step's own bit changes no link and no counter
+pub formed-flipped : (t : Table) → Formed t → (k : ℕ) → inUse t k ≡ true → Formed (flipped t k)
+unfolding flipped withSteps inUse kindOf contentOf ownBit targetOf linkBit holds counterOf linksTo countsAt
+formed-flipped t g k u =
+    let lk : k < length (t .own) = rw (g .shape .own) (formed-place g k u) in
+    record {
+      shape =
+          record {
+            used = g .shape .used;
+            kinds = g .shape .kinds;
+            contents = g .shape .contents;
+            own = length-set (t .own) _ _ ∙ g .shape .own;
+            targets = g .shape .targets;
+            bits = g .shape .bits;
+            counts = g .shape .counts;
+          };
+      least = g .least;
+      most = g .most;
+      last = g .last;
+      above = g .above;
+      alarm = g .alarm;
+      kinds = g .kinds;
+      own =
+          λ i v.
+          ⊎-elim
+          (λ (s : i ≡ k). rw (s, getD-set-same (t .own) k (1 - getD (t .own) k 0) 0 lk) (omega arith))
+          (λ d. rw (getD-set-other (t .own) k i (1 - getD (t .own) k 0) 0 d) (g .own i v))
+          (eq-or-ne i k);
+      bits = g .bits;
+      targets = g .targets;
+      empty = g .empty;
+      free =
+          λ i l f.
+          let blank = g .free i l f in
+          record {
+            used = blank .used;
+            kind = blank .kind;
+            content = blank .content;
+            own = getD-set-other (t .own) k i (1 - getD (t .own) k 0) 0 (λ s. clash u (rw s at f)) ∙ blank .own;
+            targets = blank .targets;
+            bits = blank .bits;
+            counts = blank .counts;
+          };
+      exact = g .exact;
+    }

@@ -1,0 +1,245 @@
+//! The calls on a table but images and key lines; refusals are ordered lists of conditions.
+//! Edits take a `Fault`, so that wrong variants can be run against the right one.
+//! Renders "Calls" and "Reasons for no" of document 01.
+
+use crate::clearing;
+use crate::sound::{fits, sound};
+use crate::table::{place, Table, EXITS, PLACES};
+
+/// An answer: the refusal or 0, then two numbers.
+#[derive(Clone, Copy, PartialEq, Eq, Debug, Default)]
+pub struct Answer {
+    pub refusal: u16,
+    pub first: u16,
+    pub second: u16,
+}
+
+/// The answer to a read: the refusal or 0, then all fields of the step.
+#[derive(Clone, PartialEq, Eq, Debug, Default)]
+pub struct ReadAnswer {
+    pub refusal: u16,
+    pub kind: u16,
+    pub content: u16,
+    pub own: u16,
+    pub targets: [u16; 4],
+    pub bits: [u16; 4],
+    pub counts: [u16; 2],
+}
+
+/// How a trial ends: at an empty exit, or with no results left.
+#[derive(Clone, Copy, PartialEq, Eq, Debug, Default)]
+pub enum Ending {
+    #[default]
+    Open = 0,
+    Spent = 1,
+}
+
+/// The answer to a trial. `moves` is as wide as the length of the results.
+#[derive(Clone, PartialEq, Eq, Debug, Default)]
+pub struct TrialAnswer {
+    pub refusal: u16,
+    pub ending: Ending,
+    pub last: u16,
+    pub moves: usize,
+}
+
+/// What a key line can ask for. The first three are calls of their own too.
+#[derive(Clone, Copy, PartialEq, Eq, Debug)]
+pub enum Command {
+    Add { holder: u16, exit: u16, kind: u16, content: u16 },
+    Link { source: u16, source_exit: u16, second: u16, second_exit: u16 },
+    Clear { step: u16, exit: u16 },
+    Count,
+}
+
+/// A deliberate error in the edits.
+#[derive(Clone, Copy, PartialEq, Eq, Debug)]
+pub enum Fault {
+    /// No error.
+    None,
+    /// A copy takes the bit of its original.
+    CopyKeepsStrength,
+    /// Clearing empties the exit and does nothing else.
+    SkipRepair,
+    /// Linking counts the copy twice.
+    CounterOffByOne,
+    /// Add looks at the kind before the exit to be filled.
+    SwappedRefusals,
+    /// Clearing takes the highest doubtful step first.
+    HighestFirst,
+}
+
+/// A fresh table; of capacity 1 where the capacity is refused.
+pub fn fresh(capacity: u16) -> (Table, Answer) {
+    let accepted = (1..=PLACES).contains(&usize::from(capacity));
+    let mut table = Table::zero();
+    table.capacity = if accepted { capacity } else { 1 };
+    table.used[0] = 1;
+    (table, bare(if accepted { 0 } else { 2 }))
+}
+
+/// Puts a new step at an empty exit; answers its number.
+pub fn add(table: &mut Table, holder: u16, exit: u16, kind: u16, content: u16) -> Answer {
+    let command = Command::Add { holder, exit, kind, content };
+    edit(table, command, Fault::None)
+}
+
+/// Copies the target of the source's exit into the second exit.
+pub fn link(
+    table: &mut Table,
+    source: u16,
+    source_exit: u16,
+    second: u16,
+    second_exit: u16,
+) -> Answer {
+    let command = Command::Link { source, source_exit, second, second_exit };
+    edit(table, command, Fault::None)
+}
+
+/// Clears an exit; answers the steps made doubtful and the steps freed.
+pub fn clear(table: &mut Table, step: u16, exit: u16) -> Answer {
+    edit(table, Command::Clear { step, exit }, Fault::None)
+}
+
+/// All fields of a step.
+pub fn read(table: &Table, step: u16) -> ReadAnswer {
+    let refusal = first_refusal(&[(1, !sound(table)), (3, !table.has(step))]);
+    if refusal != 0 {
+        return ReadAnswer { refusal, ..Default::default() };
+    }
+    let step = usize::from(step);
+    ReadAnswer {
+        refusal: 0,
+        kind: table.kinds[step],
+        content: table.contents[step],
+        own: table.own[step],
+        targets: std::array::from_fn(|exit| table.targets[place(step, exit)]),
+        bits: std::array::from_fn(|exit| table.bits[place(step, exit)]),
+        counts: [table.counts[step * 2], table.counts[step * 2 + 1]],
+    }
+}
+
+/// Follows line results from step 0 and writes each step entered into the trace.
+pub fn trial(table: &Table, results: &[u8], trace: &mut [u8]) -> TrialAnswer {
+    let refusal = first_refusal(&[
+        (1, !sound(table)),
+        (10, results.iter().any(|&result| result > 3)),
+        (11, trace.len() < results.len()),
+    ]);
+    let mut answer = TrialAnswer { refusal, ..Default::default() };
+    if refusal != 0 {
+        return answer;
+    }
+    for &result in results {
+        let target = table.target(answer.last, result.into());
+        if target == 0 {
+            return answer;
+        }
+        trace[answer.moves] = target as u8;
+        answer.moves += 1;
+        answer.last = target;
+    }
+    answer.ending = Ending::Spent;
+    answer
+}
+
+/// Carries out a command, with a fault or without.
+pub fn edit(table: &mut Table, command: Command, fault: Fault) -> Answer {
+    let refusal = edit_refusal(table, command, fault);
+    if refusal != 0 {
+        return bare(refusal);
+    }
+    let (first, second) = match command {
+        Command::Add { holder, exit, kind, content } => {
+            (accepted_add(table, holder, exit, kind, content), 0)
+        }
+        Command::Link { source, source_exit, second, second_exit } => {
+            let from = place(source.into(), source_exit.into());
+            let to = place(second.into(), second_exit.into());
+            accepted_link(table, from, to, fault);
+            (0, 0)
+        }
+        Command::Clear { step, exit } => {
+            clearing::clear_exit(table, place(step.into(), exit.into()), fault)
+        }
+        Command::Count => (table.size(), table.capacity - table.size()),
+    };
+    Answer { refusal: 0, first, second }
+}
+
+/// The answer with this refusal, or 0, and all other numbers zero.
+pub fn bare(refusal: u16) -> Answer {
+    Answer { refusal, ..Default::default() }
+}
+
+/// The number of the first condition that holds, or 0.
+pub fn first_refusal(order: &[(u16, bool)]) -> u16 {
+    let found = order.iter().find(|(_, holds)| *holds);
+    found.map_or(0, |(number, _)| *number)
+}
+
+/// The refusal of a command, by its order. Every condition can be read on any table.
+fn edit_refusal(table: &Table, command: Command, fault: Fault) -> u16 {
+    let no_step = |step| (3, !table.has(step));
+    let no_exit = |exit| (4, usize::from(exit) >= EXITS);
+    let filled = |step, exit| (5, table.target(step, exit) != 0);
+    let empty = |step, exit| (6, table.target(step, exit) == 0);
+    let mut order = vec![(1, !sound(table))];
+    match command {
+        Command::Add { holder, exit, kind, content } => {
+            order.extend([
+                no_step(holder),
+                no_exit(exit),
+                filled(holder, exit),
+                (7, !fits(kind, content)),
+                (8, table.size() == table.capacity),
+            ]);
+            if fault == Fault::SwappedRefusals {
+                order.swap(3, 4);
+            }
+        }
+        Command::Link { source, source_exit, second, second_exit } => order.extend([
+            no_step(source),
+            no_exit(source_exit),
+            empty(source, source_exit),
+            no_step(second),
+            no_exit(second_exit),
+            filled(second, second_exit),
+        ]),
+        Command::Clear { step, exit } => {
+            order.extend([no_step(step), no_exit(exit), empty(step, exit)]);
+        }
+        Command::Count => {}
+    }
+    first_refusal(&order)
+}
+
+/// Puts in a new step with bit 0 and a link to it with bit 0; gives its number.
+fn accepted_add(table: &mut Table, holder: u16, exit: u16, kind: u16, content: u16) -> u16 {
+    let number = (table.last + 1..table.capacity)
+        .chain(1..=table.last)
+        .find(|&number| !table.has(number))
+        .expect("a table that is not full has a free number");
+    let step = usize::from(number);
+    table.used[step] = 1;
+    table.kinds[step] = kind;
+    table.contents[step] = content;
+    table.targets[place(holder.into(), exit.into())] = number;
+    table.last = number;
+    table.counts = table.counted();
+    number
+}
+
+/// Copies a link from one place to another; the copy's bit differs from its target's bit.
+fn accepted_link(table: &mut Table, from: usize, to: usize, fault: Fault) {
+    let target = usize::from(table.targets[from]);
+    table.targets[to] = table.targets[from];
+    table.bits[to] = match fault {
+        Fault::CopyKeepsStrength => table.bits[from],
+        _ => 1 - table.own[target],
+    };
+    table.counts = table.counted();
+    if fault == Fault::CounterOffByOne {
+        table.counts[target * 2 + usize::from(table.bits[to])] += 1;
+    }
+}

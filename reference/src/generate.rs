@@ -1,0 +1,250 @@
+//! Made-up calls, key lines, sound tables and unsound ones, the same for the same seed.
+//! Most calls suit the plan at hand; the rest have odd numbers, wrong keys or short buffers.
+//! Serves the tests of "A history is a list" of document 01.
+
+use crate::calls::Command;
+use crate::history::Call;
+use crate::image::{HEADER, RECORD};
+use crate::plan::Plan;
+use crate::table::{place, Table, EXITS, PLACES};
+
+/// Numbers at and beyond the ends of ranges, and numbers that would wrap to small ones.
+const ODD: [u16; 18] =
+    [0, 1, 2, 3, 4, 5, 15, 16, 99, 100, 127, 128, 255, 256, 257, 600, 601, 65535];
+
+/// Phases of a history: fill, make rings, clear, mix. Each lists add, link, clear and other calls
+/// by a letter, as often as it has them.
+const PHASES: [&[u8]; 4] =
+    [b"aaaaaaaaaallco", b"aalllllllllcco", b"allccccccccco", b"aaalllcccooooo"];
+
+/// Splitmix64.
+pub struct Random(pub u64);
+
+impl Random {
+    pub fn number(&mut self) -> u64 {
+        self.0 = self.0.wrapping_add(0x9E37_79B9_7F4A_7C15);
+        let mut z = self.0;
+        z = (z ^ z >> 30).wrapping_mul(0xBF58_476D_1CE4_E5B9);
+        z = (z ^ z >> 27).wrapping_mul(0x94D0_49BB_1331_11EB);
+        z ^ z >> 31
+    }
+
+    /// A number below a bound above 0.
+    pub fn below(&mut self, bound: usize) -> usize {
+        (self.number() % bound as u64) as usize
+    }
+
+    /// True once in so many times.
+    pub fn once_in(&mut self, times: usize) -> bool {
+        self.below(times) == 0
+    }
+
+    pub fn pick<T: Copy>(&mut self, list: &[T]) -> T {
+        list[self.below(list.len())]
+    }
+
+    pub fn shuffle<T>(&mut self, list: &mut [T]) {
+        for i in (1..list.len()).rev() {
+            list.swap(i, self.below(i + 1));
+        }
+    }
+
+    /// A kind from 1 to 3 and a content that fits, often at an end of its range.
+    fn kind_and_content(&mut self) -> (u16, u16) {
+        let kind = 1 + self.below(3) as u16;
+        let (low, high) = [(0, 99), (0, 15), (1, 600)][usize::from(kind) - 1];
+        let between = low + self.below(usize::from(high - low) + 1) as u16;
+        (kind, self.pick(&[low, between, high]))
+    }
+
+    /// Puts an odd number in place of this one, now and then.
+    fn maybe_odd(&mut self, number: &mut u16) {
+        if self.once_in(24) {
+            *number = self.pick(&ODD);
+        }
+    }
+
+    /// A length that is just enough, one too few, or more.
+    fn around(&mut self, length: usize) -> usize {
+        let more = length + self.below(40);
+        self.pick(&[length, length.saturating_sub(1), more])
+    }
+
+    /// A step and an exit: mostly one of the plan that is filled, or empty, as asked for.
+    fn place(&mut self, plan: &Plan, filled: bool) -> (u16, u16) {
+        let any = self.once_in(16);
+        let mut places = Vec::new();
+        for (&number, step) in &plan.steps {
+            for (exit, &target) in (0..).zip(&step.targets) {
+                if any || (target != 0) == filled {
+                    places.push((number, exit));
+                }
+            }
+        }
+        let (mut step, mut exit) = match places[..] {
+            [] => (0, 0),
+            _ => self.pick(&places),
+        };
+        self.maybe_odd(&mut step);
+        self.maybe_odd(&mut exit);
+        (step, exit)
+    }
+
+    /// A sound table with any strengths. Its steps come in some order; each has a strong link
+    /// from an earlier one, and a link to itself or an earlier one is weak.
+    pub fn sound_table(&mut self) -> Table {
+        let mut table = Table::zero();
+        table.capacity = 1 + self.below(PLACES) as u16;
+        table.last = self.below(table.capacity.into()) as u16;
+        let mut order: Vec<usize> = (1..table.capacity.into()).collect();
+        self.shuffle(&mut order);
+        order.truncate(self.below(order.len() + 1));
+        order.insert(0, 0);
+        for (i, &step) in order.iter().enumerate() {
+            table.used[step] = 1;
+            table.own[step] = self.below(2) as u16;
+            if step != 0 {
+                (table.kinds[step], table.contents[step]) = self.kind_and_content();
+                let empty: Vec<usize> = order[..i]
+                    .iter()
+                    .flat_map(|&holder| place(holder, 0)..place(holder, EXITS))
+                    .filter(|&exit| table.targets[exit] == 0)
+                    .collect();
+                let exit = self.pick(&empty);
+                (table.targets[exit], table.bits[exit]) = (step as u16, table.own[step]);
+            }
+        }
+        for (i, &step) in order.iter().enumerate() {
+            for exit in place(step, 0)..place(step, EXITS) {
+                let j = self.below(order.len());
+                if table.targets[exit] == 0 && j != 0 && self.once_in(2) {
+                    let own = table.own[order[j]];
+                    let strong = j > i && self.once_in(2);
+                    table.targets[exit] = order[j] as u16;
+                    table.bits[exit] = if strong { own } else { 1 - own };
+                }
+            }
+        }
+        table.counts = table.counted();
+        table
+    }
+
+    /// Puts an odd number into one field of a table. Places low in the arrays come up more often.
+    pub fn damage(&mut self, table: &mut Table) {
+        let value = self.pick(&ODD);
+        let near = self.pick(&[1, 4, PLACES]);
+        let step = self.below(near);
+        let exit = place(step, self.below(EXITS));
+        let field = match self.below(9) {
+            0 => &mut table.capacity,
+            1 => &mut table.last,
+            2 => &mut table.used[step],
+            3 => &mut table.kinds[step],
+            4 => &mut table.contents[step],
+            5 => &mut table.own[step],
+            6 => &mut table.targets[exit],
+            7 => &mut table.bits[exit],
+            _ => &mut table.counts[exit / 2],
+        };
+        *field = value;
+    }
+}
+
+/// Makes up the calls of one history.
+pub struct Generator {
+    random: Random,
+    phase: &'static [u8],
+    left: usize,
+}
+
+impl Generator {
+    pub fn new(seed: u64) -> Generator {
+        Generator { random: Random(seed), phase: PHASES[0], left: 2 * PLACES }
+    }
+
+    /// The next call, to be made on this plan.
+    pub fn call(&mut self, plan: &Plan) -> Call {
+        if self.left == 0 {
+            self.phase = self.random.pick(&PHASES);
+            self.left = 1 + self.random.below(2 * usize::from(plan.capacity) + 8);
+        }
+        self.left -= 1;
+        match self.random.pick(self.phase) {
+            b'o' => self.other(plan),
+            letter => Call::Edit(self.command(plan, letter)),
+        }
+    }
+
+    /// The next key line, to be made on this plan. It has no byte 10.
+    pub fn key_line(&mut self, plan: &Plan) -> Vec<u8> {
+        let letter = self.random.pick(b"aalccn");
+        let mut line = key_text(self.command(plan, letter)).into_bytes();
+        if self.random.once_in(4) {
+            let at = self.random.below(line.len());
+            let byte = self.random.pick(b"HA*0123456789h -\r\0\xFF");
+            match self.random.below(6) {
+                0 => line.truncate(at),
+                1 => line.insert(at, byte),
+                2 => line.push(byte),
+                3 => line = line.repeat(1 + at),
+                _ => line[at] = byte,
+            }
+        }
+        line
+    }
+
+    /// A read, a trial, a writing or a key line.
+    fn other(&mut self, plan: &Plan) -> Call {
+        let random = &mut self.random;
+        match random.below(8) {
+            0 => Call::Read { step: random.place(plan, true).0 },
+            1 => {
+                let highest = if random.once_in(6) { 5 } else { 4 };
+                let results: Vec<u8> =
+                    (0..random.below(12)).map(|_| random.below(highest) as u8).collect();
+                let trace = random.around(results.len());
+                Call::Trial { results, trace }
+            }
+            2 => Call::Write { buffer: random.around(HEADER + RECORD * plan.steps.len()) },
+            _ => Call::KeyLine(self.key_line(plan)),
+        }
+    }
+
+    /// An add, a link, a clearing or a count, by its letter.
+    fn command(&mut self, plan: &Plan, letter: u8) -> Command {
+        let random = &mut self.random;
+        match letter {
+            b'a' => {
+                let (holder, exit) = random.place(plan, false);
+                let (mut kind, mut content) = random.kind_and_content();
+                random.maybe_odd(&mut kind);
+                random.maybe_odd(&mut content);
+                Command::Add { holder, exit, kind, content }
+            }
+            b'l' => {
+                let (source, source_exit) = random.place(plan, true);
+                let (second, second_exit) = random.place(plan, false);
+                Command::Link { source, source_exit, second, second_exit }
+            }
+            b'c' => {
+                let (step, exit) = random.place(plan, true);
+                Command::Clear { step, exit }
+            }
+            _ => Command::Count,
+        }
+    }
+}
+
+/// The key line of a command. A number too wide for its digits makes the line malformed.
+fn key_text(command: Command) -> String {
+    match command {
+        Command::Add { holder, exit, kind, content } => {
+            format!("H*1{holder:03}{exit}{kind}{content:03}A")
+        }
+        Command::Link { source, source_exit, second, second_exit } => {
+            format!("H*2{source:03}{source_exit}{second:03}{second_exit}A")
+        }
+        Command::Clear { step, exit } => format!("H*3{step:03}{exit}A"),
+        Command::Count => "H*4A".to_string(),
+    }
+}

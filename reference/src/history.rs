@@ -1,0 +1,86 @@
+//! The calls of a history as values, run on a table, and the comparison with the plain plan.
+//! Renders "A history is a list" and demand 3's list of what has to agree.
+
+use crate::calls::{edit, read, trial, Answer, Command, Fault};
+use crate::image::write;
+use crate::keys::key_line_with;
+use crate::table::Table;
+
+/// A call of a history. A lent trace or buffer stands in it as its length. A count comes only
+/// as a key line.
+#[derive(Clone, PartialEq, Eq, Debug)]
+pub enum Call {
+    Edit(Command),
+    Read { step: u16 },
+    Trial { results: Vec<u8>, trace: usize },
+    Write { buffer: usize },
+    KeyLine(Vec<u8>),
+}
+
+/// All that a caller is given: the refusal, the other numbers, the lent bytes.
+#[derive(Clone, PartialEq, Eq, Debug)]
+pub struct Outcome {
+    pub refusal: u16,
+    pub numbers: Vec<usize>,
+    pub lent: Vec<u8>,
+}
+
+/// What a lent byte holds before a call. No step has this number.
+pub const UNTOUCHED: u8 = 0xEE;
+
+/// Runs a call on a table, with a fault or without.
+pub fn run(table: &mut Table, call: &Call, fault: Fault) -> Outcome {
+    match call {
+        Call::Edit(command) => plain(edit(table, *command, fault), Vec::new()),
+        Call::KeyLine(line) => plain(key_line_with(table, line, fault), Vec::new()),
+        Call::Write { buffer } => {
+            let mut lent = vec![UNTOUCHED; *buffer];
+            plain(write(table, &mut lent), lent)
+        }
+        Call::Trial { results, trace } => {
+            let mut lent = vec![UNTOUCHED; *trace];
+            let answer = trial(table, results, &mut lent);
+            Outcome {
+                refusal: answer.refusal,
+                numbers: vec![answer.ending as usize, answer.last.into(), answer.moves],
+                lent,
+            }
+        }
+        Call::Read { step } => {
+            let answer = read(table, *step);
+            let single = [answer.kind, answer.content, answer.own];
+            let fields = [&single[..], &answer.targets, &answer.bits, &answer.counts];
+            Outcome {
+                refusal: answer.refusal,
+                numbers: fields.concat().into_iter().map(usize::from).collect(),
+                lent: Vec::new(),
+            }
+        }
+    }
+}
+
+/// An outcome with two numbers.
+fn plain(answer: Answer, lent: Vec<u8>) -> Outcome {
+    Outcome {
+        refusal: answer.refusal,
+        numbers: vec![answer.first.into(), answer.second.into()],
+        lent,
+    }
+}
+
+/// Whether an outcome is what the plan says: its refusal with nothing else given or written,
+/// or no refusal and each number that the plan knows.
+pub fn agrees(outcome: &Outcome, said: Result<[Option<u16>; 2], u16>) -> bool {
+    match said {
+        Err(refusal) => {
+            outcome.refusal == refusal
+                && outcome.numbers.iter().all(|&number| number == 0)
+                && outcome.lent.iter().all(|&byte| byte == UNTOUCHED)
+        }
+        Ok(known) => {
+            let mut pairs = known.into_iter().zip(&outcome.numbers);
+            outcome.refusal == 0
+                && pairs.all(|(known, &number)| known.is_none_or(|n| usize::from(n) == number))
+        }
+    }
+}

@@ -1,0 +1,14 @@
+//! The call plan table of document 01, written a second time to compare with the product.
+//! Reach is marked afresh and counters are recounted from the links; no search works on counters.
+//! `table`, `sound`, `calls`, `clearing`, `image` and `keys` keep a table; `plan` draws the plain
+//! plan; `history` runs calls given as values; `generate` makes up calls, key lines and tables.
+
+pub mod calls;
+pub mod clearing;
+pub mod generate;
+pub mod history;
+pub mod image;
+pub mod keys;
+pub mod plan;
+pub mod sound;
+pub mod table;

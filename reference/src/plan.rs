@@ -1,0 +1,162 @@
+//! The plain plan, drawn from the calls' arguments alone, and the plain plan of a table.
+//! It has no bits and counters; after a clearing, what step 0 reaches is marked.
+//! Renders "The plain plan of a table" of document 01.
+
+use std::collections::{BTreeMap, BTreeSet};
+
+use crate::calls::Command;
+use crate::history::Call;
+use crate::image::{fields, HEADER, RECORD};
+use crate::keys::decode;
+use crate::sound::fits;
+use crate::table::{members, place, Table};
+
+/// A step of the plan; target 0 is an empty exit.
+#[derive(Clone, PartialEq, Eq, Debug, Default)]
+pub struct PlanStep {
+    pub kind: u16,
+    pub content: u16,
+    pub targets: [u16; 4],
+}
+
+/// A plain plan: capacity, last number given, and the steps in use by number.
+#[derive(Clone, PartialEq, Eq, Debug)]
+pub struct Plan {
+    pub capacity: u16,
+    pub last: u16,
+    pub steps: BTreeMap<u16, PlanStep>,
+}
+
+/// The plain plan of a table.
+pub fn plan_of(table: &Table) -> Plan {
+    let step = |step: usize| {
+        let plan_step = PlanStep {
+            kind: table.kinds[step],
+            content: table.contents[step],
+            targets: std::array::from_fn(|exit| table.targets[place(step, exit)]),
+        };
+        (step as u16, plan_step)
+    };
+    Plan {
+        capacity: table.capacity,
+        last: table.last,
+        steps: members(table.in_use()).map(step).collect(),
+    }
+}
+
+impl Plan {
+    /// The plan of a fresh table; of capacity 1 where the capacity is refused.
+    pub fn fresh(capacity: u16) -> Plan {
+        Plan {
+            capacity: if (1..=128).contains(&capacity) { capacity } else { 1 },
+            last: 0,
+            steps: BTreeMap::from([(0, PlanStep::default())]),
+        }
+    }
+
+    /// The plan that the records of an accepted image say.
+    pub fn of_image(image: &[u8]) -> Plan {
+        let [_, _, capacity, last, _] = fields(image);
+        let step = |record: &[u8]| {
+            let [_, _, number, kind, content, _, targets @ ..] = fields::<10>(record);
+            (number, PlanStep { kind, content, targets })
+        };
+        Plan { capacity, last, steps: image[HEADER..].chunks(RECORD).map(step).collect() }
+    }
+
+    /// Draws a call into the plan. Gives the refusal, or the two numbers answered where the plan
+    /// knows them: it does not know the steps made doubtful, nor what a read or a trial answers.
+    pub fn draw(&mut self, call: &Call) -> Result<[Option<u16>; 2], u16> {
+        match call {
+            Call::Edit(command) => self.draw_command(*command),
+            Call::KeyLine(line) => self.draw_command(decode(line).ok_or(9u16)?),
+            Call::Read { step } => self.step(*step).map(|_| [None, None]),
+            Call::Trial { results, trace } => {
+                refuse_if(results.iter().any(|&result| result > 3), 10)?;
+                refuse_if(*trace < results.len(), 11)?;
+                Ok([None, None])
+            }
+            Call::Write { buffer } => {
+                let length = HEADER + RECORD * self.steps.len();
+                refuse_if(*buffer < length, 11)?;
+                Ok([Some(length as u16), Some(0)])
+            }
+        }
+    }
+
+    fn draw_command(&mut self, command: Command) -> Result<[Option<u16>; 2], u16> {
+        match command {
+            Command::Add { holder, exit, kind, content } => {
+                refuse_if(*self.exit(holder, exit)? != 0, 5)?;
+                refuse_if(!fits(kind, content), 7)?;
+                let number = self.next_number().ok_or(8u16)?;
+                *self.exit(holder, exit)? = number;
+                let step = PlanStep { kind, content, ..Default::default() };
+                self.steps.insert(number, step);
+                self.last = number;
+                Ok([Some(number), Some(0)])
+            }
+            Command::Link { source, source_exit, second, second_exit } => {
+                let target = *self.exit(source, source_exit)?;
+                refuse_if(target == 0, 6)?;
+                let filled = self.exit(second, second_exit)?;
+                refuse_if(*filled != 0, 5)?;
+                *filled = target;
+                Ok([Some(0), Some(0)])
+            }
+            Command::Clear { step, exit } => {
+                let emptied = self.exit(step, exit)?;
+                refuse_if(*emptied == 0, 6)?;
+                *emptied = 0;
+                let before = self.steps.len();
+                let reached = self.reached();
+                self.steps.retain(|number, _| reached.contains(number));
+                Ok([None, Some((before - self.steps.len()) as u16)])
+            }
+            Command::Count => {
+                let size = self.steps.len() as u16;
+                Ok([Some(size), Some(self.capacity - size)])
+            }
+        }
+    }
+
+    /// A step in use, or refusal 3.
+    fn step(&mut self, step: u16) -> Result<&mut PlanStep, u16> {
+        self.steps.get_mut(&step).ok_or(3)
+    }
+
+    /// The target at an exit of a step in use, or refusal 3 or 4.
+    fn exit(&mut self, step: u16, exit: u16) -> Result<&mut u16, u16> {
+        let step = self.step(step)?;
+        step.targets.get_mut(usize::from(exit)).ok_or(4)
+    }
+
+    /// The free number at the least distance going round upward from the one after the last given.
+    /// There is none exactly if the steps in use equal the capacity.
+    fn next_number(&self) -> Option<u16> {
+        (1..self.capacity)
+            .filter(|number| !self.steps.contains_key(number))
+            .min_by_key(|number| (number + self.capacity - self.last - 1) % self.capacity)
+    }
+
+    /// The steps that chains of targets reach from step 0.
+    fn reached(&self) -> BTreeSet<u16> {
+        let mut reached = BTreeSet::new();
+        let mut waiting = vec![0];
+        while let Some(step) = waiting.pop() {
+            if reached.insert(step) {
+                let targets = self.steps[&step].targets;
+                waiting.extend(targets.into_iter().filter(|&target| target != 0));
+            }
+        }
+        reached
+    }
+}
+
+fn refuse_if(condition: bool, refusal: u16) -> Result<(), u16> {
+    if condition {
+        Err(refusal)
+    } else {
+        Ok(())
+    }
+}

@@ -1,0 +1,65 @@
+//! The soundness test, total on any values. Each part below is one item of the list.
+//! Renders the list "A table is sound when" of document 01, and the kinds and their contents.
+
+use crate::table::{after, mark, members, place, Table, EXITS, PLACES};
+
+/// Whether a table is sound.
+pub fn sound(table: &Table) -> bool {
+    numbers_in_range(table)
+        && kinds_in_range(table)
+        && (0..PLACES).all(|step| fields_right(table, step))
+        && table.counts == table.counted()
+        && strengths_right(table)
+}
+
+/// Whether a step that can be added may have this kind and content.
+pub fn fits(kind: u16, content: u16) -> bool {
+    match kind {
+        1 => content <= 99,
+        2 => content <= 15,
+        3 => (1..=600).contains(&content),
+        _ => false,
+    }
+}
+
+/// The capacity, the last number given, and no step in use at or above the capacity.
+fn numbers_in_range(table: &Table) -> bool {
+    let capacity = usize::from(table.capacity);
+    (1..=PLACES).contains(&capacity)
+        && table.last < table.capacity
+        && table.used.iter().all(|&used| used <= 1)
+        && table.used[capacity..].iter().all(|&used| used == 0)
+}
+
+/// Step 0 is in use and the alarm; every other step in use has a kind and content that fit.
+fn kinds_in_range(table: &Table) -> bool {
+    table.has(0)
+        && (table.kinds[0], table.contents[0]) == (0, 0)
+        && members(table.in_use() & !1).all(|step| fits(table.kinds[step], table.contents[step]))
+}
+
+/// A step in use has bits of 0 and 1, links to steps in use but 0, and zero bits at empty exits.
+/// A free step has all fields zero or empty.
+fn fields_right(table: &Table, step: usize) -> bool {
+    let exits = place(step, 0)..place(step, EXITS);
+    let (targets, bits) = (&table.targets[exits.clone()], &table.bits[exits]);
+    if table.used[step] == 1 {
+        table.own[step] <= 1
+            && targets.iter().zip(bits).all(|(&target, &bit)| match target {
+                0 => bit == 0,
+                _ => table.has(target) && bit <= 1,
+            })
+    } else {
+        let single = [table.kinds[step], table.contents[step], table.own[step]];
+        let counts = &table.counts[step * 2..step * 2 + 2];
+        [&single, targets, bits, counts].iter().all(|fields| fields.iter().all(|&field| field == 0))
+    }
+}
+
+/// Strong links form no ring, and step 0 reaches all steps in use by them. Along a ring there are
+/// chains of any length; without one, a chain has fewer links than there are steps in use.
+fn strengths_right(table: &Table) -> bool {
+    let strong = table.strong_links();
+    let ends = (0..table.size()).fold(table.in_use(), |ends, _| after(ends, &strong));
+    ends == 0 && mark(1, &strong) == table.in_use()
+}

@@ -1,0 +1,197 @@
+//! Each row of "Reasons for no" with its example, each call's order of refusals, and numbers
+//! that would wrap. A refused call changes neither table nor buffer.
+
+use reference::calls::{add, clear, fresh, link, read, trial, Answer, ReadAnswer, TrialAnswer};
+use reference::image::{load, write};
+use reference::keys::key_line;
+use reference::table::Table;
+
+fn f4() -> Table {
+    fresh(4).0
+}
+
+fn no(refusal: u16) -> Answer {
+    Answer { refusal, first: 0, second: 0 }
+}
+
+/// Checks that a call on a table answers this refusal and leaves the table as it was.
+#[track_caller]
+fn refuses(refusal: u16, table: &Table, call: impl Fn(&mut Table) -> Answer) {
+    let mut given = table.clone();
+    assert_eq!(call(&mut given), no(refusal));
+    assert_eq!(given, *table);
+}
+
+/// Checks that a trial with a trace of this length answers this refusal and writes nothing.
+#[track_caller]
+fn trial_refuses(refusal: u16, table: &Table, results: &[u8], length: usize) {
+    let mut trace = vec![0xEE; length];
+    let answer = trial(table, results, &mut trace);
+    assert_eq!(answer, TrialAnswer { refusal, ..Default::default() });
+    assert_eq!(trace, vec![0xEE; length]);
+}
+
+/// Checks that writing into a buffer of this length answers this refusal and writes nothing.
+#[track_caller]
+fn write_refuses(refusal: u16, table: &Table, length: usize) {
+    let mut buffer = vec![0xEE; length];
+    assert_eq!(write(table, &mut buffer), no(refusal));
+    assert_eq!(buffer, vec![0xEE; length]);
+}
+
+fn read_refuses(refusal: u16, table: &Table, step: u16) {
+    assert_eq!(read(table, step), ReadAnswer { refusal, ..Default::default() });
+}
+
+/// A table of capacity 2 that is full: step 0's exit 0 leads to step 1.
+fn full() -> Table {
+    let mut table = fresh(2).0;
+    add(&mut table, 0, 0, 1, 0);
+    table
+}
+
+#[test]
+fn examples_of_the_table() {
+    let mut unsound = f4();
+    unsound.used[0] = 0;
+    // 1, which all calls on a table give, before any other
+    refuses(1, &unsound, |t| add(t, 9, 9, 9, 9));
+    refuses(1, &unsound, |t| link(t, 9, 9, 9, 9));
+    refuses(1, &unsound, |t| clear(t, 9, 9));
+    refuses(1, &unsound, |t| key_line(t, b"H*5A"));
+    refuses(1, &unsound, |t| key_line(t, b"H*4A"));
+    read_refuses(1, &unsound, 9);
+    trial_refuses(1, &unsound, &[4], 0);
+    write_refuses(1, &unsound, 0);
+    // 2
+    assert_eq!(fresh(129), (fresh(1).0, no(2)));
+    // 3
+    read_refuses(3, &f4(), 1);
+    // 4
+    refuses(4, &f4(), |t| clear(t, 0, 4));
+    // 5
+    let mut added = f4();
+    assert_eq!(add(&mut added, 0, 0, 1, 0).refusal, 0);
+    refuses(5, &added, |t| add(t, 0, 0, 1, 0));
+    // 6
+    refuses(6, &f4(), |t| clear(t, 0, 0));
+    // 7
+    refuses(7, &f4(), |t| add(t, 0, 0, 3, 0));
+    // 8
+    refuses(8, &fresh(1).0, |t| add(t, 0, 0, 1, 0));
+    // 9
+    refuses(9, &f4(), |t| key_line(t, b"H*5A"));
+    // 10
+    trial_refuses(10, &f4(), &[0, 4], 2);
+    // 11
+    write_refuses(11, &f4(), 29);
+    trial_refuses(11, &f4(), &[0, 0], 1);
+    // 12
+    assert_eq!(load(&[]), (fresh(1).0, no(12)));
+}
+
+#[test]
+fn capacities() {
+    for capacity in [1, 2, 127, 128] {
+        let (table, answer) = fresh(capacity);
+        assert_eq!((table.capacity, answer), (capacity, no(0)));
+    }
+    for capacity in [0, 129, 256, 257, 65535] {
+        assert_eq!(fresh(capacity), (fresh(1).0, no(2)));
+    }
+}
+
+#[test]
+fn kinds_and_contents() {
+    for (kind, content) in [(1, 0), (1, 99), (2, 0), (2, 15), (3, 1), (3, 600)] {
+        assert_eq!(add(&mut f4(), 0, 0, kind, content).refusal, 0);
+    }
+    let wrong = [(1, 100), (2, 16), (3, 0), (3, 601), (0, 0), (4, 1), (257, 0), (65535, 1)];
+    for (kind, content) in wrong.into_iter().chain([1, 2, 3].map(|kind| (kind, 65535))) {
+        refuses(7, &f4(), |t| add(t, 0, 0, kind, content));
+    }
+}
+
+#[test]
+fn the_order_of_add() {
+    let table = full();
+    refuses(3, &table, |t| add(t, 2, 4, 0, 0));
+    refuses(4, &table, |t| add(t, 0, 4, 0, 0));
+    refuses(5, &table, |t| add(t, 0, 0, 0, 0));
+    refuses(7, &table, |t| add(t, 0, 1, 0, 0));
+    refuses(8, &table, |t| add(t, 0, 1, 1, 0));
+}
+
+#[test]
+fn the_order_of_link() {
+    let table = full();
+    refuses(3, &table, |t| link(t, 2, 4, 2, 4));
+    refuses(4, &table, |t| link(t, 0, 4, 2, 4));
+    refuses(6, &table, |t| link(t, 0, 1, 2, 4));
+    refuses(3, &table, |t| link(t, 0, 0, 2, 4));
+    refuses(4, &table, |t| link(t, 0, 0, 0, 4));
+    refuses(5, &table, |t| link(t, 0, 0, 0, 0));
+    refuses(6, &table, |t| link(t, 0, 1, 0, 0));
+}
+
+#[test]
+fn the_orders_of_the_other_calls() {
+    let table = full();
+    refuses(3, &table, |t| clear(t, 2, 4));
+    refuses(4, &table, |t| clear(t, 0, 4));
+    refuses(6, &table, |t| clear(t, 0, 1));
+    // A result above 3 counts even where the trial would end before it, and so does the trace.
+    trial_refuses(10, &table, &[1, 1, 4], 0);
+    trial_refuses(10, &table, &[255], 1);
+    trial_refuses(11, &table, &[1, 1, 1], 2);
+    // Needed is the length of this image, and no more.
+    write_refuses(11, &table, 49);
+    write_refuses(11, &table, 0);
+    assert_eq!(write(&table, &mut [0; 50]), Answer { refusal: 0, first: 50, second: 0 });
+}
+
+#[test]
+fn key_lines_give_the_refusals_of_their_calls() {
+    let table = full();
+    let lines: [(u16, &[u8]); 12] = [
+        (3, b"H*199900000A"),
+        (4, b"H*100090000A"),
+        (5, b"H*100000000A"),
+        (7, b"H*100010000A"),
+        (8, b"H*100011000A"),
+        (3, b"H*200299999A"),
+        (4, b"H*200049999A"),
+        (6, b"H*200019999A"),
+        (3, b"H*31280A"),
+        (4, b"H*30004A"),
+        (6, b"H*30001A"),
+        (9, b"H*3000A"),
+    ];
+    for (refusal, line) in lines {
+        refuses(refusal, &table, |t| key_line(t, line));
+    }
+}
+
+#[test]
+fn numbers_do_not_wrap() {
+    let table = full();
+    for large in [256, 257, 65535] {
+        refuses(3, &table, |t| add(t, large, 1, 1, 0));
+        refuses(3, &table, |t| link(t, large, 0, 0, 1));
+        refuses(3, &table, |t| link(t, 0, 0, large, 1));
+        refuses(3, &table, |t| clear(t, large, 0));
+        read_refuses(3, &table, large);
+        refuses(4, &table, |t| add(t, 0, large, 1, 0));
+        refuses(4, &table, |t| link(t, 0, large, 0, 1));
+        refuses(4, &table, |t| link(t, 0, 0, 0, large));
+        refuses(4, &table, |t| clear(t, 0, large));
+        refuses(7, &table, |t| add(t, 0, 1, large, 0));
+    }
+}
+
+#[test]
+fn steps_at_and_above_the_capacity_are_not_in_use() {
+    for step in [2, 3, 127, 128, 129] {
+        read_refuses(3, &full(), step);
+    }
+}
