@@ -71,17 +71,17 @@ module _ (t : Table) (s : Sound t) (i e : ℕ) (ui : inUse t i ≡ true) (le : e
   emptied-weak : strong u i e ≡ false
   emptied-weak = refute _ (λ x. holds-target u i e (strong-holds u i e x) emptied-target)
 
-  emptied-used : (k : ℕ) → inUse u k ≡ inUse t k
+  pub emptied-used : (k : ℕ) → inUse u k ≡ inUse t k
   unfolding emptied relink withLinks inUse
   emptied-used k = refl
 
-  emptied-fewer : (a b : ℕ) → stronglyLinked u a b ≡ true → stronglyLinked t a b ≡ true
+  pub emptied-fewer : (a b : ℕ) → stronglyLinked u a b ≡ true → stronglyLinked t a b ≡ true
   unfolding emptied
   emptied-fewer a b l =
       ⊎-elim (λ r. clash (r .2) emptied-weak) (λ o. o) (relink-strongly t (sound-formed s) i e 0 0 ui le a b l)
 
   -- a strong link stays, unless it is the one cleared
-  emptied-strongly : (a b : ℕ) → stronglyLinked t a b ≡ true →
+  pub emptied-strongly : (a b : ℕ) → stronglyLinked t a b ≡ true →
       (stronglyLinked u a b ≡ true) ⊎ ((b ≡ targetOf t i e) × (strong t i e ≡ true))
   unfolding emptied
   emptied-strongly a b l = let r = strongly-exit t a b l in at a b (r .0) (r .1) (r .2) (r .3)
@@ -94,7 +94,7 @@ module _ (t : Table) (s : Sound t) (i e : ℕ) (ui : inUse t i ≡ true) (le : e
           (at-exit i e a f)
 
   -- a step whose counter says so has a strong link
-  held-parent : (j : ℕ) → inUse t j ≡ true → (j ≡ 0 → ⊥) → heldStrongly u j ≡ true → (a : ℕ) × (inUse t a ≡ true) × (stronglyLinked u a j ≡ true)
+  pub held-parent : (j : ℕ) → inUse t j ≡ true → (j ≡ 0 → ⊥) → heldStrongly u j ≡ true → (a : ℕ) × (inUse t a ≡ true) × (stronglyLinked u a j ≡ true)
   unfolding heldStrongly linksTo countsAt targetOf linkBit
   held-parent j uj d x =
       let g = formed-emptied in
@@ -156,7 +156,7 @@ module _ (t : Table) (s : Sound t) (i e : ℕ) (ui : inUse t i ≡ true) (le : e
   abbrev reached : ℕ → Bool
   reached k = reaches (stronglyLinked u) (u .capacity) 0 k
 
-  reached-used : (k : ℕ) → reached k ≡ true → inUse u k ≡ true
+  pub reached-used : (k : ℕ) → reached k ≡ true → inUse u k ≡ true
   reached-used k r =
       let c = reach-sound (stronglyLinked u) (u .capacity) 0 k r in
       chain-keeps (λ x. inUse u x ≡ true) (λ a b y l. linked-used (formed-wired formed-emptied) a b (strongly-linked u a b l) .1) (formed-emptied .alarm) (c .1)
@@ -183,7 +183,7 @@ module _ (t : Table) (s : Sound t) (i e : ℕ) (ui : inUse t i ≡ true) (le : e
       last-reached j n (then {b = a} q l) d =
           (a, reach-complete (stronglyLinked u) (u .capacity) (strong-below (formed-wired formed-emptied)) (formed-emptied .least) q, l)
 
-  doubtful-at : (k : ℕ) → marked (doubtful u) k ≡ (inUse u k && not (reached k))
+  pub doubtful-at : (k : ℕ) → marked (doubtful u) k ≡ (inUse u k && not (reached k))
   unfolding doubtful reaches
   doubtful-at k =
       ⊎-elim

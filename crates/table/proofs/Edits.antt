@@ -398,7 +398,7 @@ unlinked-count t k b z =
     let same : getD (t .targets) p 0 ≡ k = eqb-true _ _ (and-right (not (eqb k 0)) _ both) in
     eqb-false k 0 (not-true-false _ (and-left (not (eqb k 0)) _ both)) (sym same ∙ z p)))
 
-getD-zeros : (n i : ℕ) → _≡_ {A = ℕ} (getD (replicate n 0) i 0) 0
+pub getD-zeros : (n i : ℕ) → _≡_ {A = ℕ} (getD (replicate n 0) i 0) 0
 getD-zeros zero i = refl
 getD-zeros (suc n) zero = refl
 getD-zeros (suc n) (suc i) = getD-zeros n i

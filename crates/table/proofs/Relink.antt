@@ -41,7 +41,7 @@ unfolding counterPlace
 counter-place-below i b l h = omega arith
 
 -- a link to j with bit b is counted by counter c of step k
-hits : ℕ → ℕ → ℕ → ℕ → Bool
+unfoldable pub hits : ℕ → ℕ → ℕ → ℕ → Bool
 hits j b k c = not (eqb k 0) && eqb j k && eqb b c
 
 hits-same : (j b : ℕ) → (j ≡ 0 → ⊥) → hits j b j b ≡ true
@@ -99,7 +99,7 @@ cond-less : (h : Bool) (n : ℕ) → cond h (n - 1) n ≡ n - one h
 cond-less true n = refl
 cond-less false n = omega arith
 
-raised-at : (j b k c : ℕ) (cs : List ℕ) → length cs ≡ places * counters → j < places → b < counters → c < counters →
+pub raised-at : (j b k c : ℕ) (cs : List ℕ) → length cs ≡ places * counters → j < places → b < counters → c < counters →
     getD (raised j b cs) (counterPlace k c) 0 ≡ getD cs (counterPlace k c) 0 + one (hits j b k c)
 unfolding raised changed
 raised-at j b k c cs len lj lb lc = changed-at (λ n. n + 1) j b k c cs len lj lb lc ∙ cond-one (hits j b k c) _

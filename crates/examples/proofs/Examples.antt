@@ -1,0 +1,72 @@
+-- The examples of document 01 hold: each run is one test that computes, one theorem covers the table, and one law says it of each entry.
+-- Assumes nothing.
+--   computes         what the tests compute with: all that a call's definition names
+--   examples-hold    every entry of the table passes
+--   examples-shown   so each entry says what it states, of the table that the entries before it leave
+use mathlib.Core.Path.{_≡_, refl, subst}
+use mathlib.Core.Bool.{Bool, true}
+use mathlib.Core.List.{List, _∷_, _++_, List·Memᴰ}
+use Rattle.finite.proofs.Bools.{and-intro}
+use Rattle.finite.specs.Below.{all, any, count, find, lowest, rounds, tabulateFrom, tabulate}
+use Rattle.finite.specs.Reach.{grow, reach, reaches}
+use Rattle.table.specs.Table.{exitPlace, counterPlace, inUse, kindOf, contentOf, ownBit, targetOf, linkBit, counterOf, holds, strong, leads, linked, stronglyLinked, countsAt, linksTo, stepsInUse, withLinks, withSteps}
+use Rattle.table.specs.Sound.{capacityFits, contentFits, kindFits, eachUsed, shapeTests, blankTests, ringless, soundTests, sound}
+use Rattle.table.specs.Answer.{first, refusalOf, firstOf, secondOf, unless, endingNumber, triedRefusal, endingOf, lastOf, movesOf}
+use Rattle.table.specs.Calls.{freshTable, freshCall, lowered, raised, relink, after, numberGiven, addRefusal, withStep, addTable, addCall, linkRefusal, weakBit, linkTable, linkCall, fieldsOf, noFields, readRefusal, readCall, tryFrom, resultsFit, trialRefusal, trialCall}
+use Rattle.table.specs.Clear.{emptied, heldStrongly, stops, doubtful, wanted, flipped, weakened, restored, repair, repairOf, unlinked, blanked, eachDoubtful, release, size, repaired, clearRefusal, clearCall}
+use Rattle.image.specs.Image.{word, wordAt, words, recordSize, recordBytes, headerFieldsOf, bitsOf, stepFieldsOf, stepsBelow, image, imageLength, writeRefusal, writeCall, fieldAt, recordAt, capacityIn, lastIn, countIn, stepPlace, numberIn, kindIn, contentIn, bitsIn, targetIn, bitIn, recordOf, hasRecord, recordField, counted, imageTable, framed, accepted, loadCall}
+use Rattle.keyline.specs.Keys.{isDigit, isLine, decimal, decode, spokenCounts, perform, performLine, keyCall}
+use Rattle.history.specs.History.{firstTable}
+use Rattle.examples.specs.Examples.{told, fieldNumbers, triedNumbers, callDone, doneBy, takeOne, taken, takenBy, strength, usedBelow, seen, answerSize, lentTo, refusedBy, same, tableTests, doneTests, factsHold, passed, walk, tableF4, p1ToP7, p8, p9, imageF4, p10, digits, line, beginnings, noAlarm, notSoundReasons, reasons, Entry, Run, tableLeft, Shown, everyRun, examples, refusals}
+use Rattle.examples.proofs.Laws.{run-shown, run-at}
+
+-- a name for the list of definitions below, which each run unfolds
+computes : Bool
+unfolding all any count find lowest rounds tabulateFrom tabulate grow reach reaches exitPlace counterPlace inUse kindOf contentOf ownBit targetOf linkBit counterOf holds strong leads linked stronglyLinked countsAt linksTo stepsInUse withLinks withSteps capacityFits contentFits kindFits eachUsed shapeTests blankTests ringless soundTests sound first refusalOf firstOf secondOf unless endingNumber triedRefusal endingOf lastOf movesOf freshTable freshCall lowered raised relink after numberGiven addRefusal withStep addTable addCall linkRefusal weakBit linkTable linkCall fieldsOf noFields readRefusal readCall tryFrom resultsFit trialRefusal trialCall emptied heldStrongly stops doubtful wanted flipped weakened restored repair repairOf unlinked blanked eachDoubtful release size repaired clearRefusal clearCall word wordAt words recordSize recordBytes headerFieldsOf bitsOf stepFieldsOf stepsBelow image imageLength writeRefusal writeCall fieldAt recordAt capacityIn lastIn countIn stepPlace numberIn kindIn contentIn bitsIn targetIn bitIn recordOf hasRecord recordField counted imageTable framed accepted loadCall isDigit isLine decimal decode spokenCounts perform performLine keyCall firstTable told fieldNumbers triedNumbers callDone doneBy takeOne taken takenBy strength usedBelow seen answerSize lentTo refusedBy same tableTests doneTests factsHold passed walk tableF4 p1ToP7 p8 p9 imageF4 p10 digits line beginnings noAlarm notSoundReasons reasons
+computes = true
+
+-- one declaration for each run, since antt bounds the steps of one
+p1-to-p7-hold : walk tableF4 p1ToP7 ≡ true
+unfolding computes
+p1-to-p7-hold = refl
+
+p8-holds : walk tableF4 p8 ≡ true
+unfolding computes
+p8-holds = refl
+
+p9-holds : walk tableF4 p9 ≡ true
+unfolding computes
+p9-holds = refl
+
+p10-holds : walk tableF4 p10 ≡ true
+unfolding computes
+p10-holds = refl
+
+beginnings-hold : walk tableF4 beginnings ≡ true
+unfolding computes
+beginnings-hold = refl
+
+not-sound-reasons-hold : walk noAlarm notSoundReasons ≡ true
+unfolding computes
+not-sound-reasons-hold = refl
+
+reasons-hold : walk tableF4 reasons ≡ true
+unfolding computes
+reasons-hold = refl
+
+pub examples-hold : everyRun (examples ++ refusals) ≡ true
+unfolding everyRun examples refusals
+examples-hold =
+    and-intro p1-to-p7-hold
+    (and-intro p8-holds
+    (and-intro p9-holds
+    (and-intro p10-holds
+    (and-intro beginnings-hold
+    (and-intro not-sound-reasons-hold
+    (and-intro reasons-hold refl))))))
+
+pub examples-shown : (r : Run) → List·Memᴰ r (examples ++ refusals) → (before : List Entry) (x : Entry) (after : List Entry) →
+    r .entries ≡ before ++ (x ∷ after) → Shown (tableLeft (r .table) before) x
+examples-shown r m before x after e =
+    run-shown (r .table) before x after
+    (subst (λ (xs : List Entry). walk (r .table) xs ≡ true) e (run-at (examples ++ refusals) examples-hold r m))

@@ -1,0 +1,3 @@
+-- What the tests of the examples mean, and that the examples pass them.
+pub mod Laws
+pub mod Examples

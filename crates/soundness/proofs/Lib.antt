@@ -1,0 +1,3 @@
+-- Laws of the parts of the soundness test.
+pub mod Loops
+pub mod Laws

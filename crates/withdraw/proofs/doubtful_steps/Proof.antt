@@ -1,0 +1,62 @@
+-- `doubtful_steps` gives the marks of the doubtful steps. Assumes nothing.
+use borrow.Author.Needs.{needs}
+use native.Mathlib.Omega.{arith}
+use Prim.Native.Nat.{ℕ, _+_, _<_}
+use mathlib.Core.Path.{_≡_, refl, sym, _∙_, ap, subst}
+use mathlib.Core.List.{List}
+use lib.ListN.{length, getD, set}
+use Rattle.table.specs.Table.{places, ownBit}
+use Rattle.withdraw.specs.Search.{rest, Search, Withdrawn}
+use Rattle.withdraw.proofs.Laws.{search-mark}
+use Rattle.withdraw.proofs.Found.{heads, own-bit, in-range}
+use Rattle.withdraw.proofs.Doubtful.{zeros, begin-doubt, formed-doubt, found-doubt}
+use Rattle.withdraw.proofs.doubtful_steps.Statement.{statement}
+use Rattle.withdraw.proofs.doubtful_steps.Tie as tie
+
+strong-counts-requires : tie.Need-strong-counts-requires
+unfolding ownBit
+strong-counts-requires c κs = own-bit (c .before .before .before .args .t1) (formed-doubt _ _ (c .before .before .before .pre))
+
+wide-requires : tie.Need-wide-requires
+wide-requires c κs = search needs
+
+mul-marks : tie.Need-mul-marks
+mul-marks c = search needs
+
+array-write-marks : tie.Need-array-write-marks
+array-write-marks c = rw (c .wide .ensures) (begin-doubt _ _ (c .before .before .before .before .before .pre) .low)
+
+withdraw-step-requires : tie.Need-withdraw-step-requires
+withdraw-step-requires c κs =
+    let pre = c .before .before .before .before .before .before .before .before .before .before .before .pre in
+    let t = c .before .before .before .before .before .before .before .before .before .before .before .args .t1 in
+    let i = c .before .before .before .before .before .before .wide .result in
+    let e = c .before .before .before .before .before .before .wide .ensures in
+    let n = c .before .before .before .before .before .before .before .strong-counts .ensures in
+    let b = begin-doubt t _ pre in (
+      rw e (b .low),
+      in-range t (formed-doubt t _ pre),
+      (
+        (λ (j : ℕ). 0),
+        rw (e, n) (search-mark b),
+      ),
+    )
+
+returns : tie.Need-returns
+returns c =
+    let pre = c .before .before .before .before .before .before .before .before .before .before .before .before .pre in
+    let t = c .before .before .before .before .before .before .before .before .before .before .before .before .args .t1 in
+    let e = c .before .before .before .before .before .before .before .wide .ensures in
+    let n = c .before .before .before .before .before .before .before .before .strong-counts .ensures in
+    found-doubt t _ pre _ _ (rw (e, n) at (c .withdraw-step .ensures))
+
+pub doubtful-steps-spec : {M : Type 1} → statement M
+doubtful-steps-spec =
+    tie.close
+    (tie.spec
+    strong-counts-requires
+    wide-requires
+    mul-marks
+    array-write-marks
+    withdraw-step-requires
+    returns)

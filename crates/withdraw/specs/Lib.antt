@@ -1,0 +1,3 @@
+-- What the search by withdrawing keeps to, and when it serves a clearing.
+pub mod Search
+pub mod Withdraw
