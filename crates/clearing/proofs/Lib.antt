@@ -1,0 +1,4 @@
+-- The laws that the functions' proofs cite.
+pub mod Laws
+pub mod Repairs
+pub mod Outcomes

@@ -1,0 +1,68 @@
+-- `clearing::count_marks` meets its contract. The loop's invariant: `marks` is the count below k. The measure is what is left of n. Assumes nothing.
+use mathlib.Core.Path.{_≡_, refl, sym, _∙_, ap}
+use mathlib.Core.Logic.{⊎-elim}
+use Prim.Native.Nat.{ℕ, _-_, _≤_}
+use native.Mathlib.Omega.{arith}
+use Rattle.finite.specs.Below.{one, count}
+use Rattle.finite.proofs.Below.{count-le}
+use Rattle.clearing.specs.Clearing.{isOne}
+use Rattle.clearing.proofs.Laws.{is-one, not-one, count-next, size-marks}
+use Rattle.clearing.proofs.count_marks.Statement.{statement}
+use Rattle.clearing.proofs.count_marks.Tie as tie
+
+abbrev Inv-loop : tie.InvT-loop
+Inv-loop n doubt marks₀ k₀ marks k = (k ≤ n) × (marks ≡ count k (isOne doubt))
+
+abbrev μ-loop : tie.MeasureT-loop
+μ-loop n doubt marks₀ k₀ marks k = n - k
+
+loop-holds : tie.Need-loop-holds Inv-loop μ-loop
+loop-holds c = (omega arith, (unfold count in refl))
+
+mul-if1 : tie.Need-mul-if1 Inv-loop μ-loop
+mul-if1 c = omega arith
+
+element-copy-out-if1 : tie.Need-element-copy-out-if1 Inv-loop μ-loop
+element-copy-out-if1 c = omega arith
+
+add-marks : tie.Need-add-marks Inv-loop μ-loop
+add-marks c =
+    let d = c .before .before .before .before .args .doubt .now in
+    omega (arith, count-le (c .before .before .before .loop .k) (isOne d))
+
+add-k : tie.Need-add-k Inv-loop μ-loop
+add-k c = omega arith
+
+loop-less : tie.Need-loop-less Inv-loop μ-loop
+loop-less c = omega arith
+
+loop-again : tie.Need-loop-again Inv-loop μ-loop
+loop-again c =
+    let k = c .before .before .before .loop .k in
+    let d = c .before .before .before .before .args .doubt .now in
+    let n = count-next (isOne d) k in
+    ⊎-elim
+    (λ w. let o : one (isOne d k) ≡ 1 = ap one (is-one d k (w .0 .taken)) in omega arith)
+    (λ w. let o : one (isOne d k) ≡ 0 = ap one (not-one d k (w .0 .left)) in omega arith)
+    (c .if1 .came)
+
+returns : tie.Need-returns Inv-loop μ-loop
+returns c =
+    let d = c .before .before .args .doubt .now in
+    let e : c .before .loop .k ≡ c .before .before .args .n = omega arith in
+    c .before .loop .inv .1 ∙ ap (λ (k : ℕ). count k (isOne d)) e ∙ sym (size-marks (c .before .before .args .n) d)
+
+pub count-marks-spec : {M : Type 1} → statement M
+count-marks-spec =
+    tie.close
+    (tie.spec
+    Inv-loop
+    μ-loop
+    loop-holds
+    mul-if1
+    element-copy-out-if1
+    add-marks
+    add-k
+    loop-less
+    loop-again
+    returns)
