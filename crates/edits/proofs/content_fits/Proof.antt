@@ -1,0 +1,28 @@
+-- `edits::content_fits` meets its contract: each arm is a case of the definition. Assumes nothing.
+use borrow.Author.Tests.{le-leb, lt-leb, ne-eqb}
+use Rattle.table.specs.Sound.{contentFits}
+use Rattle.edits.proofs.content_fits.Statement.{statement}
+use Rattle.edits.proofs.content_fits.Tie as tie
+
+returns : tie.Need-returns
+unfolding contentFits
+returns c = rw (c .match .keys1)
+
+returns-2 : tie.Need-returns-2
+unfolding contentFits
+returns-2 c = rw (c .match .keys2)
+
+returns-3 : tie.Need-returns-3
+unfolding contentFits
+returns-3 c = rw (c .before .match .keys3, le-leb _ _ (c .if1 .taken))
+
+returns-4 : tie.Need-returns-4
+unfolding contentFits
+returns-4 c = rw (c .before .match .keys3, lt-leb _ _ (c .if1 .left))
+
+returns-5 : tie.Need-returns-5
+unfolding contentFits
+returns-5 c = rw (ne-eqb _ _ (c .match .rest .0 .0 .1), ne-eqb _ _ (c .match .rest .0 .1), ne-eqb _ _ (c .match .rest .1))
+
+pub content-fits-spec : {M : Type 1} → statement M
+content-fits-spec = tie.close (tie.spec returns returns-2 returns-3 returns-4 returns-5)

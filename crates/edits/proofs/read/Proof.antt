@@ -1,0 +1,37 @@
+-- `edits::read` meets its contract. Assumes nothing.
+use mathlib.Core.Path.{_≡_, refl, sym, _∙_}
+use borrow.Author.Needs.{needs}
+use borrow.Author.Tests.{ne-eqb}
+use Rattle.finite.proofs.Bools.{not-false-true}
+use Rattle.table.specs.Calls.{noFields, readRefusal, readCall}
+use Rattle.table.proofs.Links.{used-place}
+use Rattle.table.proofs.Calls.{nonzero, first-zero}
+use Rattle.edits.proofs.Laws.{accepted-sound}
+use Rattle.edits.proofs.read.Statement.{statement}
+use Rattle.edits.proofs.read.Tie as tie
+
+-- read is accepted: its refusal is 0
+accepted : (c : tie.Else1) → readRefusal (c .before .before .args .t) (c .before .before .args .step) ≡ 0
+accepted c = sym (c .before .read-refusal .ensures) ∙ c .if1 .left
+
+read-refusal-requires : tie.Need-read-refusal-requires
+read-refusal-requires c κs = search needs
+
+returns : tie.Need-returns
+unfolding readCall noFields
+returns c =
+    let e = c .before .read-refusal .ensures in
+    rw (e, ne-eqb _ 0 (λ z. c .if1 .taken (e ∙ z)))
+
+fields-of-requires : tie.Need-fields-of-requires
+unfolding readRefusal nonzero
+fields-of-requires c κs =
+    let z = accepted c in
+    used-place (accepted-sound _ _ z .shape) _ (not-false-true _ (first-zero _ z refl 1))
+
+returns-2 : tie.Need-returns-2
+unfolding readCall
+returns-2 c = rw (accepted (c .before), c .before .if1 .left, c .fields-of .ensures)
+
+pub read-spec : {M : Type 1} → statement M
+read-spec = tie.close (tie.spec read-refusal-requires returns fields-of-requires returns-2)

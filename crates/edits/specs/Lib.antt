@@ -1,0 +1,2 @@
+-- What the contracts of the parts of the calls are written in.
+pub mod Parts
