@@ -1,0 +1,78 @@
+-- Laws that the proofs of this crate share. Assumes nothing.
+--   count-hit count-miss   one more number is counted, or is not
+--   used-..                the same of the steps in use
+--   put-eq put-word put-more   numbers put from a place on, and behind others
+use mathlib.Core.Path.{_≡_, refl, _∙_, ap}
+use mathlib.Core.Bool.{Bool, true, false}
+use mathlib.Core.List.{List, [], _∷_, _++_}
+use Prim.Native.Nat.{ℕ, suc, _+_, _*_, _/_, _%_, _≤_}
+use native.Mathlib.Numerals.{add-one}
+use native.Mathlib.Omega.{arith}
+use lib.ListN.{length, getD, set, drop}
+use lib.Seq.{sets, sets-eq}
+use borrow.Author.Tests.{eq-eqb, ne-eqb}
+use Rattle.finite.specs.Below.{one, count}
+use Rattle.finite.proofs.Below.{count-le}
+use Rattle.finite.proofs.Select.{count-grows}
+use Rattle.image.specs.Image.{word, words}
+use Rattle.image.proofs.Words.{length-words}
+use Rattle.images.specs.Parts.{putWords, usedBelow}
+
+-- one more number is counted, or is not
+pub count-hit : (n : ℕ) (p : ℕ → Bool) → p n ≡ true → count (n + 1) p ≡ count n p + 1
+unfolding count
+count-hit n p h = let x : one (p n) ≡ 1 = rw h in rw (add-one n) (omega arith)
+
+pub count-miss : (n : ℕ) (p : ℕ → Bool) → p n ≡ false → count (n + 1) p ≡ count n p
+unfolding count
+count-miss n p h = let x : one (p n) ≡ 0 = rw h in rw (add-one n) (omega arith)
+
+pub used-hit : (used : List ℕ) (n : ℕ) → getD used n 0 ≡ 1 → usedBelow used (n + 1) ≡ usedBelow used n + 1
+unfolding usedBelow
+used-hit used n h = count-hit n _ (eq-eqb (getD used n 0) 1 h)
+
+pub used-miss : (used : List ℕ) (n : ℕ) → (getD used n 0 ≡ 1 → ⊥) → usedBelow used (n + 1) ≡ usedBelow used n
+unfolding usedBelow
+used-miss used n h = count-miss n _ (ne-eqb (getD used n 0) 1 h)
+
+pub used-none : (used : List ℕ) → 0 ≡ usedBelow used 0
+unfolding usedBelow count
+used-none used = refl
+
+pub used-le : (used : List ℕ) (n : ℕ) → usedBelow used n ≤ n
+unfolding usedBelow
+used-le used n = count-le n _
+
+pub used-grows : (used : List ℕ) (m n : ℕ) → m ≤ n → usedBelow used m ≤ usedBelow used n
+unfolding usedBelow
+used-grows used m n h = count-grows _ m n h
+
+-- numbers put at a place
+pub put-eq : (bs : List ℕ) (ns : List ℕ) → 2 * length ns ≤ length bs → putWords bs 0 ns ≡ words ns ++ drop (2 * length ns) bs
+unfolding putWords
+put-eq bs ns h =
+    let n = length-words ns in
+    let z : 0 + length (words ns) ≡ 2 * length ns = omega arith in
+    sets-eq (words ns) bs 0 (omega arith) ∙ rw z
+
+pub put-word : (bs : List ℕ) (at n : ℕ) → set (set bs at (n % 256)) (at + 1) (n / 256) ≡ putWords bs at (n ∷ [])
+unfolding putWords words word
+put-word bs at n = rw (add-one at)
+
+sets-append : (bs : List ℕ) (at : ℕ) (xs ys : List ℕ) → sets (sets bs at xs) (at + length xs) ys ≡ sets bs at (xs ++ ys)
+sets-append bs at [] ys = let z : at + 0 ≡ at = omega arith in rw z
+sets-append bs at (x ∷ xs) ys = let z : at + suc (length xs) ≡ suc at + length xs = omega arith in rw z (sets-append (set bs at x) (suc at) xs ys)
+
+words-append : (ms ns : List ℕ) → words ms ++ words ns ≡ words (ms ++ ns)
+unfolding words word
+words-append [] ns = refl
+words-append (m ∷ ms) ns = ap (λ (l : List ℕ). m % 256 ∷ m / 256 ∷ l) (words-append ms ns)
+
+-- numbers put behind numbers
+pub put-more : (bs : List ℕ) {cs ds : List ℕ} (at behind : ℕ) (ms ns : List ℕ) → behind ≡ at + 2 * length ms →
+    cs ≡ putWords bs at ms → ds ≡ putWords cs behind ns →
+    ds ≡ putWords bs at (ms ++ ns)
+unfolding putWords
+put-more bs at behind ms ns h p q =
+    let z : behind ≡ at + length (words ms) = omega (arith, length-words ms) in
+    q ∙ rw (p, z) (sets-append bs at (words ms) (words ns) ∙ ap (sets bs at) (words-append ms ns))

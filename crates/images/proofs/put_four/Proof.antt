@@ -1,0 +1,58 @@
+-- `images::put_four` meets its contract: each number is put behind the one before. Assumes nothing.
+use mathlib.Core.List.{[], _∷_}
+use Prim.Native.Nat.{_+_}
+use native.Mathlib.Omega.{arith}
+use borrow.Author.Needs.{needs}
+use Rattle.images.proofs.Laws.{put-more}
+use Rattle.images.proofs.put_four.Statement.{statement}
+use Rattle.images.proofs.put_four.Tie as tie
+
+put-word-requires : tie.Need-put-word-requires
+put-word-requires c κs = search needs
+
+add-put-word : tie.Need-add-put-word
+add-put-word c = search needs
+
+put-word-requires-2 : tie.Need-put-word-requires-2
+put-word-requires-2 c κs = search needs
+
+add-put-word-2 : tie.Need-add-put-word-2
+add-put-word-2 c = search needs
+
+put-word-requires-3 : tie.Need-put-word-requires-3
+put-word-requires-3 c κs = search needs
+
+add-put-word-3 : tie.Need-add-put-word-3
+add-put-word-3 c = search needs
+
+put-word-requires-4 : tie.Need-put-word-requires-4
+put-word-requires-4 c κs = search needs
+
+same-length : tie.Need-same-length
+same-length c = search needs
+
+returns : tie.Need-returns
+returns c =
+    let e = c .before .before .before .before .before .before .before .before .before .before in
+    let a = e .before .before .before .before .before .before .before .args in
+    let part = a .part .now in
+    let at = a .at in
+    put-more part at (at + 6) (a .a ∷ a .b ∷ a .c ∷ []) (a .d ∷ []) (omega arith)
+    (put-more part at (at + 4) (a .a ∷ a .b ∷ []) (a .c ∷ []) (omega arith)
+    (put-more part at (at + 2) (a .a ∷ []) (a .b ∷ []) (omega arith) (e .before .before .before .before .put-word .ensures) (e .put-word2 .ensures))
+    (c .before .before .before .before .before .before .put-word3 .ensures))
+    (c .before .before .put-word4 .ensures)
+
+pub put-four-spec : {M : Type 1} → statement M
+put-four-spec =
+    tie.close
+    (tie.spec
+    put-word-requires
+    add-put-word
+    put-word-requires-2
+    add-put-word-2
+    put-word-requires-3
+    add-put-word-3
+    put-word-requires-4
+    same-length
+    returns)

@@ -1,0 +1,2 @@
+-- What the contracts inside this crate cite.
+pub mod Parts
