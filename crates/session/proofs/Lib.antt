@@ -1,0 +1,3 @@
+-- What the proofs of this crate's functions share, and the law of the whole output.
+pub mod Laws
+pub mod Output
