@@ -4,17 +4,18 @@ use mathlib.Core.Path.{_≡_, refl, sym, _∙_, ap, subst}
 use mathlib.Core.Bool.{Bool, true, false, _&&_, _||_, not, cond}
 use mathlib.Core.Logic.{_⊎_, inl, inr, ⊎-elim}
 use mathlib.Core.List.{List}
-use Prim.Native.Nat.{ℕ, zero, _+_, _*_, _-_, _/_, _%_, _≤_, _<_}
+use Prim.Native.Nat.{ℕ, _+_, _*_, _-_, _/_, _%_, _≤_, _<_}
 use native.Mathlib.Numerals.{add-one}
 use native.Mathlib.Omega.{arith}
 use lib.ListN.{length, getD, set, length-set}
 use lib.Seq.{getD-set-same, getD-set-other, set-getD}
 use lib.Dec.{eqb}
 use borrow.Author.Tests.{eqb-true, eq-eqb, ne-eqb}
-use Rattle.finite.specs.Below.{any, one, count, rounds}
+use Rattle.finite.specs.Below.{any, count, rounds}
 use Rattle.finite.specs.Reach.{marked}
 use Rattle.finite.proofs.Bools.{and-intro, and-left, and-right, refute, test, same-test}
 use Rattle.finite.proofs.Below.{eq-or-ne, count-pos, count-le, count-ext, getD-tabulate}
+use Rattle.finite.proofs.Loops.{rounds-none, rounds-next}
 use Rattle.table.specs.declared.Table.{Table}
 use Rattle.table.specs.Table.{places, exits, counters, exitPlace, counterPlace, inUse, ownBit, targetOf, linkBit, counterOf, holds, strong, countsAt, linksTo, withLinks, withSteps}
 use Rattle.table.specs.Calls.{lowered, raised, relink, weakBit}
@@ -277,24 +278,9 @@ pub marks-at : (n : ℕ) (l : List ℕ) (i : ℕ) → i < n → marked (asMarks 
 unfolding asMarks
 marks-at n l i h = getD-tabulate n (isOne l) false i h
 
-pub count-next : (p : ℕ → Bool) (k : ℕ) → count (k + 1) p ≡ count k p + one (p k)
-unfolding count
-count-next p k = rw (add-one k)
-
 pub size-marks : (n : ℕ) (l : List ℕ) → size (asMarks n l) n ≡ count n (isOne l)
 unfolding size
 size-marks n l = count-ext n _ _ (marks-at n l)
-
-pub rounds-none : {A : Type 0} (f : ℕ → A → A) (a : A) → a ≡ rounds 0 f a
-unfolding rounds
-rounds-none f a = refl
-
-pub rounds-next : {A : Type 0} (f : ℕ → A → A) (a : A) (k : ℕ) → rounds (k + 1) f a ≡ f k (rounds k f a)
-unfolding rounds
-rounds-next f a k = rw (add-one k)
-
-pub rounds-done : {A : Type 0} (f : ℕ → A → A) (a b : A) (k n : ℕ) → k ≡ n → b ≡ rounds k f a → b ≡ rounds n f a
-rounds-done f a b k n e q = q ∙ ap (λ (m : ℕ). rounds m f a) e
 
 -- A change made for each marked step, in part: for those below k.
 module _ (d : List Bool) (f : Table → ℕ → Table) where
@@ -302,8 +288,7 @@ module _ (d : List Bool) (f : Table → ℕ → Table) where
   eachBelow k t = rounds k (λ i u. cond (marked d i) (f u i) u) t
 
   pub each-none : (t : Table) → t ≡ eachBelow 0 t
-  unfolding rounds
-  each-none t = refl
+  each-none t = rounds-none _ t
 
   pub each-go : (t v w : Table) (k : ℕ) → marked d k ≡ true → v ≡ eachBelow k t → w ≡ f v k → w ≡ eachBelow (k + 1) t
   each-go t v w k m a b =

@@ -8,12 +8,11 @@ use mathlib.Core.List.{List}
 use Prim.Native.Nat.{ℕ, zero, suc, _+_, _-_, _≤_, _<_}
 use native.Mathlib.Numerals.{add-one}
 use native.Mathlib.Omega.{arith}
-use lib.ListN.{length, getD, set, replicate, length-set, length-replicate, getD-replicate, List·getD-eq-default}
+use lib.ListN.{length, getD, set, length-set, List·getD-eq-default}
 use lib.Seq.{getD-set-same, getD-set-other}
 use lib.Dec.{ltb}
 use borrow.Author.Tests.{eqb-true, lt-ltb}
 use Rattle.finite.specs.Below.{any, one, count, lowest}
-use Rattle.finite.specs.Reach.{marked}
 use Rattle.finite.proofs.Bools.{and-intro, and-left, and-right, or-left, or-right, or-elim, clash, test, same-test, not-true-false}
 use Rattle.finite.proofs.Below.{le-or-lt, eq-or-ne, any-at, any-intro, any-ext, any-false, count-change, count-le, lowest-passes, rounds-keep, tabulate-set}
 use Rattle.finite.proofs.Select.{lowest-any, lowest-most}
@@ -93,12 +92,6 @@ module _ (targets doubt before after : List ℕ) (k low mark : ℕ) (h : (i : �
       alone true true = refl
       alone true false = refl
       alone false a = refl
-
-pub zeros-at : (n i : ℕ) → getD {A = ℕ} (replicate n 0) i 0 ≡ 0
-zeros-at n i =
-    let l : List ℕ = replicate n 0 in
-    let e : length l ≡ n = length-replicate n 0 in
-    ⊎-elim (λ g. List·getD-eq-default l 0 {n = i} (rw e g)) (λ g. getD-replicate n i 0 0 g) (le-or-lt n i)
 
 -- A table in order with marks.
 module _ {n : ℕ} {own targets bits counts doubt : List ℕ} (r : Repairable n own targets bits counts doubt) where

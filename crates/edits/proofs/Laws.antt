@@ -1,5 +1,5 @@
 -- Laws of the parts of the calls. Assumes nothing.
---   count-next-true count-next-false find-turn find-none find-here   one turn of a count, and of a search
+--   find-turn find-none find-here   one turn of a search, and where it ends
 --   exit-passed exit-stopped accepted-sound   what a refusal that is 0, or is not, says of the conditions
 --   lowered-below lowered-empty formed-room   counters that fall, or do not, and room for one to rise
 --   formed-relinkable relink-arrays   for callers of `relink`: where it can be called, and what its arrays are
@@ -8,13 +8,12 @@ use mathlib.Core.Bool.{Bool, true, false, not}
 use mathlib.Core.Logic.{⊎-elim}
 use mathlib.Core.List.{List, _∷_}
 use Prim.Native.Nat.{ℕ, zero, suc, _+_, _*_, _-_, _≤_, _<_}
-use native.Mathlib.Numerals.{add-one}
 use native.Mathlib.Omega.{arith}
 use lib.ListN.{length, getD, set, length-set, List·getD-eq-default}
 use lib.Seq.{getD-set-same, getD-set-other}
 use lib.Dec.{eqb, leb, ltb}
 use borrow.Author.Tests.{leb-false, ltb-true, eq-eqb}
-use Rattle.finite.specs.Below.{count, find}
+use Rattle.finite.specs.Below.{find}
 use Rattle.finite.proofs.Bools.{test, not-true-false, not-false-true}
 use Rattle.finite.proofs.Below.{le-or-lt, count-le, eq-or-ne, find-hit, find-miss}
 use Rattle.table.specs.Table.{places, exits, counters, exitPlace, counterPlace, inUse, targetOf, linkBit, counterOf, holds, countsAt, linksTo, withLinks}
@@ -27,15 +26,6 @@ use Rattle.table.proofs.Sound.{test-sound}
 use Rattle.table.proofs.Calls.{nonzero, first-zero}
 use Rattle.table.proofs.Formed.{Formed, Fit, formed-place}
 use Rattle.edits.specs.Parts.{usedAt, exitRefusal, exitAt, counterAt, Relinkable}
-
--- one turn of a count
-pub count-next-true : (n : ℕ) (p : ℕ → Bool) → p n ≡ true → count (n + 1) p ≡ count n p + 1
-unfolding count
-count-next-true n p t = rw (add-one n, t)
-
-pub count-next-false : (n : ℕ) (p : ℕ → Bool) → p n ≡ false → count (n + 1) p ≡ count n p
-unfolding count
-count-next-false n p t = rw (add-one n, t) (omega arith)
 
 -- a number of the circle has a place
 pub after-place : (n k : ℕ) → n ≤ places → after n k < places

@@ -4,7 +4,6 @@ ghost use Prim.Native.Nat.{_≤_, _<_};
 ghost use lib.ListN.{length, set};
 ghost use Rattle.finite.specs.Below.{count, tabulate};
 ghost use Rattle.table.specs.Table.{places, exits, counters, exitPlace};
-ghost use Rattle.table.specs.Sound.{contentFits};
 ghost use Rattle.table.specs.Calls.{freshTable, freshCall, lowered, raised, relink, after, numberGiven, withStep, addRefusal, addCall, linkRefusal, linkCall, fieldsOf, readRefusal, readCall};
 ghost use Rattle.edits.specs.Parts.{usedAt, freeAt, exitRefusal, exitAt, counterAt, Relinkable, Fillable};
 use table::Answer;
@@ -170,20 +169,8 @@ pub fn read(t: Table, step: u16) -> Reading
     Reading { refusal, fields }
 }
 
-// Whether a step of that kind can be added with that content: 1 contact, a phone book entry; 2 spoken message; 3 wait, in seconds.
-fn content_fits(kind: u16, content: u16) -> bool
-    ensures { λ r. ⌜ r ≡ contentFits kind content ⌝ }
-{
-    match kind {
-        1 => content <= 99,
-        2 => content <= 15,
-        3 => 1 <= content && content <= 600,
-        _ => false,
-    }
-}
-
 // How many of the steps below n are in use.
-fn count_used(used: &[u16; 128], n: u16) -> u16
+pub fn count_used(used: &[u16; 128], n: u16) -> u16
     requires { ⌜ n ≤ places ⌝ }
     ensures { λ r. ⌜ r ≡ count n (usedAt (now (used .entry))) ⌝ }
 {
@@ -316,7 +303,7 @@ fn add_refusal(t: Table, holder: u16, exit: u16, kind: u16, content: u16) -> u16
     if exit_at(&t.targets, holder, exit) != 0 {
         return EXIT_FILLED;
     }
-    if !content_fits(kind, content) {
+    if !soundness::content_fits(kind, content) {
         return BAD_KIND;
     }
     let capacity = t.capacity;

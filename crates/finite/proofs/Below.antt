@@ -252,10 +252,6 @@ seek (suc f) k p =
     ))
     (test (p k))
 
-pub lowest-le : (n : ℕ) (p : ℕ → Bool) → lowest n p ≤ n
-unfolding lowest
-lowest-le n p = omega (arith, seek n 0 p .3)
-
 pub lowest-passes : (n : ℕ) (p : ℕ → Bool) → lowest n p < n → p (lowest n p) ≡ true
 unfolding lowest
 lowest-passes n p h = seek n 0 p .1 (omega arith)

@@ -3,3 +3,4 @@ pub mod Bools
 pub mod Below
 pub mod Reach
 pub mod Select
+pub mod Loops

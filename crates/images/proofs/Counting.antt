@@ -6,22 +6,23 @@ use mathlib.Core.Logic.{⊎-elim}
 use mathlib.Core.List.{List}
 use Prim.Native.Nat.{ℕ, _+_, _*_, _/_, _%_, _≤_, _<_}
 use native.Mathlib.Omega.{arith}
-use lib.ListN.{getD, set, replicate, length-replicate, getD-replicate}
+use lib.ListN.{getD, set, replicate, length-replicate}
 use lib.Dec.{eqb}
 use borrow.Author.Tests.{eqb-true, eqb-false, eq-eqb, ne-eqb}
 use Rattle.finite.specs.Below.{count, tabulate}
 use Rattle.finite.proofs.Bools.{and-intro, and-left, and-right, refute, not-true-false}
 use Rattle.finite.proofs.Below.{le-or-lt, count-le, getD-tabulate, tabulate-ext, tabulate-set}
 use Rattle.finite.proofs.Select.{tabulate-entries}
+use Rattle.finite.proofs.Loops.{count-hit, count-miss}
 use Rattle.table.specs.declared.Table.{Table}
 use Rattle.table.specs.Table.{countsAt, linksTo, withLinks}
+use Rattle.table.proofs.Edits.{getD-zeros}
 use Rattle.image.specs.Image.{counted}
 use Rattle.images.specs.Parts.{linkTable}
-use Rattle.images.proofs.Laws.{count-hit, count-miss}
 
 -- a list of zeros
 pub zeros : (n : ℕ) → tabulate {A = ℕ} n (λ i. 0) ≡ replicate n 0
-zeros n = tabulate-entries {A = ℕ} n (λ i. 0) (replicate n 0) 0 (length-replicate n 0) (λ i h. sym (getD-replicate n i 0 0 h))
+zeros n = tabulate-entries {A = ℕ} n (λ i. 0) (replicate n 0) 0 (length-replicate n 0) (λ i h. sym (getD-zeros n i))
 
 module _ (u : Table) where
   -- counter q, from the exits before place p

@@ -1,9 +1,8 @@
 -- Laws that the proofs of this crate share. Assumes nothing.
---   count-hit count-miss   one more number is counted, or is not
---   used-..                the same of the steps in use
+--   usedBelow used n           how many of the first n steps are in use
+--   used-..                    one more step, in use or not
 --   put-eq put-word put-more   numbers put from a place on, and behind others
 use mathlib.Core.Path.{_≡_, refl, _∙_, ap}
-use mathlib.Core.Bool.{Bool, true, false}
 use mathlib.Core.List.{List, [], _∷_, _++_}
 use Prim.Native.Nat.{ℕ, suc, _+_, _*_, _/_, _%_, _≤_}
 use native.Mathlib.Numerals.{add-one}
@@ -11,40 +10,34 @@ use native.Mathlib.Omega.{arith}
 use lib.ListN.{length, getD, set, drop}
 use lib.Seq.{sets, sets-eq}
 use borrow.Author.Tests.{eq-eqb, ne-eqb}
-use Rattle.finite.specs.Below.{one, count}
+use Rattle.finite.specs.Below.{count}
 use Rattle.finite.proofs.Below.{count-le}
 use Rattle.finite.proofs.Select.{count-grows}
+use Rattle.finite.proofs.Loops.{count-hit, count-miss}
 use Rattle.image.specs.Image.{word, words}
 use Rattle.image.proofs.Words.{length-words}
-use Rattle.images.specs.Parts.{putWords, usedBelow}
+use Rattle.edits.specs.Parts.{usedAt}
+use Rattle.images.specs.Parts.{putWords}
 
--- one more number is counted, or is not
-pub count-hit : (n : ℕ) (p : ℕ → Bool) → p n ≡ true → count (n + 1) p ≡ count n p + 1
-unfolding count
-count-hit n p h = let x : one (p n) ≡ 1 = rw h in rw (add-one n) (omega arith)
-
-pub count-miss : (n : ℕ) (p : ℕ → Bool) → p n ≡ false → count (n + 1) p ≡ count n p
-unfolding count
-count-miss n p h = let x : one (p n) ≡ 0 = rw h in rw (add-one n) (omega arith)
+abbrev pub usedBelow : List ℕ → ℕ → ℕ
+usedBelow used n = count n (usedAt used)
 
 pub used-hit : (used : List ℕ) (n : ℕ) → getD used n 0 ≡ 1 → usedBelow used (n + 1) ≡ usedBelow used n + 1
-unfolding usedBelow
+unfolding usedAt
 used-hit used n h = count-hit n _ (eq-eqb (getD used n 0) 1 h)
 
 pub used-miss : (used : List ℕ) (n : ℕ) → (getD used n 0 ≡ 1 → ⊥) → usedBelow used (n + 1) ≡ usedBelow used n
-unfolding usedBelow
+unfolding usedAt
 used-miss used n h = count-miss n _ (ne-eqb (getD used n 0) 1 h)
 
 pub used-none : (used : List ℕ) → 0 ≡ usedBelow used 0
-unfolding usedBelow count
+unfolding count
 used-none used = refl
 
 pub used-le : (used : List ℕ) (n : ℕ) → usedBelow used n ≤ n
-unfolding usedBelow
 used-le used n = count-le n _
 
 pub used-grows : (used : List ℕ) (m n : ℕ) → m ≤ n → usedBelow used m ≤ usedBelow used n
-unfolding usedBelow
 used-grows used m n h = count-grows _ m n h
 
 -- numbers put at a place

@@ -20,8 +20,9 @@ use Rattle.table.specs.Answer.{first}
 use Rattle.image.specs.Image.{recordSize, recordBytes, headerRecordKind, stepRecordKind, headerFieldsOf, bitsOf, stepFieldsOf, stepsBelow, image, imageLength, writeRefusal, writeCall}
 use Rattle.image.proofs.Words.{length-record}
 use Rattle.images.specs.declared.StepRecord.{StepRecord}
-use Rattle.images.specs.Parts.{recordFields, RecordFrom, BitsSmall, usedBelow}
-use Rattle.images.proofs.Laws.{used-hit, used-miss, used-none, used-grows}
+use Rattle.edits.specs.Parts.{usedAt}
+use Rattle.images.specs.Parts.{recordFields, RecordFrom, BitsSmall}
+use Rattle.images.proofs.Laws.{usedBelow, used-hit, used-miss, used-none, used-grows}
 
 pub record Written (t : Table) (start bytes : List ℕ) (at i : ℕ) : Type 0 where
   pub behind : at ≡ 10 + length (stepsBelow t i)
@@ -38,7 +39,7 @@ record-fields t i r f =
     rw (f .number, f .kind, f .content, f .bits, f .first, f .second, f .third, f .fourth, z)
 
 header-fields : (t : Table) (n : ℕ) → n ≡ usedBelow (t .used) (t .capacity) → t .capacity ∷ t .last ∷ n ∷ [] ≡ headerFieldsOf t
-unfolding headerFieldsOf stepsInUse inUse usedBelow
+unfolding headerFieldsOf stepsInUse inUse usedAt
 header-fields t n e = rw e
 
 -- the steps below i + 1
@@ -125,7 +126,7 @@ module _ (t : Table) (start : List ℕ) where
   -- past the last step, behind the header
   pub written-all : (buffer bytes : List ℕ) (at n : ℕ) → Written t start bytes at (t .capacity) → n ≡ usedBelow (t .used) (t .capacity) →
       start ≡ recordBytes headerRecordKind (t .capacity ∷ t .last ∷ n ∷ []) ++ drop 10 buffer → bytes ≡ image t ++ drop (imageLength t) buffer
-  unfolding image imageLength stepsInUse headerFieldsOf recordSize inUse usedBelow
+  unfolding image imageLength stepsInUse headerFieldsOf recordSize inUse usedAt
   written-all buffer bytes at n w m e =
       let header = recordBytes headerRecordKind (headerFieldsOf t) in
       let begun : start ≡ header ++ drop 10 buffer = e ∙ ap (λ (l : List ℕ). recordBytes headerRecordKind l ++ drop 10 buffer) (header-fields t n m) in
@@ -169,10 +170,10 @@ module _ (t : Table) (buffer : List ℕ) where
 
   pub write-short : sound t ≡ true → length buffer < 10 + 20 * usedBelow (t .used) (t .capacity) →
       writeCall t buffer ≡ record { answer = Refused 11; buffer = buffer }
-  unfolding writeCall writeRefusal first imageLength recordSize stepsInUse inUse usedBelow
+  unfolding writeCall writeRefusal first imageLength recordSize stepsInUse inUse usedAt
   write-short h l = let x : ltb (length buffer) (imageLength t) ≡ true = lt-ltb (length buffer) (imageLength t) l in rw (h, x)
 
   pub write-fits : sound t ≡ true → 10 + 20 * usedBelow (t .used) (t .capacity) ≤ length buffer →
       writeCall t buffer ≡ record { answer = Given (10 + 20 * usedBelow (t .used) (t .capacity)) 0; buffer = image t ++ drop (imageLength t) buffer }
-  unfolding writeCall writeRefusal first imageLength recordSize stepsInUse inUse usedBelow
+  unfolding writeCall writeRefusal first imageLength recordSize stepsInUse inUse usedAt
   write-fits h l = let x : ltb (length buffer) (imageLength t) ≡ false = le-ltb (length buffer) (imageLength t) l in rw (h, x)

@@ -1,6 +1,5 @@
 -- What the functions inside this crate give back; the calls' own definitions are those of the crate image. Assumes nothing.
 --   putWords bs at ns   the bytes with numbers from a place on, two bytes each
---   usedBelow used n    how many of the first n steps are in use
 --   recordFields r      the fields of a step record, in their order
 --   RecordFrom .. i r   r is the record of step i of a table with these arrays
 --   BitsSmall own bits i   the bits of step i are 0 or 1
@@ -18,7 +17,6 @@ use Prim.Native.Nat.{ℕ, _+_, _*_, _<_}
 use lib.ListN.{length, getD, replicate}
 use lib.Seq.{sets}
 use lib.Dec.{eqb, leb, ltb}
-use Rattle.finite.specs.Below.{count}
 use Rattle.table.specs.declared.Table.{Table}
 use Rattle.table.specs.declared.Answer.the-variants.{Refused}
 use Rattle.table.specs.declared.Outcome.{Outcome}
@@ -34,9 +32,6 @@ use Rattle.images.specs.declared.Header.the-variants.{Fits, Unfit}
 
 unfoldable pub putWords : List ℕ → ℕ → List ℕ → List ℕ
 putWords bs at ns = sets bs at (words ns)
-
-unfoldable pub usedBelow : List ℕ → ℕ → ℕ
-usedBelow used n = count n (λ i. eqb (getD used i 0) 1)
 
 unfoldable pub recordFields : StepRecord → List ℕ
 recordFields r = r .number ∷ r .kind ∷ r .content ∷ r .bits ∷ r .first ∷ r .second ∷ r .third ∷ r .fourth ∷ []

@@ -5,7 +5,7 @@ ghost use Prim.Native.Nat.{ℕ, _+_, _*_, _/_, _%_, _<_, _≤_};
 ghost use lib.ListN.{length, getD, drop};
 ghost use lib.Seq.{sets};
 ghost use Rattle.image.specs.Image.{writeCall, loadCall, recordBytes, headerRecordKind, stepRecordKind, wordAt, counted};
-ghost use Rattle.images.specs.Parts.{putWords, usedBelow, recordFields, RecordFrom, BitsSmall, readStep, readHeader, linkTable, blankTable, refusedLoad};
+ghost use Rattle.images.specs.Parts.{putWords, recordFields, RecordFrom, BitsSmall, readStep, readHeader, linkTable, blankTable, refusedLoad};
 use table::Answer;
 use table::Outcome;
 use table::Table;
@@ -126,24 +126,6 @@ fn step_record<'a>(
     }
 }
 
-// How many steps below the capacity are in use.
-fn steps_in_use(used: &[u16; 128], capacity: u16) -> u16
-    requires { ⌜ capacity ≤ 128 ⌝ }
-    ensures { λ r. ⌜ r ≡ usedBelow (now (used .entry)) capacity ⌝ }
-{
-    let n = capacity as usize;
-    let mut steps: u16 = 0;
-    let mut i: usize = 0;
-    // The steps in use below i are counted.
-    while i < n {
-        if used[i] == 1 {
-            steps += 1;
-        }
-        i += 1;
-    }
-    steps
-}
-
 // Writes the image of a sound table to the start of the buffer, and gives back its length. A refused call writes nothing.
 pub fn write_image(t: Table, buffer: &mut [u8]) -> Answer
     ensures answer { λ r. ⌜ r ≡ writeCall t (now (buffer .entry)) .answer ⌝ }
@@ -153,7 +135,7 @@ pub fn write_image(t: Table, buffer: &mut [u8]) -> Answer
         return Answer::Refused(NOT_SOUND);
     }
     let capacity = t.capacity;
-    let steps = steps_in_use(&t.used, capacity);
+    let steps = edits::count_used(&t.used, capacity);
     let size = HEADER_SIZE + STEP_SIZE * steps;
     if buffer.len() < size as usize {
         return Answer::Refused(TOO_SHORT);
@@ -312,11 +294,9 @@ fn blank(capacity: u16, last: u16) -> Table
 fn refused() -> Outcome
     ensures { λ r. ⌜ r ≡ refusedLoad ⌝ }
 {
-    let mut t = blank(1, 0);
-    t.used[0] = 1;
     Outcome {
         answer: Answer::Refused(NOT_ACCEPTED),
-        table: t,
+        table: edits::fresh_table(1),
     }
 }
 

@@ -5,13 +5,13 @@ use mathlib.Core.Path.{_≡_, refl}
 use mathlib.Core.Bool.{Bool, true, false, _&&_}
 use mathlib.Core.List.{List, [], _∷_}
 use Prim.Native.Nat.{ℕ, zero, suc, _+_, _*_, _-_, _^_, _≤_, _<_}
-use native.Mathlib.Nat.{add-zero, pow-le-pow-right}
+use native.Mathlib.Nat.{pow-le-pow-right}
 use native.Mathlib.Numerals.{add-one}
 use native.Mathlib.Omega.{arith}
 use lib.ListN.{length, getD}
 use lib.Dec.{eqb, leb}
 use borrow.Author.Tests.{leb-true, eqb-true, eq-eqb}
-use Rattle.finite.specs.Below.{all, count}
+use Rattle.finite.specs.Below.{all}
 use Rattle.finite.proofs.Bools.{and-left, and-right, clash, refute, passes-at}
 use Rattle.finite.proofs.Below.{all-at}
 use Rattle.table.specs.declared.Table.{Table}
@@ -22,23 +22,6 @@ use Rattle.keyline.specs.declared.Command.the-variants.{Add, Link, Clear, Count
 use Rattle.keyline.specs.declared.Decoded.{Decoded}
 use Rattle.keyline.specs.declared.Decoded.the-variants.{Line, Nothing}
 use Rattle.keyline.specs.Keys.{held, star, pressed, digit, isDigit, isLine, decimal, decode, performLine, keyCall}
-
--- a test that fails below n
-pub all-break : (n : ℕ) (p : ℕ → Bool) (k : ℕ) → k < n → p k ≡ false → all n p ≡ false
-all-break n p k l f = refute (all n p) (λ h. clash (all-at n p h k l) f)
-
--- one more number is tested, or counted
-pub all-more : (n : ℕ) (p : ℕ → Bool) → all n p ≡ true → p n ≡ true → all (n + 1) p ≡ true
-unfolding all
-all-more n p h g = rw (add-one n, h, g)
-
-pub count-hit : (n : ℕ) (p : ℕ → Bool) → p n ≡ true → count (n + 1) p ≡ count n p + 1
-unfolding count
-count-hit n p h = rw (add-one n, h)
-
-pub count-miss : (n : ℕ) (p : ℕ → Bool) → p n ≡ false → count (n + 1) p ≡ count n p
-unfolding count
-count-miss n p h = rw (add-one n, h, add-zero)
 
 pub digit-low : (x : ℕ) → isDigit x ≡ true → digit 0 ≤ x
 unfolding isDigit

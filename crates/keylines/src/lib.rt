@@ -3,9 +3,7 @@ ghost use mathlib.Core.Path.{_≡_};
 ghost use mathlib.Core.Bool.{true};
 ghost use Prim.Native.Nat.{ℕ, _+_, _-_, _≤_, _<_};
 ghost use lib.ListN.{length, getD};
-ghost use lib.Dec.{eqb};
-ghost use Rattle.finite.specs.Below.{all, count};
-ghost use Rattle.table.specs.Table.{places};
+ghost use Rattle.finite.specs.Below.{all};
 ghost use Rattle.table.specs.Sound.{sound};
 ghost use Rattle.keyline.specs.Keys.{digit, isDigit, isLine, decimal, decode, spokenCounts, keyCall};
 use keyline::Command;
@@ -145,31 +143,13 @@ pub fn decode(line: &[u8]) -> Decoded
     Decoded::Nothing
 }
 
-// The number of steps in use below a capacity.
-fn steps_in_use(used: &[u16; 128], capacity: u16) -> u16
-    requires { ⌜ capacity ≤ places ⌝ }
-    ensures { λ r. ⌜ r ≡ count capacity (λ i. eqb (getD (now (used .entry)) i 0) 1) ⌝ }
-{
-    let end = capacity as usize;
-    let mut n: u16 = 0;
-    let mut i: usize = 0;
-    // Each time round: n of the steps below i are in use.
-    while i < end {
-        if used[i] == 1 {
-            n += 1;
-        }
-        i += 1;
-    }
-    n
-}
-
 // The spoken counts of a sound table, which is handed back as it is: steps in use, and free ones.
 fn spoken_counts(t: Table) -> Outcome
     requires { ⌜ sound t ≡ true ⌝ }
     ensures { λ r. ⌜ r ≡ spokenCounts t ⌝ }
 {
     let capacity = t.capacity;
-    let n = steps_in_use(&t.used, capacity);
+    let n = edits::count_used(&t.used, capacity);
     Outcome {
         answer: Answer::Given(n, capacity - n),
         table: t,

@@ -1,44 +1,29 @@
--- A loop that tests one number after the other, and the recount. Assumes nothing.
-use mathlib.Core.Path.{_≡_, refl, sym, _∙_, ap, ap₂}
-use mathlib.Core.Bool.{Bool, true, false, _&&_, not, cond}
+-- The tests of one exit, and the recount. Assumes nothing.
+use mathlib.Core.Path.{_≡_, refl, sym, _∙_, ap}
+use mathlib.Core.Bool.{false}
 use mathlib.Core.List.{List}
 use Prim.Native.Nat.{ℕ, zero, suc, _+_, _*_, _≤_, _<_}
-use native.Mathlib.Numerals.{add-one}
 use native.Mathlib.Omega.{arith}
 use lib.ListN.{length, getD, set, replicate}
 use lib.Dec.{eqb, ltb}
 use borrow.Author.Tests.{eq-eqb, ne-eqb, lt-ltb, le-ltb}
-use Rattle.finite.specs.Below.{all, one, count, rounds}
-use Rattle.finite.proofs.Bools.{and-intro, clash, refute}
-use Rattle.finite.proofs.Below.{all-at, all-intro, count-le, rounds-keep}
-use Rattle.table.specs.Table.{places, exits, counters, exitPlace, counterPlace}
+use Rattle.finite.specs.Below.{one, count, rounds}
+use Rattle.finite.proofs.Below.{count-le, rounds-keep}
+use Rattle.finite.proofs.Loops.{rounds-next}
+use Rattle.table.specs.Table.{places, counters, exitPlace, counterPlace}
 use Rattle.table.specs.Calls.{raised}
 use Rattle.table.proofs.Relink.{hits, raised-at, length-raised}
 use Rattle.table.proofs.Edits.{getD-zeros}
 use Rattle.withdraw.specs.Search.{InRange}
 use Rattle.soundness.specs.Parts.{exitFits, recount}
 
-pub all-none : (p : ℕ → Bool) → all 0 p ≡ true
-unfolding all
-all-none p = refl
-
-pub all-more : (n : ℕ) (p : ℕ → Bool) → all n p ≡ true → p n ≡ true → all (n + 1) p ≡ true
-unfolding all
-all-more n p a h = rw add-one (and-intro a h)
-
-pub all-fails : (n : ℕ) (p : ℕ → Bool) (k : ℕ) → k < n → p k ≡ false → all n p ≡ false
-all-fails n p k l f = refute (all n p) (λ a. clash (all-at n p a k l) f)
-
-pub all-done : (i n : ℕ) (p : ℕ → Bool) → all i p ≡ true → n ≤ i → true ≡ all n p
-all-done i n p a l = sym (all-intro n p (λ k b. all-at i p a k (omega arith)))
-
 pub recount-none : (targets bits : List ℕ) → recount targets bits 0 ≡ replicate (places * counters) 0
 unfolding recount rounds
 recount-none targets bits = refl
 
 pub recount-more : (targets bits : List ℕ) (p : ℕ) → recount targets bits (p + 1) ≡ raised (getD targets p 0) (getD bits p 0) (recount targets bits p)
-unfolding recount rounds
-recount-more targets bits p = rw add-one
+unfolding recount
+recount-more targets bits p = rounds-next _ _ p
 
 pub length-recount : (targets bits : List ℕ) (n : ℕ) → length (recount targets bits n) ≡ places * counters
 unfolding recount
@@ -104,7 +89,3 @@ module _ (targets bits : List ℕ) (p j b : ℕ) (cs cs′ : List ℕ) (qj : j �
 
   pub counted-none : j ≡ 0 → cs′ ≡ cs → cs′ ≡ recount targets bits (p + 1)
   counted-none z q = q ∙ sym (raised-none j b cs z) ∙ next
-
-pub and-true : (b : Bool) → (b && true) ≡ b
-and-true true = refl
-and-true false = refl

@@ -142,10 +142,6 @@ module _ (t : Table) (i e j b k : ℕ) where
   unfolding relink withLinks contentOf
   relink-content = refl
 
-  pub relink-own : ownBit (relink t i e j b) k ≡ ownBit t k
-  unfolding relink withLinks ownBit
-  relink-own = refl
-
 module _ (t : Table) (s : Shape t) (i e j b : ℕ) (li : i < places) (le : e < exits) where
   pub relink-shape : Shape (relink t i e j b)
   unfolding relink withLinks

@@ -3,25 +3,26 @@
 --   points-strong strong-points   a head is a strong link
 --   pointing-count    what is left at the beginning: the counter of each step's own bit
 --   up-marked kept-parent   the marked steps and the others, once nothing is pending
-use mathlib.Core.Path.{_≡_, refl, sym, _∙_, ap, ap₂, subst}
-use mathlib.Core.Bool.{Bool, true, false, _&&_, not, cond}
-use mathlib.Core.Logic.{_⊎_, inl, inr, ⊎-elim}
+use mathlib.Core.Path.{_≡_, sym, _∙_, ap, subst}
+use mathlib.Core.Bool.{true, false, _&&_, not}
+use mathlib.Core.Logic.{_⊎_, ⊎-elim}
 use mathlib.Core.List.{List}
-use Prim.Native.Nat.{ℕ, zero, suc, _+_, _*_, _-_, _/_, _%_, _≤_, _<_}
+use Prim.Native.Nat.{ℕ, _+_, _*_, _-_, _/_, _%_, _≤_, _<_}
 use native.Mathlib.Omega.{arith}
-use lib.ListN.{length, getD}
+use lib.ListN.{getD}
 use lib.Dec.{eqb}
 use borrow.Author.Tests.{eqb-true, eqb-false, eq-eqb, ne-eqb}
-use Rattle.finite.specs.Below.{one, count}
-use Rattle.finite.proofs.Bools.{and-intro, and-left, and-right, clash, refute, test, same-test, not-true-false}
-use Rattle.finite.proofs.Below.{le-or-lt, eq-or-ne, count-ext, count-none, count-pos, count-some}
+use Rattle.finite.specs.Below.{count}
+use Rattle.finite.proofs.Bools.{and-intro, and-left, and-right, refute, test, same-test, not-true-false}
+use Rattle.finite.proofs.Below.{eq-or-ne, count-ext, count-none, count-pos, count-some}
+use Rattle.finite.proofs.Loops.{count-add}
 use Rattle.table.specs.declared.Table.{Table}
 use Rattle.table.specs.Table.{places, exits, counters, exitPlace, inUse, ownBit, targetOf, linkBit, counterOf, holds, strong, stronglyLinked, countsAt, linksTo}
 use Rattle.table.proofs.Links.{empty-target, holder-used, strong-holds, strong-bit, holds-target, strongly-exit, exit-strongly}
 use Rattle.table.proofs.Relink.{exit-place-split, exit-place-below}
 use Rattle.table.proofs.Formed.{Formed, formed-wired, formed-place, formed-below, lead-used}
 use Rattle.withdraw.specs.Search.{headAt, points, isMarked, pointing, pointingKept, Search, InRange}
-use Rattle.withdraw.proofs.Laws.{points-target, points-intro, head-empty, head-strong, head-weak, count-add}
+use Rattle.withdraw.proofs.Laws.{points-target, points-intro, head-empty, head-strong, head-weak}
 
 -- the heads of a table's exits
 abbrev pub heads : Table → ℕ → ℕ

@@ -4,11 +4,11 @@
 --   search-mark    a step with none left is marked, and its own exits are pending
 --   search-begin   where a search begins
 --   rest-step      the exits of a step, one by one
-use mathlib.Core.Path.{_≡_, refl, sym, _∙_, ap, ap₂, subst}
-use mathlib.Core.Bool.{Bool, true, false, _&&_, _||_, not, cond}
+use mathlib.Core.Path.{_≡_, refl, sym, _∙_, ap}
+use mathlib.Core.Bool.{Bool, true, false, _&&_, not}
 use mathlib.Core.Logic.{_⊎_, inl, inr, ⊎-elim}
 use mathlib.Core.List.{List}
-use Prim.Native.Nat.{ℕ, zero, suc, _+_, _*_, _-_, _/_, _%_, _≤_, _<_}
+use Prim.Native.Nat.{ℕ, zero, suc, _+_, _*_, _-_, _/_, _≤_, _<_}
 use native.Mathlib.Omega.{arith}
 use lib.ListN.{length, getD, set, length-set}
 use lib.Seq.{getD-set-same, getD-set-other}
@@ -17,24 +17,10 @@ use borrow.Author.Tests.{eqb-true, eqb-false, eq-eqb, ne-eqb}
 use Rattle.finite.specs.Below.{one, count}
 use Rattle.finite.proofs.Bools.{and-intro, and-left, and-right, clash, refute, test, same-test, not-true-false}
 use Rattle.finite.proofs.Below.{eq-or-ne, count-ext, count-mono, count-change, count-split, count-none, count-pos}
+use Rattle.finite.proofs.Select.{count-grows}
+use Rattle.finite.proofs.Loops.{count-add}
 use Rattle.table.specs.Table.{places, exits, exitPlace}
 use Rattle.withdraw.specs.Search.{headAt, points, isMarked, pointing, pointingKept, at, rest, Search, Pending, Withdrawn, unmarked}
-
--- counting on: the first m, and r more
-pub count-add : (m r : ℕ) (p : ℕ → Bool) → count (m + r) p ≡ count m p + count r (λ f. p (m + f))
-unfolding count
-count-add m zero p = let z : m + 0 ≡ m = omega arith in rw z (omega arith)
-count-add m (suc r) p =
-    let z : m + suc r ≡ suc (m + r) = omega arith in
-    let h = count-add m r p in
-    rw z (omega arith)
-
-pub count-longer : (m n : ℕ) (p : ℕ → Bool) → m ≤ n → count m p ≤ count n p
-count-longer m n p l =
-    let z : n ≡ m + (n - m) = omega arith in
-    let h = count-add m (n - m) p in
-    let g : count n p ≡ count (m + (n - m)) p = ap (λ (k : ℕ). count k p) z in
-    omega arith
 
 count-zero : (p : ℕ → Bool) → count 0 p ≡ 0
 unfolding count
@@ -125,7 +111,7 @@ module _ (h : ℕ → ℕ) where
   pub rest-step : (i e j : ℕ) → e < exits → rest h i e j ≡ at h (exitPlace i e) j + rest h i (suc e) j
   unfolding rest at count
   rest-step i e j l =
-      let m = count-longer (suc e) exits (λ f. points h (exitPlace i f) j) l in
+      let m = count-grows (λ f. points h (exitPlace i f) j) (suc e) exits l in
       omega arith
 
   pub search-ext : {left marks : List ℕ} {a b : ℕ → ℕ} → ((j : ℕ) → a j ≡ b j) → Search h left marks a → Search h left marks b

@@ -3,10 +3,11 @@ use mathlib.Core.Path.{_≡_, refl, sym, _∙_, ap}
 use mathlib.Core.Logic.{⊎-elim}
 use Prim.Native.Nat.{ℕ, _-_, _≤_}
 use native.Mathlib.Omega.{arith}
-use Rattle.finite.specs.Below.{one, count}
+use Rattle.finite.specs.Below.{count}
 use Rattle.finite.proofs.Below.{count-le}
+use Rattle.finite.proofs.Loops.{count-hit, count-miss}
 use Rattle.clearing.specs.Clearing.{isOne}
-use Rattle.clearing.proofs.Laws.{is-one, not-one, count-next, size-marks}
+use Rattle.clearing.proofs.Laws.{is-one, not-one, size-marks}
 use Rattle.clearing.proofs.count_marks.Statement.{statement}
 use Rattle.clearing.proofs.count_marks.Tie as tie
 
@@ -40,10 +41,9 @@ loop-again : tie.Need-loop-again Inv-loop μ-loop
 loop-again c =
     let k = c .before .before .before .loop .k in
     let d = c .before .before .before .before .args .doubt .now in
-    let n = count-next (isOne d) k in
     ⊎-elim
-    (λ w. let o : one (isOne d k) ≡ 1 = ap one (is-one d k (w .0 .taken)) in omega arith)
-    (λ w. let o : one (isOne d k) ≡ 0 = ap one (not-one d k (w .0 .left)) in omega arith)
+    (λ w. omega (arith, count-hit k (isOne d) (is-one d k (w .0 .taken))))
+    (λ w. omega (arith, count-miss k (isOne d) (not-one d k (w .0 .left))))
     (c .if1 .came)
 
 returns : tie.Need-returns Inv-loop μ-loop

@@ -7,9 +7,10 @@ use native.Mathlib.Omega.{arith}
 use lib.ListN.{length, getD}
 use Rattle.finite.specs.Below.{one}
 use Rattle.table.specs.Table.{places}
+use Rattle.table.proofs.Edits.{getD-zeros}
 use Rattle.clearing.specs.Clearing.{wantedIn}
 use Rattle.clearing.proofs.Laws.{is-one, not-one}
-use Rattle.clearing.proofs.Repairs.{zeros-at, wanted-start, wanted-go, wanted-stay}
+use Rattle.clearing.proofs.Repairs.{wanted-start, wanted-go, wanted-stay}
 use Rattle.clearing.proofs.first_candidates.Statement.{statement}
 use Rattle.clearing.proofs.first_candidates.Tie as tie
 
@@ -21,7 +22,7 @@ abbrev μ-loop : tie.MeasureT-loop
 μ-loop n targets doubt wanted₀ k₀ wanted k = n - k
 
 loop-holds : tie.Need-loop-holds Inv-loop μ-loop
-loop-holds c = (omega arith, refl, λ i. zeros-at 128 i ∙ sym (wanted-start (c .args .targets .now) (c .args .doubt .now) i))
+loop-holds c = (omega arith, refl, λ i. getD-zeros places i ∙ sym (wanted-start (c .args .targets .now) (c .args .doubt .now) i))
 
 mul-if1 : tie.Need-mul-if1 Inv-loop μ-loop
 mul-if1 c = omega arith

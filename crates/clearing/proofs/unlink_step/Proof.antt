@@ -5,12 +5,13 @@ use mathlib.Core.List.{List}
 use Prim.Native.Nat.{ℕ, _-_, _≤_}
 use native.Mathlib.Omega.{arith}
 use Rattle.finite.specs.Below.{rounds}
+use Rattle.finite.proofs.Loops.{rounds-none, rounds-next, rounds-done}
 use Rattle.table.specs.declared.Table.{Table}
 use Rattle.table.specs.Table.{exits}
 use Rattle.table.specs.Calls.{relink}
 use Rattle.table.specs.Clear.{unlinked}
 use Rattle.clearing.specs.Clearing.{assembled, Standing}
-use Rattle.clearing.proofs.Laws.{rounds-none, rounds-next, rounds-done, standing-held, standing-emptied}
+use Rattle.clearing.proofs.Laws.{standing-held, standing-emptied}
 use Rattle.clearing.proofs.unlink_step.Statement.{statement}
 use Rattle.clearing.proofs.unlink_step.Tie as tie
 

@@ -7,8 +7,8 @@ use native.Mathlib.Omega.{arith}
 use borrow.Author.Tests.{eq-eqb, ne-eqb}
 use Rattle.finite.specs.Below.{count}
 use Rattle.finite.proofs.Below.{count-le}
+use Rattle.finite.proofs.Loops.{count-hit, count-miss}
 use Rattle.edits.specs.Parts.{usedAt}
-use Rattle.edits.proofs.Laws.{count-next-true, count-next-false}
 use Rattle.edits.proofs.count_used.Statement.{statement}
 use Rattle.edits.proofs.count_used.Tie as tie
 
@@ -50,8 +50,8 @@ loop-again c =
     let used = c .before .before .before .before .args .used .now in (
       omega arith,
       ⊎-elim
-          (λ w. w .1 ∙ ap (λ (n : ℕ). n + 1) (loop .inv .1) ∙ sym (count-next-true (loop .i) (usedAt used) (eq-eqb _ _ (w .0 .taken))))
-          (λ w. w .1 ∙ loop .inv .1 ∙ sym (count-next-false (loop .i) (usedAt used) (ne-eqb _ _ (w .0 .left))))
+          (λ w. w .1 ∙ ap (λ (n : ℕ). n + 1) (loop .inv .1) ∙ sym (count-hit (loop .i) (usedAt used) (eq-eqb _ _ (w .0 .taken))))
+          (λ w. w .1 ∙ loop .inv .1 ∙ sym (count-miss (loop .i) (usedAt used) (ne-eqb _ _ (w .0 .left))))
           (c .if1 .came),
     )
 

@@ -13,8 +13,7 @@ use Rattle.table.specs.declared.Table.{Table}
 use Rattle.table.specs.declared.Answer.the-variants.{Given}
 use Rattle.table.specs.Sound.{sound}
 use Rattle.table.proofs.Sound.{test-sound}
-use Rattle.images.specs.Parts.{usedBelow}
-use Rattle.images.proofs.Laws.{used-le}
+use Rattle.images.proofs.Laws.{usedBelow, used-le}
 use Rattle.images.proofs.Writing.{Written, written-none, written-more, written-same, written-all, written-room, bits-small, write-unsound, write-short, write-fits}
 use Rattle.images.proofs.write_image.Statement.{statement}
 use Rattle.images.proofs.write_image.Tie as tie
@@ -52,20 +51,20 @@ returns c =
     let e = write-unsound t (c .before .before .before .args .buffer .now) (sym (c .before .is-sound .ensures) ∙ not-true-false _ (c .if1 .taken)) in
     (sym (ap (λ w. w .answer) e), sym (ap (λ w. w .buffer) e))
 
-steps-in-use-requires : tie.Need-steps-in-use-requires Inv-loop μ-loop
-steps-in-use-requires c κs = test-sound (c .before .before .before .before .before .args .t1) (passed (c .before .before)) .most
+count-used-requires : tie.Need-count-used-requires Inv-loop μ-loop
+count-used-requires c κs = test-sound (c .before .before .before .before .before .args .t1) (passed (c .before .before)) .most
 
 mul-size : tie.Need-mul-size Inv-loop μ-loop
 mul-size c =
     let t = c .before .before .before .before .before .before .args .t1 in
     let m = test-sound t (passed (c .before .before .before)) .most in
-    omega (arith, used-le (t .used) (t .capacity), c .steps-in-use .ensures)
+    omega (arith, used-le (t .used) (t .capacity), c .count-used .ensures)
 
 add-size : tie.Need-add-size Inv-loop μ-loop
 add-size c =
     let t = c .before .before .before .before .before .before .args .t1 in
     let m = test-sound t (passed (c .before .before .before)) .most in
-    omega (arith, used-le (t .used) (t .capacity), c .steps-in-use .ensures)
+    omega (arith, used-le (t .used) (t .capacity), c .count-used .ensures)
 
 cast-if2 : tie.Need-cast-if2 Inv-loop μ-loop
 cast-if2 c = search needs
@@ -73,7 +72,7 @@ cast-if2 c = search needs
 returns-2 : tie.Need-returns-2 Inv-loop μ-loop
 returns-2 c =
     let s = c .before .before .before .before .before .before .before in
-    let n = c .before .steps-in-use .ensures in
+    let n = c .before .count-used .ensures in
     let e = write-short (s .args .t1) (s .args .buffer .now) (passed (c .before .before .before .before)) (rw (← n) (c .if2 .taken)) in
     (sym (ap (λ w. w .answer) e), sym (ap (λ w. w .buffer) e))
 
@@ -89,7 +88,7 @@ loop-holds c =
     let t = s .args .t1 in
     let start = c .before .before .put-header .last .0 in
     let m = test-sound t (passed (c .before .before .before .before .before .before .before .before)) .most in
-    let n = c .before .before .before .before .before .steps-in-use .ensures in
+    let n = c .before .before .before .before .before .count-used .ensures in
     let k : length start ≡ length (s .args .buffer .now) = c .before .before .put-header .kept .0 in
     let l = c .before .before .before .before .if2 .left in
     (omega arith, (m, (omega arith, (omega (arith, s .good), written-none t start (omega arith)))))
@@ -176,7 +175,7 @@ returns-3 c =
     let t = tableAt l in
     let buffer = l .before .before .before .before .before .before .before .before .before .before .before .before .args .buffer .now in
     let header = l .before .before .before .put-header in
-    let steps = l .before .before .before .before .before .before .steps-in-use in
+    let steps = l .before .before .before .before .before .before .count-used in
     let bytes = l .loop .buffer in
     let at = l .loop .at in
     let n = steps .ensures in
@@ -196,7 +195,7 @@ write-image-spec =
     μ-loop
     is-sound-requires
     returns
-    steps-in-use-requires
+    count-used-requires
     mul-size
     add-size
     cast-if2

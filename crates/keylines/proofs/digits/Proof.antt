@@ -1,13 +1,14 @@
 -- `keylines::digits` meets its contract. The loop's invariant: the `i` bytes from the place on are digits. The measure is the number of bytes
 -- left. Assumes nothing.
-use mathlib.Core.Path.{_≡_, refl, sym, _∙_, ap}
+use mathlib.Core.Path.{_≡_, sym, _∙_, ap}
 use mathlib.Core.Bool.{true}
 use Prim.Native.Nat.{ℕ, _-_, _≤_}
 use native.Mathlib.Omega.{arith}
 use borrow.Author.Needs.{needs}
 use borrow.Author.Tests.{not-true, not-false}
 use Rattle.finite.specs.Below.{all}
-use Rattle.keylines.proofs.Laws.{spelt, all-break, all-more}
+use Rattle.finite.proofs.Loops.{all-none, all-more, all-fails}
+use Rattle.keylines.proofs.Laws.{spelt}
 use Rattle.keylines.proofs.digits.Statement.{statement}
 use Rattle.keylines.proofs.digits.Tie as tie
 
@@ -18,8 +19,7 @@ abbrev μ-loop : tie.MeasureT-loop
 μ-loop line from n i₀ i = n - i
 
 loop-holds : tie.Need-loop-holds Inv-loop μ-loop
-unfolding all
-loop-holds c = (omega arith, refl)
+loop-holds c = (omega arith, all-none _)
 
 add-is-digit : tie.Need-add-is-digit Inv-loop μ-loop
 add-is-digit c = omega arith
@@ -35,7 +35,7 @@ returns c =
     let k = c .before .before .before .before in
     let a = k .before .before .args in
     sym
-    (all-break _ (spelt (a .line .now) (a .from)) (k .loop .i) (omega arith)
+    (all-fails _ (spelt (a .line .now) (a .from)) (k .loop .i) (omega arith)
     (sym (c .before .is-digit .ensures) ∙ not-true _ (c .if1 .taken)))
 
 add-i : tie.Need-add-i Inv-loop μ-loop

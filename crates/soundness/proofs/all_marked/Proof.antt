@@ -1,16 +1,15 @@
 -- `all_marked` tests every step in use. Assumes nothing.
-use borrow.Author.Needs.{needs}
-use Prim.Native.Nat.{ℕ, _+_, _*_, _-_, _≤_, _<_}
-use mathlib.Core.Path.{_≡_, refl, sym, _∙_, ap, ap₂}
-use mathlib.Core.Bool.{Bool, true, false, _&&_, _||_, not, cond}
+use Prim.Native.Nat.{_-_, _≤_}
+use mathlib.Core.Path.{_≡_, sym}
+use mathlib.Core.Bool.{true, _||_, not}
 use mathlib.Core.Logic.{⊎-elim}
 use native.Mathlib.Omega.{arith}
-use lib.ListN.{length, getD, set}
-use lib.Dec.{eqb, ltb, leb}
-use borrow.Author.Tests.{eq-eqb, ne-eqb, lt-ltb, le-ltb, le-leb, lt-leb}
+use lib.ListN.{getD}
+use lib.Dec.{eqb}
+use borrow.Author.Tests.{eq-eqb, ne-eqb}
 use Rattle.finite.specs.Below.{all}
-use Rattle.table.specs.Table.{places, exits, counters, exitPlace, counterPlace}
-use Rattle.soundness.proofs.Loops.{all-none, all-more, all-fails, all-done}
+use Rattle.finite.proofs.Loops.{all-none, all-more, all-fails, all-done}
+use Rattle.table.specs.Table.{places}
 use Rattle.withdraw.specs.Search.{isMarked}
 use Rattle.soundness.specs.Parts.{allMarked}
 use Rattle.soundness.proofs.all_marked.Statement.{statement}

@@ -1,16 +1,6 @@
 -- `content_fits` is the range of contents by kind. Assumes nothing.
-use borrow.Author.Needs.{needs}
-use Prim.Native.Nat.{ℕ, _+_, _*_, _-_, _≤_, _<_}
-use mathlib.Core.Path.{_≡_, refl, sym, _∙_, ap, ap₂}
-use mathlib.Core.Bool.{Bool, true, false, _&&_, _||_, not, cond}
-use mathlib.Core.Logic.{⊎-elim}
-use native.Mathlib.Omega.{arith}
-use lib.ListN.{length, getD, set}
-use lib.Dec.{eqb, ltb, leb}
-use borrow.Author.Tests.{eq-eqb, ne-eqb, lt-ltb, le-ltb, le-leb, lt-leb}
-use Rattle.finite.specs.Below.{all}
-use Rattle.table.specs.Table.{places, exits, counters, exitPlace, counterPlace}
-use Rattle.soundness.proofs.Loops.{all-none, all-more, all-fails, all-done}
+use Prim.Native.Nat.{_-_}
+use borrow.Author.Tests.{ne-eqb, le-leb, lt-leb}
 use Rattle.table.specs.Sound.{contentFits}
 use Rattle.soundness.proofs.content_fits.Statement.{statement}
 use Rattle.soundness.proofs.content_fits.Tie as tie

@@ -1,16 +1,12 @@
 -- `exits_blank` tests the exits of a free step. Assumes nothing.
-use borrow.Author.Needs.{needs}
-use Prim.Native.Nat.{ℕ, _+_, _*_, _-_, _≤_, _<_}
-use mathlib.Core.Path.{_≡_, refl, sym, _∙_, ap, ap₂}
-use mathlib.Core.Bool.{Bool, true, false, _&&_, _||_, not, cond}
-use mathlib.Core.Logic.{⊎-elim}
+use Prim.Native.Nat.{_-_, _≤_}
+use mathlib.Core.Path.{_≡_, sym}
+use mathlib.Core.Bool.{true}
 use native.Mathlib.Omega.{arith}
-use lib.ListN.{length, getD, set}
-use lib.Dec.{eqb, ltb, leb}
-use borrow.Author.Tests.{eq-eqb, ne-eqb, lt-ltb, le-ltb, le-leb, lt-leb}
+use borrow.Author.Tests.{eq-eqb, ne-eqb}
 use Rattle.finite.specs.Below.{all}
-use Rattle.table.specs.Table.{places, exits, counters, exitPlace, counterPlace}
-use Rattle.soundness.proofs.Loops.{all-none, all-more, all-fails, all-done}
+use Rattle.finite.proofs.Loops.{all-none, all-more, all-fails, all-done}
+use Rattle.table.specs.Table.{exits, exitPlace}
 use Rattle.soundness.specs.Parts.{exitBlank}
 use Rattle.soundness.proofs.exits_blank.Statement.{statement}
 use Rattle.soundness.proofs.exits_blank.Tie as tie

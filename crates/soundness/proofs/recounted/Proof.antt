@@ -1,18 +1,13 @@
 -- `recounted` counts the links one after the other. Assumes nothing.
-use borrow.Author.Needs.{needs}
-use Prim.Native.Nat.{ℕ, _+_, _*_, _-_, _≤_, _<_}
-use mathlib.Core.Path.{_≡_, refl, sym, _∙_, ap, ap₂, subst}
-use mathlib.Core.Bool.{Bool, true, false, cond}
+use mathlib.Core.Path.{_≡_, sym, _∙_, ap}
 use mathlib.Core.Logic.{⊎-elim}
-use mathlib.Core.List.{List}
+use Prim.Native.Nat.{_+_, _*_, _-_, _≤_, _<_}
 use native.Mathlib.Omega.{arith}
-use lib.ListN.{length, getD, set}
-use lib.Dec.{eqb}
-use borrow.Author.Tests.{eq-eqb, ne-eqb}
-use Rattle.table.specs.Table.{places, exits, counters, counterPlace}
-use Rattle.table.specs.Calls.{raised}
+use lib.ListN.{getD}
+use borrow.Author.Needs.{needs}
+use Rattle.table.specs.Table.{places, counters, counterPlace}
 use Rattle.soundness.specs.Parts.{recount}
-use Rattle.soundness.proofs.Loops.{recount-none, recount-more, recount-small, counted-some, counted-none}
+use Rattle.soundness.proofs.Loops.{recount-none, recount-small, counted-some, counted-none}
 use Rattle.soundness.proofs.recounted.Statement.{statement}
 use Rattle.soundness.proofs.recounted.Tie as tie
 
@@ -21,6 +16,18 @@ Inv-loop targets bits n counts₀ p₀ counts p = (p ≤ n) × (counts ≡ recou
 
 abbrev μ-loop : tie.MeasureT-loop
 μ-loop targets bits n counts₀ p₀ counts p = n - p
+
+-- a link's bit, and its counter, which is one of the array
+bit : (c : tie.Then1 Inv-loop μ-loop) → c .before .wide2 .result < counters
+bit c =
+    let l = c .before .before .before .before .before .before in
+    rw (c .before .wide2 .ensures) (l .before .pre .2 (l .loop .p) (c .before .before .before .before .before .loop-test .taken))
+
+counter : (c : tie.Then1 Inv-loop μ-loop) → c .before .before .before .wide .result * counters + c .before .wide2 .result < places * counters
+counter c =
+    let l = c .before .before .before .before .before .before in
+    let j : c .before .before .before .wide .result < places = rw (c .before .before .before .wide .ensures) (l .before .pre .1 (l .loop .p)) in
+    omega (arith, bit c)
 
 loop-holds : tie.Need-loop-holds Inv-loop μ-loop
 loop-holds c = (omega arith, sym (recount-none _ _))
@@ -44,60 +51,36 @@ wide-requires-2 : tie.Need-wide-requires-2 Inv-loop μ-loop
 wide-requires-2 c κs = search needs
 
 mul-q : tie.Need-mul-q Inv-loop μ-loop
-mul-q c =
-    let p = c .before .before .before .before .before .before .loop .p in
-    let j : c .before .before .before .wide .result < places = rw (c .before .before .before .wide .ensures) (c .before .before .before .before .before .before .before .pre .1 p) in
-    let b : c .before .wide2 .result < counters = rw (c .before .wide2 .ensures) (c .before .before .before .before .before .before .before .pre .2 p (c .before .before .before .before .before .loop-test .taken)) in
-    omega arith
+mul-q c = omega (arith, counter c)
 
 add-q : tie.Need-add-q Inv-loop μ-loop
-add-q c =
-    let p = c .before .before .before .before .before .before .loop .p in
-    let j : c .before .before .before .wide .result < places = rw (c .before .before .before .wide .ensures) (c .before .before .before .before .before .before .before .pre .1 p) in
-    let b : c .before .wide2 .result < counters = rw (c .before .wide2 .ensures) (c .before .before .before .before .before .before .before .pre .2 p (c .before .before .before .before .before .loop-test .taken)) in
-    omega arith
+add-q c = omega (arith, counter c)
 
 mul-counts : tie.Need-mul-counts Inv-loop μ-loop
-mul-counts c =
-    let p = c .before .before .before .before .before .before .loop .p in
-    let j : c .before .before .before .wide .result < places = rw (c .before .before .before .wide .ensures) (c .before .before .before .before .before .before .before .pre .1 p) in
-    let b : c .before .wide2 .result < counters = rw (c .before .wide2 .ensures) (c .before .before .before .before .before .before .before .pre .2 p (c .before .before .before .before .before .loop-test .taken)) in
-    omega arith
+mul-counts c = omega (arith, counter c)
 
 array-read-counts : tie.Need-array-read-counts Inv-loop μ-loop
-array-read-counts c =
-    let p = c .before .before .before .before .before .before .loop .p in
-    let j : c .before .before .before .wide .result < places = rw (c .before .before .before .wide .ensures) (c .before .before .before .before .before .before .before .pre .1 p) in
-    let b : c .before .wide2 .result < counters = rw (c .before .wide2 .ensures) (c .before .before .before .before .before .before .before .pre .2 p (c .before .before .before .before .before .loop-test .taken)) in
-    omega arith
+array-read-counts c = omega (arith, counter c)
 
 add-counts : tie.Need-add-counts Inv-loop μ-loop
 unfolding counterPlace
 add-counts c =
-    let p = c .before .before .before .before .before .before .loop .p in
-    let j : c .before .before .before .wide .result < places = rw (c .before .before .before .wide .ensures) (c .before .before .before .before .before .before .before .pre .1 p) in
-    let b : c .before .wide2 .result < counters = rw (c .before .wide2 .ensures) (c .before .before .before .before .before .before .before .pre .2 p (c .before .before .before .before .before .loop-test .taken)) in
-    let n = c .before .before .before .before .before .before .before .pre .0 in
-    let i = c .before .before .before .before .before .before .loop .inv in
+    let l = c .before .before .before .before .before .before in
+    let p = l .loop .p in
+    let n = l .before .pre .0 in
+    let i = l .loop .inv in
     let test = c .before .before .before .before .before .loop-test .taken in
-    let small : getD (c .before .before .before .before .before .before .loop .counts) (c .before .before .before .wide .result * counters + c .before .wide2 .result) 0 ≤ p =
-    rw (i .1)
-    (recount-small _ _ (c .before .before .before .before .before .before .before .pre .1) p (λ q l. c .before .before .before .before .before .before .before .pre .2 q (omega arith)) (c .before .before .before .wide .result) (c .before .wide2 .result) b) in
+    let j = c .before .before .before .wide .result in
+    let b = c .before .wide2 .result in
+    let small : getD (l .loop .counts) (j * counters + b) 0 ≤ p =
+    rw (i .1) (recount-small _ _ (l .before .pre .1) p (λ q m. l .before .pre .2 q (omega arith)) j b (bit c)) in
     omega arith
 
 mul-counts-2 : tie.Need-mul-counts-2 Inv-loop μ-loop
-mul-counts-2 c =
-    let p = c .before .before .before .before .before .before .loop .p in
-    let j : c .before .before .before .wide .result < places = rw (c .before .before .before .wide .ensures) (c .before .before .before .before .before .before .before .pre .1 p) in
-    let b : c .before .wide2 .result < counters = rw (c .before .wide2 .ensures) (c .before .before .before .before .before .before .before .pre .2 p (c .before .before .before .before .before .loop-test .taken)) in
-    omega arith
+mul-counts-2 c = omega (arith, counter c)
 
 array-write-counts : tie.Need-array-write-counts Inv-loop μ-loop
-array-write-counts c =
-    let p = c .before .before .before .before .before .before .loop .p in
-    let j : c .before .before .before .wide .result < places = rw (c .before .before .before .wide .ensures) (c .before .before .before .before .before .before .before .pre .1 p) in
-    let b : c .before .wide2 .result < counters = rw (c .before .wide2 .ensures) (c .before .before .before .before .before .before .before .pre .2 p (c .before .before .before .before .before .loop-test .taken)) in
-    omega arith
+array-write-counts c = omega (arith, counter c)
 
 add-p : tie.Need-add-p Inv-loop μ-loop
 add-p c = omega arith
@@ -108,7 +91,6 @@ loop-less c = omega arith
 loop-again : tie.Need-loop-again Inv-loop μ-loop
 unfolding counterPlace
 loop-again c =
-    let p = c .before .before .before .before .before .before .loop .p in
     let i = c .before .before .before .before .before .before .loop .inv in
     let test = c .before .before .before .before .before .loop-test .taken in (
       omega arith,

@@ -1,14 +1,9 @@
 -- `step_fits` tests one step alone. Assumes nothing.
 use borrow.Author.Needs.{needs}
-use Prim.Native.Nat.{ℕ, _+_, _*_, _<_}
-use mathlib.Core.Path.{_≡_, refl, sym, _∙_}
-use mathlib.Core.Bool.{Bool, true, false}
-use native.Mathlib.Omega.{arith}
-use lib.ListN.{getD}
+use mathlib.Core.Path.{sym, _∙_}
 use borrow.Author.Tests.{eq-eqb, ne-eqb, lt-ltb, le-ltb, not-true, not-false}
-use Rattle.table.specs.Table.{places, exits, counters}
 use Rattle.soundness.specs.Parts.{stepFits}
-use Rattle.soundness.proofs.Loops.{and-true}
+use Rattle.finite.proofs.Loops.{and-true}
 use Rattle.soundness.proofs.step_fits.Statement.{statement}
 use Rattle.soundness.proofs.step_fits.Tie as tie
 

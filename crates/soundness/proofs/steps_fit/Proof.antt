@@ -1,13 +1,13 @@
 -- `steps_fit` tests one step after the other. Assumes nothing.
-use Prim.Native.Nat.{ℕ, _+_, _-_, _≤_, _<_}
+use Prim.Native.Nat.{_-_, _≤_}
 use mathlib.Core.Path.{_≡_, sym, _∙_}
 use mathlib.Core.Bool.{true}
 use native.Mathlib.Omega.{arith}
 use borrow.Author.Tests.{not-true, not-false}
 use Rattle.finite.specs.Below.{all}
+use Rattle.finite.proofs.Loops.{all-none, all-more, all-fails, all-done}
 use Rattle.table.specs.Table.{places}
 use Rattle.soundness.specs.Parts.{stepFits}
-use Rattle.soundness.proofs.Loops.{all-none, all-more, all-fails, all-done}
 use Rattle.soundness.proofs.steps_fit.Statement.{statement}
 use Rattle.soundness.proofs.steps_fit.Tie as tie
 
