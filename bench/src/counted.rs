@@ -1,0 +1,249 @@
+//! (b) The same job in Rust: bits and counters in a table that is changed in place, with a linear soundness test on every call.
+
+use telephone::Table;
+
+const PLACES: usize = 128;
+const EXITS: usize = 4;
+
+/// Whether a table is sound: single steps and a recount in one pass, then the strong links in topological order from step 0.
+#[inline(never)]
+pub fn sound(t: &Table) -> bool {
+    let capacity = usize::from(t.capacity);
+    if !(1..=PLACES).contains(&capacity) || t.last >= t.capacity || t.used[0] != 1 {
+        return false;
+    }
+    let mut counts = [0u16; 256];
+    let mut size = 0;
+    for step in 0..PLACES {
+        let targets = &t.targets[step * EXITS..][..EXITS];
+        let bits = &t.bits[step * EXITS..][..EXITS];
+        match t.used[step] {
+            1 => {
+                size += 1;
+                let kind = (t.kinds[step], t.contents[step]);
+                let fits = if step == 0 { kind == (0, 0) } else { content_fits(kind.0, kind.1) };
+                if step >= capacity || !fits || t.own[step] > 1 {
+                    return false;
+                }
+                for (&target, &bit) in targets.iter().zip(bits) {
+                    if target == 0 {
+                        if bit != 0 {
+                            return false;
+                        }
+                    } else {
+                        let target = usize::from(target);
+                        if target >= PLACES || t.used[target] != 1 || bit > 1 {
+                            return false;
+                        }
+                        counts[target * 2 + usize::from(bit)] += 1;
+                    }
+                }
+            }
+            0 => {
+                let single = t.kinds[step] | t.contents[step] | t.own[step];
+                let links = targets.iter().chain(bits).fold(0, |all, &field| all | field);
+                if single | links | t.counts[step * 2] | t.counts[step * 2 + 1] != 0 {
+                    return false;
+                }
+            }
+            _ => return false,
+        }
+    }
+    counts == t.counts && reached(t) == size
+}
+
+/// The steps that step 0 reaches when each is entered at its last strong link: all in use exactly if strong links form no ring and reach each.
+fn reached(t: &Table) -> usize {
+    let mut left = strong_counts(t);
+    let mut waiting = [0u8; PLACES];
+    let (mut next, mut end) = (0, 1);
+    while next < end {
+        let step = usize::from(waiting[next]);
+        next += 1;
+        for place in step * EXITS..(step + 1) * EXITS {
+            let target = usize::from(t.targets[place]) % PLACES;
+            if target != 0 && t.bits[place] == t.own[target] {
+                left[target] -= 1;
+                if left[target] == 0 && end < PLACES {
+                    waiting[end] = target as u8;
+                    end += 1;
+                }
+            }
+        }
+    }
+    end
+}
+
+fn strong_counts(t: &Table) -> [u16; PLACES] {
+    std::array::from_fn(|step| t.counts[step * 2 + usize::from(t.own[step] & 1)])
+}
+
+fn content_fits(kind: u16, content: u16) -> bool {
+    match kind {
+        1 => content <= 99,
+        2 => content <= 15,
+        3 => (1..=600).contains(&content),
+        _ => false,
+    }
+}
+
+/// The place of an exit of a step in use, or refusal 3 or 4.
+fn place(t: &Table, step: u16, exit: u16) -> Result<usize, u16> {
+    if usize::from(step) >= PLACES || t.used[usize::from(step)] != 1 {
+        return Err(3);
+    }
+    if usize::from(exit) >= EXITS {
+        return Err(4);
+    }
+    Ok(usize::from(step) * EXITS + usize::from(exit))
+}
+
+#[inline(never)]
+pub fn add(t: &mut Table, holder: u16, exit: u16, kind: u16, content: u16) -> Result<u16, u16> {
+    if !sound(t) {
+        return Err(1);
+    }
+    let at = place(t, holder, exit)?;
+    if t.targets[at] != 0 {
+        return Err(5);
+    }
+    if !content_fits(kind, content) {
+        return Err(7);
+    }
+    let free = |number: &u16| t.used[usize::from(*number)] == 0;
+    let number =
+        (t.last + 1..t.capacity).find(free).or_else(|| (1..=t.last).find(free)).ok_or(8u16)?;
+    let step = usize::from(number);
+    t.used[step] = 1;
+    t.kinds[step] = kind;
+    t.contents[step] = content;
+    t.last = number;
+    t.targets[at] = number;
+    t.counts[step * 2] += 1;
+    Ok(number)
+}
+
+#[inline(never)]
+pub fn link(t: &mut Table, source: u16, from: u16, second: u16, into: u16) -> Result<(), u16> {
+    if !sound(t) {
+        return Err(1);
+    }
+    let target = t.targets[place(t, source, from)?];
+    if target == 0 {
+        return Err(6);
+    }
+    let at = place(t, second, into)?;
+    if t.targets[at] != 0 {
+        return Err(5);
+    }
+    let weak = 1 - t.own[usize::from(target)];
+    t.targets[at] = target;
+    t.bits[at] = weak;
+    t.counts[usize::from(target * 2 + weak)] += 1;
+    Ok(())
+}
+
+#[inline(never)]
+pub fn clear(t: &mut Table, step: u16, exit: u16) -> Result<(u16, u16), u16> {
+    if !sound(t) {
+        return Err(1);
+    }
+    let at = place(t, step, exit)?;
+    if t.targets[at] == 0 {
+        return Err(6);
+    }
+    let target = usize::from(t.targets[at]);
+    let bit = t.bits[at];
+    let counter = target * 2 + usize::from(bit);
+    (t.targets[at], t.bits[at]) = (0, 0);
+    t.counts[counter] -= 1;
+    if bit != t.own[target] || t.counts[counter] != 0 {
+        return Ok((0, 0));
+    }
+    let mut doubt = doubtful(t, target);
+    let doubts = doubt.count_ones() as u16;
+    take_back(t, &mut doubt);
+    let freed = doubt.count_ones() as u16;
+    free(t, doubt);
+    Ok((doubts, freed))
+}
+
+/// Rule 2: the steps that lose their last strong link, from one that has.
+fn doubtful(t: &Table, first: usize) -> u128 {
+    let mut left = strong_counts(t);
+    let mut doubt = 1u128 << first;
+    let mut waiting = [0u8; PLACES];
+    waiting[0] = first as u8;
+    let mut end = 1;
+    while end > 0 {
+        end -= 1;
+        let step = usize::from(waiting[end]);
+        for place in step * EXITS..(step + 1) * EXITS {
+            let target = usize::from(t.targets[place]);
+            if target != 0 && t.bits[place] == t.own[target] {
+                left[target] -= 1;
+                if left[target] == 0 {
+                    doubt |= 1 << target;
+                    waiting[end] = target as u8;
+                    end += 1;
+                }
+            }
+        }
+    }
+    doubt
+}
+
+/// Rule 3, with the doubtful steps that have a link from one that is not kept as a set.
+fn take_back(t: &mut Table, doubt: &mut u128) {
+    let mut wanted = 0u128;
+    for step in 0..usize::from(t.capacity) {
+        if t.used[step] == 1 && *doubt >> step & 1 == 0 {
+            wanted |= leads_to(t, step);
+        }
+    }
+    wanted &= *doubt;
+    while wanted != 0 {
+        let step = wanted.trailing_zeros() as usize;
+        t.own[step] = 1 - t.own[step];
+        *doubt &= !(1 << step);
+        for place in step * EXITS..(step + 1) * EXITS {
+            let target = usize::from(t.targets[place]);
+            if target != 0 && t.bits[place] == t.own[target] {
+                let bit = t.bits[place];
+                t.bits[place] = 1 - bit;
+                t.counts[target * 2 + usize::from(bit)] -= 1;
+                t.counts[target * 2 + usize::from(1 - bit)] += 1;
+            }
+        }
+        wanted = (wanted | leads_to(t, step)) & *doubt;
+    }
+}
+
+/// The steps that the links of a step lead to.
+fn leads_to(t: &Table, step: usize) -> u128 {
+    t.targets[step * EXITS..][..EXITS].iter().fold(0, |set, &target| set | 1 << target) & !1
+}
+
+/// Rule 4: the links of the steps leave the counters, and their records become zero.
+fn free(t: &mut Table, steps: u128) {
+    let members = |mut set: u128| {
+        std::iter::from_fn(move || {
+            let step = set.trailing_zeros() as usize;
+            set &= set.wrapping_sub(1);
+            (step < PLACES).then_some(step)
+        })
+    };
+    for step in members(steps) {
+        for place in step * EXITS..(step + 1) * EXITS {
+            let target = usize::from(t.targets[place]);
+            if target != 0 {
+                t.counts[target * 2 + usize::from(t.bits[place])] -= 1;
+            }
+            (t.targets[place], t.bits[place]) = (0, 0);
+        }
+    }
+    for step in members(steps) {
+        (t.used[step], t.kinds[step], t.contents[step], t.own[step]) = (0, 0, 0, 0);
+        (t.counts[step * 2], t.counts[step * 2 + 1]) = (0, 0);
+    }
+}

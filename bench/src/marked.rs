@@ -1,0 +1,98 @@
+//! (c) The plain plan in Rust, with no bits and no counters: after each clearing, what step 0 reaches is marked and the rest is taken out.
+//! It has no table that could be unsound, so it makes no soundness test; it cannot answer the doubtful count.
+
+#[derive(Clone)]
+pub struct Plan {
+    capacity: u16,
+    last: u16,
+    used: u128,
+    kinds: [u16; 128],
+    contents: [u16; 128],
+    targets: [[u8; 4]; 128],
+}
+
+impl Plan {
+    pub fn fresh(capacity: u16) -> Plan {
+        Plan {
+            capacity,
+            last: 0,
+            used: 1,
+            kinds: [0; 128],
+            contents: [0; 128],
+            targets: [[0; 4]; 128],
+        }
+    }
+
+    fn exit(&mut self, step: u16, exit: u16) -> Result<&mut u8, u16> {
+        if step >= 128 || self.used >> step & 1 == 0 {
+            return Err(3);
+        }
+        self.targets[usize::from(step)].get_mut(usize::from(exit)).ok_or(4)
+    }
+
+    #[inline(never)]
+    pub fn add(&mut self, holder: u16, exit: u16, kind: u16, content: u16) -> Result<u16, u16> {
+        if *self.exit(holder, exit)? != 0 {
+            return Err(5);
+        }
+        let fits = match kind {
+            1 => content <= 99,
+            2 => content <= 15,
+            3 => (1..=600).contains(&content),
+            _ => false,
+        };
+        if !fits {
+            return Err(7);
+        }
+        let free = |number: &u16| self.used >> number & 1 == 0;
+        let upward = (self.last + 1..self.capacity).find(free);
+        let number = upward.or_else(|| (1..=self.last).find(free)).ok_or(8u16)?;
+        self.used |= 1 << number;
+        self.kinds[usize::from(number)] = kind;
+        self.contents[usize::from(number)] = content;
+        self.targets[usize::from(number)] = [0; 4];
+        self.last = number;
+        *self.exit(holder, exit)? = number as u8;
+        Ok(number)
+    }
+
+    #[inline(never)]
+    pub fn link(&mut self, source: u16, from: u16, second: u16, into: u16) -> Result<(), u16> {
+        let target = *self.exit(source, from)?;
+        if target == 0 {
+            return Err(6);
+        }
+        let filled = self.exit(second, into)?;
+        if *filled != 0 {
+            return Err(5);
+        }
+        *filled = target;
+        Ok(())
+    }
+
+    /// Gives the steps freed.
+    #[inline(never)]
+    pub fn clear(&mut self, step: u16, exit: u16) -> Result<u16, u16> {
+        let emptied = self.exit(step, exit)?;
+        if *emptied == 0 {
+            return Err(6);
+        }
+        *emptied = 0;
+        let mut marked = 1u128;
+        let mut waiting = [0u8; 128];
+        let mut end = 1;
+        while end > 0 {
+            end -= 1;
+            for target in self.targets[usize::from(waiting[end])] {
+                if target != 0 && marked >> target & 1 == 0 {
+                    marked |= 1 << target;
+                    waiting[end] = target;
+                    end += 1;
+                }
+            }
+        }
+        let freed = (self.used & !marked).count_ones() as u16;
+        self.used = marked;
+        Ok(freed)
+    }
+}

@@ -1,0 +1,123 @@
+//! Every call of made-up histories, through the interface and on the second program: key lines alone, and all calls, from fresh tables and from
+//! tables with strengths that no history from a fresh one gives. Then the same with a fault planted in the second program, which has to show.
+
+use compare::{key_text, Pair};
+use reference::calls::{fresh, Fault};
+use reference::generate::{Generator, Random};
+use reference::history::Call;
+use reference::plan::plan_of;
+use reference::table::Table;
+
+/// What a run of calls came across, so that a test can say that it covered what it should.
+#[derive(Default)]
+struct Seen {
+    refusals: [usize; 13],
+    full: usize,
+    freed: usize,
+    kept: usize,
+    refilled: usize,
+}
+
+impl Seen {
+    fn note(&mut self, refusal: u16, numbers: &[usize], clear: bool, table: &Table) {
+        self.refusals[usize::from(refusal)] += 1;
+        if refusal == 0 && clear {
+            self.freed += usize::from(numbers[1] > 0);
+            self.kept += usize::from(numbers[0] > numbers[1]);
+        }
+        if table.size() == 128 {
+            self.full += 1;
+            self.refilled += usize::from(self.freed > 0);
+        }
+    }
+}
+
+/// A visit by key lines: most lines are edits that suit the plan, the rest are malformed or odd.
+fn visit(seed: u64, lines: usize, fault: Fault, seen: &mut Seen) -> Result<(), String> {
+    let mut pair = Pair::new(&fresh(128).0, fault);
+    let mut generator = Generator::new(seed);
+    for _ in 0..lines {
+        let plan = plan_of(&pair.second);
+        let line = match generator.call(&plan) {
+            Call::Edit(command) => key_text(command),
+            Call::KeyLine(line) => line,
+            _ => generator.key_line(&plan),
+        };
+        let clear = line.starts_with(b"H*3");
+        let outcome =
+            pair.call(&Call::KeyLine(line)).map_err(|what| format!("seed {seed}: {what}"))?;
+        seen.note(outcome.refusal, &outcome.numbers, clear, &pair.second);
+    }
+    Ok(())
+}
+
+/// A history of all calls on a table.
+fn history(
+    seed: u64,
+    start: &Table,
+    calls: usize,
+    fault: Fault,
+    seen: &mut Seen,
+) -> Result<(), String> {
+    let mut pair = Pair::new(start, fault);
+    let mut generator = Generator::new(seed);
+    for _ in 0..calls {
+        let call = generator.call(&plan_of(&pair.second));
+        let outcome = pair.call(&call).map_err(|what| format!("seed {seed}: {what}"))?;
+        let clear = matches!(call, Call::Edit(reference::calls::Command::Clear { .. }));
+        seen.note(outcome.refusal, &outcome.numbers, clear, &pair.second);
+    }
+    Ok(())
+}
+
+/// Key lines and histories of both kinds, with fixed seeds.
+fn all(fault: Fault, seen: &mut Seen) -> Result<(), String> {
+    for seed in 0..12 {
+        visit(seed, 1500, fault, seen)?;
+    }
+    for seed in 100..140 {
+        let capacity = [1, 2, 3, 4, 5, 8, 16, 64, 127, 128][seed as usize % 10];
+        history(seed, &fresh(capacity).0, 500, fault, seen)?;
+    }
+    for seed in 200..280 {
+        let start = Random(seed).sound_table();
+        history(seed, &start, 150, fault, seen)?;
+    }
+    Ok(())
+}
+
+#[test]
+fn key_lines_agree() {
+    let mut seen = Seen::default();
+    for seed in 1000..1012 {
+        visit(seed, 1500, Fault::None, &mut seen).unwrap();
+    }
+    assert!(
+        seen.full > 100 && seen.refilled > 100,
+        "the table was filled to 128, and again after clearings"
+    );
+    assert!(seen.freed > 100 && seen.kept > 100, "clearings freed steps, and took steps back");
+    for refusal in [0, 3, 4, 5, 6, 7, 8, 9] {
+        assert!(seen.refusals[refusal] > 0, "refusal {refusal} came up");
+    }
+}
+
+#[test]
+fn histories_agree() {
+    let mut seen = Seen::default();
+    all(Fault::None, &mut seen).unwrap();
+    for refusal in [0, 3, 4, 5, 6, 7, 8, 9, 10, 11] {
+        assert!(seen.refusals[refusal] > 0, "refusal {refusal} came up");
+    }
+}
+
+/// The comparison finds each fault that is planted in the second program.
+#[test]
+fn planted_faults_show() {
+    use Fault::*;
+    for fault in [CopyKeepsStrength, SkipRepair, CounterOffByOne, SwappedRefusals, HighestFirst] {
+        let found = all(fault, &mut Seen::default());
+        let what = found.expect_err("a planted fault went unseen");
+        println!("{fault:?}: {}", what.chars().take(160).collect::<String>());
+    }
+}

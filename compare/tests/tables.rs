@@ -1,0 +1,274 @@
+//! Single calls on chosen tables: the cases of document 01, every refusal's order on wild tables, trials with traces of each length, and the types
+//! of the Rust crate.
+
+use compare::{kept, lend, Pair};
+use reference::calls::{fresh, Command, Fault};
+use reference::generate::Random;
+use reference::history::Call;
+use reference::sound::sound;
+use reference::table::Table;
+use telephone::{Ending, Plan, Refusal};
+
+fn add(holder: u16, exit: u16, kind: u16, content: u16) -> Call {
+    Call::Edit(Command::Add { holder, exit, kind, content })
+}
+
+fn link(source: u16, source_exit: u16, second: u16, second_exit: u16) -> Call {
+    Call::Edit(Command::Link { source, source_exit, second, second_exit })
+}
+
+fn clear(step: u16, exit: u16) -> Call {
+    Call::Edit(Command::Clear { step, exit })
+}
+
+/// Runs calls on both programs from a fresh table; each has to answer these three numbers.
+fn case(capacity: u16, calls: &[(Call, [usize; 3])]) -> Table {
+    let mut pair = Pair::new(&fresh(capacity).0, Fault::None);
+    for (call, [refusal, first, second]) in calls {
+        let outcome = pair.call(call).unwrap();
+        assert_eq!(usize::from(outcome.refusal), *refusal, "{call:?}");
+        assert_eq!(outcome.numbers[..2], [*first, *second], "{call:?}");
+    }
+    pair.proved
+}
+
+#[test]
+fn fresh_agrees() {
+    for capacity in (0..=300).chain([32767, 32768, 65408, 65535]) {
+        let reply = telephone::fresh(capacity);
+        let (table, answer) = fresh(capacity);
+        assert_eq!((reply.refusal, reply.first, reply.second), (answer.refusal, 0, 0));
+        assert!(kept(reply.table) == table, "fresh {capacity}");
+    }
+}
+
+#[test]
+fn examples_of_document_01() {
+    let p5 = case(
+        4,
+        &[
+            (add(0, 0, 1, 0), [0, 1, 0]),
+            (add(1, 2, 1, 1), [0, 2, 0]),
+            (link(0, 0, 2, 2), [0, 0, 0]),
+            (link(1, 2, 0, 1), [0, 0, 0]),
+            (clear(0, 0), [0, 2, 0]),
+        ],
+    );
+    assert_eq!((p5.own[1], p5.own[2], p5.bits[1], p5.bits[10], p5.bits[6]), (1, 1, 1, 1, 0));
+    case(
+        4,
+        &[
+            (add(0, 0, 1, 0), [0, 1, 0]),
+            (add(1, 2, 1, 1), [0, 2, 0]),
+            (link(0, 0, 2, 2), [0, 0, 0]),
+            (link(1, 2, 0, 1), [0, 0, 0]),
+            (clear(0, 0), [0, 2, 0]),
+            (clear(0, 1), [0, 2, 2]),
+            (add(0, 0, 3, 600), [0, 3, 0]),
+            (add(3, 0, 2, 15), [0, 1, 0]),
+        ],
+    );
+    case(
+        4,
+        &[(add(0, 0, 1, 0), [0, 1, 0]), (link(0, 0, 1, 0), [0, 0, 0]), (clear(0, 0), [0, 1, 1])],
+    );
+    case(
+        4,
+        &[(add(0, 0, 1, 0), [0, 1, 0]), (link(0, 0, 0, 1), [0, 0, 0]), (clear(0, 0), [0, 1, 0])],
+    );
+    let lines: [(&[u8], _); 5] = [
+        (b"H*100001000A", [0, 1, 0]),
+        (b"H*200000012A", [0, 0, 0]),
+        (b"H*30000A", [0, 1, 1]),
+        (b"H*4A", [0, 1, 127]),
+        (b"H*30000A", [6, 0, 0]),
+    ];
+    case(128, &lines.map(|(line, numbers)| (Call::KeyLine(line.to_vec()), numbers)));
+    let long = vec![b'H'; 1 << 20];
+    case(128, &[(Call::KeyLine(long), [9, 0, 0]), (Call::KeyLine(Vec::new()), [9, 0, 0])]);
+    case(4, &[(Call::Write { buffer: 29 }, [11, 0, 0]), (Call::Write { buffer: 30 }, [0, 30, 0])]);
+    case(1, &[(add(0, 0, 1, 0), [8, 0, 0])]);
+    case(
+        4,
+        &[
+            (Call::Read { step: 1 }, [3, 0, 0]),
+            (clear(0, 4), [4, 0, 0]),
+            (clear(0, 0), [6, 0, 0]),
+            (add(0, 0, 3, 0), [7, 0, 0]),
+            (add(0, 0, 3, 601), [7, 0, 0]),
+            (add(256, 0, 1, 0), [3, 0, 0]),
+            (add(0, 256, 1, 0), [4, 0, 0]),
+            (add(0, 0, 257, 0), [7, 0, 0]),
+            (Call::KeyLine(b"H*5A".to_vec()), [9, 0, 0]),
+            (Call::Trial { results: vec![0, 4], trace: 2 }, [10, 0, 0]),
+            (Call::Trial { results: vec![0, 3], trace: 1 }, [11, 0, 0]),
+            (add(0, 0, 1, 0), [0, 1, 0]),
+            (add(0, 0, 1, 0), [5, 0, 0]),
+        ],
+    );
+}
+
+/// Each call once, with arguments in range and out of it, on one table.
+fn every_call(table: &Table, random: &mut Random) {
+    let mut calls =
+        vec![Call::Read { step: 0 }, Call::Write { buffer: 2600 }, Call::KeyLine(b"H*4A".to_vec())];
+    for _ in 0..3 {
+        let mut number = || random.pick(&[0, 0, 1, 1, 2, 3, 4, 7, 127, 128, 300, 65535]);
+        let [a, b, c, d] = [number(), number(), number(), number()];
+        calls.extend([
+            add(a, b % 6, c, d),
+            link(a, b % 6, c, d % 6),
+            clear(a, b % 6),
+            Call::Read { step: a },
+        ]);
+        calls.push(Call::KeyLine(compare::key_text(Command::Clear {
+            step: a % 1000,
+            exit: b % 10,
+        })));
+        calls.push(Call::Trial {
+            results: vec![a as u8 % 5, b as u8 % 4, 0, 1],
+            trace: usize::from(c % 8),
+        });
+    }
+    for call in calls {
+        Pair::new(table, Fault::None).call(&call).unwrap();
+    }
+}
+
+/// Tables damaged in a few fields, tables of random words, and tables whose bytes are all the same.
+#[test]
+fn wild_tables() {
+    let mut random = Random(21);
+    let (mut stayed, mut broke) = (0, 0);
+    for seed in 0..400 {
+        let mut table = Random(seed).sound_table();
+        for _ in 0..1 + seed % 3 {
+            random.damage(&mut table);
+        }
+        assert_eq!(telephone::plan_is_sound(lend(&table)), u16::from(sound(&table)), "seed {seed}");
+        *if sound(&table) { &mut stayed } else { &mut broke } += 1;
+        every_call(&table, &mut random);
+    }
+    assert!(stayed > 20 && broke > 200, "{stayed} sound, {broke} not");
+    for byte in 0..=255u8 {
+        let word = u16::from_ne_bytes([byte, byte]);
+        let mut table = Table::zero();
+        for field in words(&mut table) {
+            *field = word;
+        }
+        assert_eq!(telephone::plan_is_sound(lend(&table)), 0);
+        every_call(&table, &mut random);
+    }
+    for bound in [2, 3, 129, 65536] {
+        for _ in 0..60 {
+            let mut table = Random(random.number()).sound_table();
+            let from = random.pick(&[0, 2, 130, 514, 1026]);
+            for field in words(&mut table).skip(from) {
+                *field = random.below(bound) as u16;
+            }
+            assert_eq!(telephone::plan_is_sound(lend(&table)), u16::from(sound(&table)));
+            every_call(&table, &mut random);
+        }
+    }
+}
+
+/// Every word of a table, in the order of its memory.
+fn words(table: &mut Table) -> impl Iterator<Item = &mut u16> {
+    let Table { capacity, last, used, kinds, contents, own, targets, bits, counts } = table;
+    let numbers = [capacity, last].into_iter();
+    let steps = used.iter_mut().chain(kinds).chain(contents).chain(own);
+    numbers.chain(steps).chain(targets).chain(bits).chain(counts)
+}
+
+/// One word of a sound table at a time, changed to each of a few numbers: the two soundness tests agree.
+#[test]
+fn soundness_agrees_word_by_word() {
+    for seed in 30..34 {
+        let table = Random(seed).sound_table();
+        for at in 0..1794 {
+            for value in [0, 1, 2, 127, 128, 65535] {
+                let mut changed = table.clone();
+                *words(&mut changed).nth(at).unwrap() = value;
+                let found = telephone::plan_is_sound(lend(&changed));
+                assert_eq!(
+                    found,
+                    u16::from(sound(&changed)),
+                    "seed {seed}, word {at}, value {value}"
+                );
+            }
+        }
+    }
+}
+
+/// Trials of each length over rings and trees, with traces one byte short, exact and longer.
+#[test]
+fn trials_agree() {
+    let mut random = Random(41);
+    let (mut open, mut spent) = (0, 0);
+    for seed in 0..300 {
+        let table = Random(seed).sound_table();
+        let length = random.below(40);
+        let mut results: Vec<u8> = Vec::new();
+        let mut step = 0;
+        for _ in 0..length {
+            let filled = (0..4).filter(|&exit| table.target(step, exit) != 0).collect::<Vec<u16>>();
+            let exit = if filled.is_empty() || random.once_in(12) {
+                random.below(4) as u16
+            } else {
+                random.pick(&filled)
+            };
+            results.push(exit as u8);
+            step = table.target(step, exit);
+        }
+        for trace in [length.saturating_sub(1), length, length + 1, length + 30] {
+            let call = Call::Trial { results: results.clone(), trace };
+            let outcome = Pair::new(&table, Fault::None).call(&call).unwrap();
+            if outcome.refusal == 0 {
+                *if outcome.numbers[0] == 0 { &mut open } else { &mut spent } += 1;
+            }
+        }
+        if let Some(last) = results.last_mut() {
+            *last = 4;
+            let call = Call::Trial { results, trace: length };
+            assert_eq!(Pair::new(&table, Fault::None).call(&call).unwrap().refusal, 10);
+        }
+    }
+    assert!(open > 50 && spent > 50, "{open} open, {spent} spent");
+}
+
+/// The Rust crate's types: a plan is sound, a refusal is an error and changes nothing.
+#[test]
+fn plans_in_rust() {
+    let mut plan = Plan::fresh(4).unwrap();
+    assert_eq!(Plan::fresh(129), Err(Refusal::BadCapacity));
+    assert_eq!(plan.add(0, 0, 1, 0), Ok(1));
+    let before = plan.clone();
+    assert_eq!(plan.add(0, 0, 1, 0), Err(Refusal::ExitFilled));
+    assert_eq!(plan.add(0, 1, 3, 601), Err(Refusal::BadKind));
+    assert_eq!(plan.link(0, 1, 1, 0), Err(Refusal::ExitEmpty));
+    assert_eq!(plan.clear(2, 0), Err(Refusal::NotInUse));
+    assert_eq!(plan.clear(0, 4), Err(Refusal::BadExit));
+    assert_eq!(plan.key_line(b"H*5A"), Err(Refusal::NotKeyLine));
+    assert_eq!(plan, before);
+    assert_eq!(plan.link(0, 0, 1, 3), Ok(()));
+    assert_eq!(plan.read(1).map(|step| (step.targets, step.counts)), Ok(([0, 0, 0, 1], [1, 1])));
+    let mut trace = [9; 4];
+    let trial = plan.trial(&[0, 3, 3], &mut trace).unwrap();
+    assert_eq!((trial.ending, trial.last, trial.moves, trace), (Ending::Spent, 1, 3, [1, 1, 1, 9]));
+    assert_eq!(plan.trial(&[9], &mut trace), Err(Refusal::BadResult));
+    assert_eq!(plan.trial(&[0; 5], &mut trace), Err(Refusal::TooShort));
+    let mut image = [0; telephone::IMAGE_MAX];
+    let length = plan.write_image(&mut image).unwrap();
+    assert_eq!(length, 50);
+    assert_eq!(Plan::load(&image[..length]), Ok(plan.clone()));
+    assert_eq!(Plan::load(&image), Err(Refusal::NotAccepted));
+    assert_eq!(Plan::from_table(plan.table().clone()), Ok(plan.clone()));
+    assert_eq!(plan.key_line(b"H*4A"), Ok((2, 2)));
+    let cleared = plan.clear(0, 0).unwrap();
+    assert_eq!((cleared.doubtful, cleared.freed), (1, 1));
+    let mut table = plan.into_table();
+    table.used[0] = 0;
+    assert_eq!(Plan::from_table(table), Err(Refusal::NotSound));
+    let mut full = Plan::fresh(1).unwrap();
+    assert_eq!(full.add(0, 0, 1, 0).map_err(Refusal::number), Err(8));
+}

@@ -1,0 +1,217 @@
+// The calls of document 01 as exported functions, for C and Rust. Tables and answers go by value, and every field of them is a number, so that any
+// bytes in a table's memory may be passed. Each function makes one proved call and gives its answer by the paper's numbers.
+ghost use mathlib.Core.Path.{_≡_};
+ghost use mathlib.Core.Bool.{cond};
+ghost use Rattle.table.specs.Sound.{sound};
+ghost use Rattle.table.specs.Answer.{endingNumber};
+ghost use Rattle.table.specs.Calls.{freshCall, addCall, linkCall, readCall, trialCall};
+ghost use Rattle.table.specs.Clear.{clearCall};
+ghost use Rattle.image.specs.Image.{writeCall, loadCall};
+ghost use Rattle.keyline.specs.Keys.{keyCall};
+ghost use Rattle.telephone.specs.Replies.{replyOf, readReply, trialReply, writeReply};
+use table::Answer;
+use table::Ending;
+use table::Outcome;
+use table::Reading;
+use table::Table;
+use table::Tried;
+
+// The answer of a call that may change the table: the refusal or 0, two numbers, and the table handed back.
+#[repr(C)]
+pub struct Reply {
+    pub refusal: u16,
+    pub first: u16,
+    pub second: u16,
+    pub table: Table,
+}
+
+// The answer of read: the refusal or 0, and all fields of the step, zero where it is refused.
+#[repr(C)]
+pub struct ReadReply {
+    pub refusal: u16,
+    pub kind: u16,
+    pub content: u16,
+    pub own: u16,
+    pub targets: [u16; 4],
+    pub bits: [u16; 4],
+    pub counts: [u16; 2],
+}
+
+// The answer of a trial: the refusal or 0, how it ended (0 open, 1 spent), the last step and the moves made.
+#[repr(C)]
+pub struct TrialReply {
+    pub refusal: u16,
+    pub ending: u16,
+    pub last: u16,
+    pub moves: usize,
+}
+
+// The answer of write image: the refusal or 0, and the image's length.
+#[repr(C)]
+pub struct WriteReply {
+    pub refusal: u16,
+    pub length: u16,
+}
+
+// An answer and its table, by number.
+fn reply_of(o: Outcome) -> Reply
+    ensures { λ r. ⌜ r ≡ replyOf o ⌝ }
+{
+    let answer = o.answer;
+    let table = o.table;
+    match answer {
+        Answer::Refused(refusal) => Reply {
+            refusal,
+            first: 0,
+            second: 0,
+            table,
+        },
+        Answer::Given(first, second) => Reply {
+            refusal: 0,
+            first,
+            second,
+            table,
+        },
+    }
+}
+
+// The number of an ending.
+fn ending_number(e: Ending) -> u16
+    ensures { λ r. ⌜ r ≡ endingNumber e ⌝ }
+{
+    match e {
+        Ending::Open => 0,
+        Ending::Spent => 1,
+    }
+}
+
+// The answer of a trial, by number.
+fn trial_reply(a: Tried) -> TrialReply
+    ensures { λ r. ⌜ r ≡ trialReply a ⌝ }
+{
+    match a {
+        Tried::Refused(refusal) => TrialReply {
+            refusal,
+            ending: 0,
+            last: 0,
+            moves: 0,
+        },
+        Tried::Ended(e, last, moves) => TrialReply {
+            refusal: 0,
+            ending: ending_number(e),
+            last,
+            moves,
+        },
+    }
+}
+
+// The answer of write image, by number.
+fn write_reply(a: Answer) -> WriteReply
+    ensures { λ r. ⌜ r ≡ writeReply a ⌝ }
+{
+    match a {
+        Answer::Refused(refusal) => WriteReply { refusal, length: 0 },
+        Answer::Given(length, _) => WriteReply { refusal: 0, length },
+    }
+}
+
+// The answer of read with the fields beside the refusal.
+fn read_reply(r: Reading) -> ReadReply
+    ensures { λ x. ⌜ x ≡ readReply r ⌝ }
+{
+    let fields = r.fields;
+    let targets = fields.targets;
+    let bits = fields.bits;
+    let counts = fields.counts;
+    ReadReply {
+        refusal: r.refusal,
+        kind: fields.kind,
+        content: fields.content,
+        own: fields.own,
+        targets,
+        bits,
+        counts,
+    }
+}
+
+// Whether a table is sound: 1 or 0.
+#[no_mangle]
+pub extern "C" fn plan_is_sound(t: Table) -> u16
+    ensures { λ r. ⌜ r ≡ cond (sound t) 1 0 ⌝ }
+{
+    if soundness::is_sound(t) { 1 } else { 0 }
+}
+
+// Fresh: a table of that capacity with step 0 alone in use. Refusal: 2, with a fresh table of capacity 1.
+#[no_mangle]
+pub extern "C" fn plan_fresh(capacity: u16) -> Reply
+    ensures { λ r. ⌜ r ≡ replyOf (freshCall capacity) ⌝ }
+{
+    reply_of(edits::fresh(capacity))
+}
+
+// Add: a new step in an exit of its holder. First is its number. Refusals: 1, 3, 4, 5, 7, 8.
+#[no_mangle]
+pub extern "C" fn plan_add(t: Table, holder: u16, exit: u16, kind: u16, content: u16) -> Reply
+    ensures { λ r. ⌜ r ≡ replyOf (addCall t holder exit kind content) ⌝ }
+{
+    reply_of(edits::add(t, holder, exit, kind, content))
+}
+
+// Link: the source's target is copied into an exit of the second step. Refusals: 1, source 3, 4, 6, second 3, 4, 5.
+#[no_mangle]
+pub extern "C" fn plan_link(t: Table, source: u16, from: u16, second: u16, into: u16) -> Reply
+    ensures { λ r. ⌜ r ≡ replyOf (linkCall t source from second into) ⌝ }
+{
+    reply_of(edits::link(t, source, from, second, into))
+}
+
+// Clear: an exit is emptied. First is the steps made doubtful, second the steps freed. Refusals: 1, 3, 4, 6.
+#[no_mangle]
+pub extern "C" fn plan_clear(t: Table, step: u16, exit: u16) -> Reply
+    ensures { λ r. ⌜ r ≡ replyOf (clearCall t step exit) ⌝ }
+{
+    reply_of(clearing::clear(t, step, exit))
+}
+
+// Read: all fields of a step. Refusals: 1, 3.
+#[no_mangle]
+pub extern "C" fn plan_read(t: Table, step: u16) -> ReadReply
+    ensures { λ r. ⌜ r ≡ readReply (readCall t step) ⌝ }
+{
+    read_reply(edits::read(t, step))
+}
+
+// Trial: the steps entered are written into the trace, and no other byte. Refusals: 1, 10, 11.
+#[no_mangle]
+pub extern "C" fn plan_trial(t: Table, results: &[u8], trace: &mut [u8]) -> TrialReply
+    ensures answer { λ r. ⌜ r ≡ trialReply (trialCall t (now (results .entry)) (now (trace .entry)) .answer) ⌝ }
+    ensures trace { λ r. ⌜ now (trace .exit) ≡ trialCall t (now (results .entry)) (now (trace .entry)) .trace ⌝ }
+{
+    trial_reply(trials::trial(t, results, trace))
+}
+
+// Write image: the image at the start of the buffer, and its length; no other byte is written. Refusals: 1, 11.
+#[no_mangle]
+pub extern "C" fn plan_write_image(t: Table, buffer: &mut [u8]) -> WriteReply
+    ensures answer { λ r. ⌜ r ≡ writeReply (writeCall t (now (buffer .entry)) .answer) ⌝ }
+    ensures written { λ r. ⌜ now (buffer .exit) ≡ writeCall t (now (buffer .entry)) .buffer ⌝ }
+{
+    write_reply(images::write_image(t, buffer))
+}
+
+// Load image: the table of an accepted image. Refusal: 12, with a fresh table of capacity 1.
+#[no_mangle]
+pub extern "C" fn plan_load_image(bytes: &[u8]) -> Reply
+    ensures { λ r. ⌜ r ≡ replyOf (loadCall (now (bytes .entry))) ⌝ }
+{
+    reply_of(images::load_image(bytes))
+}
+
+// Key line: the call that its bytes make. First and second are the two numbers that the program `keys` prints. Refusals: 1, 9, then its call's.
+#[no_mangle]
+pub extern "C" fn plan_key_line(t: Table, line: &[u8]) -> Reply
+    ensures { λ r. ⌜ r ≡ replyOf (keyCall t (now (line .entry))) ⌝ }
+{
+    reply_of(keylines::key_line(t, line))
+}

@@ -1,0 +1,159 @@
+/* The call plan table of a lift telephone: the calls of document 01, as the static library libtelephone.a defines them.
+ *
+ * Memory. A table is a value of 3,588 bytes. It goes to a call by value and comes back by value in the reply; the library keeps nothing between
+ * calls, allocates nothing and holds no pointer after it returns. The caller owns every table, every reply and every lent buffer. A call reads
+ * and writes a lent buffer only while it runs, and only within the length given. A null pointer is no buffer: lend any valid address with length 0.
+ * Two buffers lent to one call do not overlap, and nobody else writes a lent buffer during the call.
+ *
+ * Any bytes may stand in a table: every field is a number. A call that is passed a table that is not sound answers refusal 1. All calls end, and
+ * need at most 64 kB of stack.
+ *
+ * Refusals. `refusal` is 0, or the number of the first condition of the call's order that holds. All other numbers of the reply are then 0, the
+ * table in it is the one that was passed, and no lent byte was written. A refused fresh or load hands back a fresh table of capacity 1.
+ */
+#ifndef TELEPHONE_H
+#define TELEPHONE_H
+
+#include <stddef.h>
+#include <stdint.h>
+
+#ifdef __cplusplus
+extern "C" {
+#endif
+
+#define PLAN_PLACES 128       /* the largest capacity */
+#define PLAN_EXITS 4          /* exits of a step: 0 answered, 1 engaged, 2 no reply, 3 line fault */
+#define PLAN_IMAGE_MAX 2570   /* bytes of the largest image */
+
+enum plan_refusal {
+    PLAN_NOT_SOUND = 1,       /* table not sound */
+    PLAN_BAD_CAPACITY = 2,    /* capacity not 1 to 128 */
+    PLAN_NOT_IN_USE = 3,      /* step not in use */
+    PLAN_BAD_EXIT = 4,        /* exit above 3 */
+    PLAN_EXIT_FILLED = 5,     /* exit to be filled holds a link */
+    PLAN_EXIT_EMPTY = 6,      /* exit to copy or clear is empty */
+    PLAN_BAD_KIND = 7,        /* kind not 1 to 3, or content out of range */
+    PLAN_FULL = 8,            /* steps in use equal the capacity */
+    PLAN_NOT_KEY_LINE = 9,    /* not a key line */
+    PLAN_BAD_RESULT = 10,     /* some line result above 3 */
+    PLAN_TOO_SHORT = 11,      /* lent buffer shorter than needed */
+    PLAN_NOT_ACCEPTED = 12    /* image not accepted */
+};
+
+enum plan_ending {
+    PLAN_OPEN = 0,            /* the trial ended at an empty exit */
+    PLAN_SPENT = 1            /* no results were left */
+};
+
+/* A table. Change it by calls only: a table that was changed otherwise may not be sound. */
+typedef struct {
+    uint16_t capacity;        /* 1 to 128 in a sound table */
+    uint16_t last;            /* the number last given to a step */
+    uint16_t used[128];       /* 1 for a step in use, 0 for a free one */
+    uint16_t kinds[128];      /* 0 alarm, 1 contact, 2 spoken message, 3 wait */
+    uint16_t contents[128];
+    uint16_t own[128];        /* the bit of its own that each step has */
+    uint16_t targets[512];    /* exit e of step i at i * 4 + e; 0 is an empty exit */
+    uint16_t bits[512];       /* the bit of the link in the same exit */
+    uint16_t counts[256];     /* counter b of step i at i * 2 + b */
+} plan_table;
+
+/* The reply of a call that may change the table. */
+typedef struct {
+    uint16_t refusal;
+    uint16_t first;
+    uint16_t second;
+    plan_table table;
+} plan_reply;
+
+/* All fields of one step. */
+typedef struct {
+    uint16_t refusal;
+    uint16_t kind;
+    uint16_t content;
+    uint16_t own;
+    uint16_t targets[4];
+    uint16_t bits[4];
+    uint16_t counts[2];
+} plan_read_reply;
+
+/* How a trial ended. */
+typedef struct {
+    uint16_t refusal;
+    uint16_t ending;          /* PLAN_OPEN or PLAN_SPENT */
+    uint16_t last;            /* the step where it ended */
+    size_t moves;             /* the steps entered */
+} plan_trial_reply;
+
+typedef struct {
+    uint16_t refusal;
+    uint16_t length;          /* bytes of the image */
+} plan_write_reply;
+
+/* The layout that the library was compiled with, on x86-64. A reader of another layout must not link it. */
+#if defined(__cplusplus)
+#define PLAN_LAYOUT(test, name) static_assert(test, #name)
+#else
+#define PLAN_LAYOUT(test, name) _Static_assert(test, #name)
+#endif
+PLAN_LAYOUT(sizeof(plan_table) == 3588, size_of_a_table);
+PLAN_LAYOUT(offsetof(plan_table, last) == 2, last);
+PLAN_LAYOUT(offsetof(plan_table, used) == 4, used);
+PLAN_LAYOUT(offsetof(plan_table, kinds) == 260, kinds);
+PLAN_LAYOUT(offsetof(plan_table, contents) == 516, contents);
+PLAN_LAYOUT(offsetof(plan_table, own) == 772, own);
+PLAN_LAYOUT(offsetof(plan_table, targets) == 1028, targets);
+PLAN_LAYOUT(offsetof(plan_table, bits) == 2052, bits);
+PLAN_LAYOUT(offsetof(plan_table, counts) == 3076, counts);
+PLAN_LAYOUT(sizeof(plan_reply) == 3594, size_of_a_reply);
+PLAN_LAYOUT(offsetof(plan_reply, table) == 6, table_in_a_reply);
+PLAN_LAYOUT(sizeof(plan_read_reply) == 28, size_of_a_read_reply);
+PLAN_LAYOUT(offsetof(plan_read_reply, counts) == 24, counts_in_a_read_reply);
+PLAN_LAYOUT(sizeof(plan_trial_reply) == 16, size_of_a_trial_reply);
+PLAN_LAYOUT(offsetof(plan_trial_reply, moves) == 8, moves_in_a_trial_reply);
+PLAN_LAYOUT(sizeof(plan_write_reply) == 4, size_of_a_write_reply);
+PLAN_LAYOUT(sizeof(size_t) == 8, size_of_a_length);
+
+/* 1 if the table is sound, else 0. No refusal. */
+uint16_t plan_is_sound(plan_table t);
+
+/* A table of that capacity with step 0 alone in use.
+ * first and second: 0. Refusal: 2. */
+plan_reply plan_fresh(uint16_t capacity);
+
+/* Puts a new step at an empty exit of the holder. Kinds: 1 contact, content 0 to 99; 2 spoken message, 0 to 15; 3 wait, 1 to 600 seconds.
+ * first: the number of the new step. Refusals, in order: 1, 3, 4, 5, 7, 8. */
+plan_reply plan_add(plan_table t, uint16_t holder, uint16_t exit, uint16_t kind, uint16_t content);
+
+/* Copies the target of an exit of the source into an empty exit of the second step.
+ * first and second: 0. Refusals, in order: 1, of the source 3, 4, 6, of the second 3, 4, 5. */
+plan_reply plan_link(plan_table t, uint16_t source, uint16_t source_exit, uint16_t second, uint16_t second_exit);
+
+/* Empties an exit, and frees the steps that nothing reaches any more.
+ * first: steps made doubtful; second: steps freed. Refusals, in order: 1, 3, 4, 6. */
+plan_reply plan_clear(plan_table t, uint16_t step, uint16_t exit);
+
+/* All fields of a step. Refusals, in order: 1, 3. */
+plan_read_reply plan_read(plan_table t, uint16_t step);
+
+/* Follows line results, each 0 to 3, from step 0. The number of each step entered is written to the trace, a byte each, from its start; bytes past
+ * the moves are not touched. The trace must be as long as the results, whatever the trial does. It may not overlap the results.
+ * Refusals, in order: 1, 10, 11. */
+plan_trial_reply plan_trial(plan_table t, const uint8_t *results, size_t results_length, uint8_t *trace, size_t trace_length);
+
+/* Writes the image of the table to the start of the buffer: 10 bytes and 20 for each step in use. Bytes past it are not touched.
+ * Refusals, in order: 1, 11. */
+plan_write_reply plan_write_image(plan_table t, uint8_t *buffer, size_t length);
+
+/* The table of an image, which is exactly these bytes.
+ * first and second: 0. Refusal: 12. */
+plan_reply plan_load_image(const uint8_t *bytes, size_t length);
+
+/* Carries out a key line, given without its byte 10; any bytes of any length.
+ * first and second: the two numbers that the program `keys` prints. Refusals: 1, 9, then those of its call. */
+plan_reply plan_key_line(plan_table t, const uint8_t *line, size_t length);
+
+#ifdef __cplusplus
+}
+#endif
+#endif
