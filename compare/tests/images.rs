@@ -70,15 +70,13 @@ fn records_in_any_order() {
     }
 }
 
-/// Every byte of small images takes several wrong values, and some bytes of large ones; some of the results are accepted.
+/// Every byte of an image takes several wrong values; some of the results are accepted.
 #[test]
 fn images_damaged() {
-    let mut random = Random(8);
     let (mut accepted, mut refused) = (0, 0);
     for table in tables(500..560) {
         let mut image = image_of(&table);
-        let every = if image.len() < 400 { 1 } else { 23 };
-        for at in (random.below(every)..image.len()).step_by(every) {
+        for at in 0..image.len() {
             let was = image[at];
             for now in [
                 was ^ 1,
