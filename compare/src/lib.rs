@@ -105,18 +105,3 @@ pub fn difference(proved: &Table, second: &Table) -> String {
         None => "none".to_string(),
     }
 }
-
-/// The key line of a command. A number too wide for its digits makes the line malformed.
-pub fn key_text(command: Command) -> Vec<u8> {
-    let text = match command {
-        Command::Add { holder, exit, kind, content } => {
-            format!("H*1{holder:03}{exit}{kind}{content:03}A")
-        }
-        Command::Link { source, source_exit, second, second_exit } => {
-            format!("H*2{source:03}{source_exit}{second:03}{second_exit}A")
-        }
-        Command::Clear { step, exit } => format!("H*3{step:03}{exit}A"),
-        Command::Count => "H*4A".to_string(),
-    };
-    text.into_bytes()
-}

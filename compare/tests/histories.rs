@@ -1,9 +1,9 @@
 //! Every call of made-up histories, through the interface and on the second program: key lines alone, and all calls, from fresh tables and from
 //! tables with strengths that no history from a fresh one gives. Then the same with a fault planted in the second program, which has to show.
 
-use compare::{key_text, Pair};
+use compare::Pair;
 use reference::calls::{fresh, Fault};
-use reference::generate::{Generator, Random};
+use reference::generate::{key_text, Generator, Random};
 use reference::history::Call;
 use reference::plan::plan_of;
 use reference::table::Table;

@@ -2,7 +2,7 @@
 //! malformed lines, blank lines, a last line without its byte 10, and no input at all.
 
 use reference::calls::fresh;
-use reference::generate::Generator;
+use reference::generate::{key_text, Generator};
 use reference::history::Call;
 use reference::keys::{answer_lines, key_line};
 use reference::plan::plan_of;
@@ -46,7 +46,7 @@ fn visit(seed: u64, lines: usize) -> Vec<u8> {
     for _ in 0..lines {
         let plan = plan_of(&table);
         let line = match generator.call(&plan) {
-            Call::Edit(command) => compare::key_text(command),
+            Call::Edit(command) => key_text(command),
             Call::KeyLine(line) => line,
             _ => generator.key_line(&plan),
         };

@@ -3,7 +3,7 @@
 
 use compare::{kept, lend, Pair};
 use reference::calls::{fresh, Command, Fault};
-use reference::generate::Random;
+use reference::generate::{key_text, Random};
 use reference::history::Call;
 use reference::sound::sound;
 use reference::table::Table;
@@ -121,10 +121,7 @@ fn every_call(table: &Table, random: &mut Random) {
             clear(a, b % 6),
             Call::Read { step: a },
         ]);
-        calls.push(Call::KeyLine(compare::key_text(Command::Clear {
-            step: a % 1000,
-            exit: b % 10,
-        })));
+        calls.push(Call::KeyLine(key_text(Command::Clear { step: a % 1000, exit: b % 10 })));
         calls.push(Call::Trial {
             results: vec![a as u8 % 5, b as u8 % 4, 0, 1],
             trace: usize::from(c % 8),

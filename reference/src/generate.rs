@@ -178,7 +178,7 @@ impl Generator {
     /// The next key line, to be made on this plan. It has no byte 10.
     pub fn key_line(&mut self, plan: &Plan) -> Vec<u8> {
         let letter = self.random.pick(b"aalccn");
-        let mut line = key_text(self.command(plan, letter)).into_bytes();
+        let mut line = key_text(self.command(plan, letter));
         if self.random.once_in(4) {
             let at = self.random.below(line.len());
             let byte = self.random.pick(b"HA*0123456789h -\r\0\xFF");
@@ -236,8 +236,8 @@ impl Generator {
 }
 
 /// The key line of a command. A number too wide for its digits makes the line malformed.
-fn key_text(command: Command) -> String {
-    match command {
+pub fn key_text(command: Command) -> Vec<u8> {
+    let text = match command {
         Command::Add { holder, exit, kind, content } => {
             format!("H*1{holder:03}{exit}{kind}{content:03}A")
         }
@@ -246,5 +246,6 @@ fn key_text(command: Command) -> String {
         }
         Command::Clear { step, exit } => format!("H*3{step:03}{exit}A"),
         Command::Count => "H*4A".to_string(),
-    }
+    };
+    text.into_bytes()
 }
