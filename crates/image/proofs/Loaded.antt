@@ -116,17 +116,18 @@ module _ (bs : List ℕ) where
   unfolding accepted framed
   test-accepted t =
       let frame = and-left (framed bs) _ t in
+      let size : length bs ≡ stepPlace (countIn bs) = eqb-true _ _ (and-left _ _ frame) in
       let records = and-right (eqb (length bs) (stepPlace (countIn bs))) _ frame in
       let steps = and-right (framed bs) _ t in
+      let differ : (j k : ℕ) → j < k → k < countIn bs → numberIn bs j ≡ numberIn bs k → ⊥ = λ j k l h.
+      eqb-false _ _ (not-true-false (eqb (numberIn bs j) (numberIn bs k)) (all-at k (differs bs k) (all-at _ _ (and-left _ _ steps) k h) j l)) in
       let last = and-right (all (countIn bs) (λ k. all k (differs bs k))) _ steps in
-      let inRange = all-at (countIn bs) (ranged bs) (and-left _ _ last) in
+      let inRange = all-at (countIn bs) _ (and-left _ _ last) in
       record {
-        size = eqb-true _ _ (and-left _ _ frame);
+        size = size;
         header = and-left _ _ records;
         records = all-at _ _ (and-left _ _ (and-right (recordAt bs 0 headerRecordKind headerFieldCount) _ records));
-        distinct =
-            λ j k l h.
-            eqb-false _ _ (not-true-false (eqb (numberIn bs j) (numberIn bs k)) (all-at k (differs bs k) (all-at _ _ (and-left _ _ steps) k h) j l));
+        distinct = differ;
         numbers = λ k h. ltb-true _ _ (and-left _ _ (inRange k h));
         bits = λ k h. leb-true _ _ (and-right (ltb (numberIn bs k) places) _ (inRange k h));
         loads = and-left _ _ (and-right (all (countIn bs) (ranged bs)) _ last);
