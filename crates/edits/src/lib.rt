@@ -78,7 +78,7 @@ fn in_use(used: &[u16; 128], step: u16) -> bool
 }
 
 // The refusal of a step that is not in use, then of an exit above 3, or 0: what add, link and clear ask of a step and its exit.
-pub fn exit_refusal(used: &[u16; 128], step: u16, exit: u16) -> u16
+fn exit_refusal(used: &[u16; 128], step: u16, exit: u16) -> u16
     requires { ⌜ length (now used) ≡ places ⌝ }
     ensures { λ r. ⌜ r ≡ exitRefusal (now (used .entry)) step exit ⌝ }
 {
@@ -92,7 +92,7 @@ pub fn exit_refusal(used: &[u16; 128], step: u16, exit: u16) -> u16
 }
 
 // What exit e of step i has in an array with an entry for each exit.
-pub fn exit_at(list: &[u16; 512], i: u16, e: u16) -> u16
+fn exit_at(list: &[u16; 512], i: u16, e: u16) -> u16
     requires { ⌜ (i < places) × (e < exits) ⌝ }
     ensures { λ r. ⌜ r ≡ exitAt (now (list .entry)) i e ⌝ }
 {
@@ -216,7 +216,7 @@ fn number_given(used: &[u16; 128], capacity: u16, last: u16) -> u16
 }
 
 // Counter b of step j falls by one, and stays where it is 0; step 0 stands for no step.
-pub fn lower(counts: &mut [u16; 256], j: u16, b: u16)
+fn lower(counts: &mut [u16; 256], j: u16, b: u16)
     requires { ⌜ (j < places) × (b < counters) ⌝ }
     ensures { λ r. ⌜ now (counts .exit) ≡ lowered j b (now (counts .entry)) ⌝ }
 {
@@ -228,7 +228,7 @@ pub fn lower(counts: &mut [u16; 256], j: u16, b: u16)
 }
 
 // Counter b of step j rises by one; step 0 stands for no step.
-pub fn raise(counts: &mut [u16; 256], j: u16, b: u16)
+fn raise(counts: &mut [u16; 256], j: u16, b: u16)
     requires { ⌜ (j < places) × (b < counters) × ((j ≡ 0 → ⊥) → counterAt (now counts) j b < 65535) ⌝ }
     ensures { λ r. ⌜ now (counts .exit) ≡ raised j b (now (counts .entry)) ⌝ }
 {
@@ -239,7 +239,7 @@ pub fn raise(counts: &mut [u16; 256], j: u16, b: u16)
 }
 
 // The link in exit e of step i leaves the counters, and a link to j with bit b takes its place and is counted; with j 0 the exit is emptied.
-pub fn relink(
+fn relink(
     targets: &mut [u16; 512],
     bits: &mut [u16; 512],
     counts: &mut [u16; 256],
