@@ -6,7 +6,7 @@
  * Two buffers lent to one call do not overlap, and nobody else writes a lent buffer during the call.
  *
  * Any bytes may stand in a table: every field is a number. A call that is passed a table that is not sound answers refusal 1. All calls end, and
- * need at most 64 kB of stack.
+ * need at most 47 kB of stack.
  *
  * Refusals. `refusal` is 0, or the number of the first condition of the call's order that holds. All other numbers of the reply are then 0, the
  * table in it is the one that was passed, and no lent byte was written. A refused fresh or load hands back a fresh table of capacity 1.

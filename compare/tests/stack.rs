@@ -1,4 +1,4 @@
-//! The deepest calls keep to 64 kB of stack, the tables passed and handed back included.
+//! The deepest calls keep to 47 kB of stack, the tables passed and handed back included.
 
 use compare::stack::depth;
 use compare::{kept, lend};
@@ -6,7 +6,8 @@ use reference::calls::{add, fresh, link};
 use reference::table::Table;
 use std::hint::black_box;
 
-const LIMIT: usize = 64 * 1024;
+/// A third more than the deepest call takes.
+const LIMIT: usize = 47 * 1024;
 
 /// A full table whose 127 steps stand in one chain, step i held by exit `exit` of the step before it.
 fn chain(exit: u16) -> Table {
@@ -35,7 +36,7 @@ fn measured<R>(name: &str, table: &Table, call: impl Fn(telephone::Table) -> R) 
 }
 
 #[test]
-fn deepest_calls_keep_to_64_kb() {
+fn deepest_calls_keep_to_the_limit() {
     let mut deepest = 0;
     let mut image = vec![0; 2570];
     assert_eq!(telephone::write_image(lend(&chain(0)), &mut image).refusal, 0);
@@ -75,12 +76,12 @@ fn measure_sees_a_deep_stack() {
     assert!(depth(|| ()) < 512);
 }
 
-/// The same calls in a thread with 64 kB for everything. An overflow ends the test program.
+/// The deepest call in a thread with that much for everything. An overflow ends the test program.
 #[test]
-fn deepest_calls_in_a_small_thread() {
+fn deepest_call_in_a_small_thread() {
     let table = Box::new(lend(&held(0)));
     let thread = std::thread::Builder::new().stack_size(LIMIT).spawn(move || {
-        let reply = Box::new(telephone::clear((*table).clone(), 0, 0));
+        let reply = Box::new(telephone::key_line((*table).clone(), b"H*30000A"));
         (reply.refusal, reply.first, reply.second)
     });
     assert_eq!(thread.unwrap().join().unwrap(), (0, 127, 0));

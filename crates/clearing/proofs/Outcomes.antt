@@ -19,15 +19,16 @@ use Rattle.table.specs.declared.Outcome.{Outcome}
 use Rattle.table.specs.Table.{places, exits, counters, exitPlace, counterPlace, inUse, ownBit, targetOf, linkBit, counterOf, holds, strong, stronglyLinked}
 use Rattle.table.specs.Sound.{Sound, sound}
 use Rattle.table.specs.Answer.{first}
+use Rattle.table.specs.Calls.{relink}
 use Rattle.table.specs.Clear.{Repair, emptied, heldStrongly, stops, doubtful, repair, repairOf, unlinked, blanked, eachDoubtful, release, size, repaired, clearRefusal, clearCall}
 use Rattle.table.proofs.Links.{holds-target, target-holds, target-empty, used-place, bit-strong}
 use Rattle.table.proofs.Formed.{Formed, sound-formed}
 use Rattle.table.proofs.Edits.{weak-bit}
 use Rattle.table.proofs.Clear.{formed-emptied}
 use Rattle.table.proofs.Calls.{ClearFits, unless-zero, unless-refused}
-use Rattle.withdraw.specs.Withdraw.{Emptied}
-use Rattle.clearing.specs.Clearing.{rebuilt, assembled, underRepair, isOne, asMarks, Held, Standing, Repairable}
-use Rattle.clearing.proofs.Laws.{empty-held, standing-held}
+use Rattle.withdraw.specs.Withdraw.{rebuilt, assembled, Emptied}
+use Rattle.clearing.specs.Clearing.{handed, cleared, Clearable, underRepair, isOne, asMarks, Held, Standing, Repairable}
+use Rattle.clearing.proofs.Laws.{standing-held}
 
 pub emptied-formed : {u : Table} {start : ℕ} → Emptied u start → Formed u
 emptied-formed m = subst Formed (sym (m .7)) (formed-emptied (m .0) (m .3) (m .1) (m .2) (m .4) (m .5) (m .6))
@@ -96,7 +97,7 @@ module _ (u : Table) (n : ℕ) (q : n ≡ u .capacity) (most : u .capacity ≤ p
         rebuilt t used kinds contents own″ targets bits counts″ ≡
         eachDoubtful (asMarks n doubt) blanked (rebuilt t (u .used) (u .kinds) (u .contents) own targets bits counts′)) →
         doubts ≡ size (asMarks n doubt₀) n → freed ≡ size (asMarks n doubt) n →
-        record { answer = Given doubts freed; table = rebuilt u used kinds contents own″ targets′ bits′ counts″ } ≡ repaired u
+        handed (Given doubts freed) (rebuilt u used kinds contents own″ targets′ bits′ counts″) ≡ repaired u
     unfolding repaired release
     repaired-lists targets′ bits′ counts′ used kinds contents own″ counts″ doubts freed parted blank x y =
         let d : asMarks n doubt ≡ repairOf u .doubt =
@@ -112,73 +113,71 @@ module _ (u : Table) (n : ℕ) (q : n ≡ u .capacity) (most : u .capacity ≤ p
         λ i. record { answer = Given (x′ i) (y′ i); table = v i }
 
 -- Rule 1.
-module _ (t : Table) (i e : ℕ) (s : Sound t) (c : ClearFits t i e) where
+module _ (t : Table) (i e : ℕ) (m : Clearable t i e) where
   pub cleared-held : Held (t .targets) (t .bits) (t .counts) i e
   cleared-held =
-      let x : Standing (t .own) (t .targets) (t .bits) (t .counts) i = record { table = t; formed = sound-formed s; used = c .used } in
-      standing-held x e (c .exit)
+      let x : Standing (t .own) (t .targets) (t .bits) (t .counts) i = record { table = t; formed = sound-formed (m .0); used = m .1 .used } in
+      standing-held x e (m .1 .exit)
 
-  pub cleared-target : getD (t .targets) (i * exits + e) 0 ≡ 0 → ⊥
-  cleared-target = (unfold targetOf exitPlace in holds-target t i e (c .filled))
-
-  module _ (j b : ℕ) (x : j ≡ getD (t .targets) (i * exits + e) 0) (y : b ≡ getD (t .bits) (i * exits + e) 0) where
-    abbrev left : List ℕ
-    left = set (t .counts) (j * counters + b) (getD (t .counts) (j * counters + b) 0 - 1)
-
+  -- the target and the bit of the link, and the lists with the exit emptied
+  module _ (j b : ℕ) (x : j ≡ getD (t .targets) (i * exits + e) 0) (y : b ≡ getD (t .bits) (i * exits + e) 0)
+      (targets bits counts : List ℕ) (q : assembled t (t .own) targets bits counts ≡ relink t i e 0 0) where
     abbrev out : Table
-    out = assembled t (t .own) (set (t .targets) (i * exits + e) 0) (set (t .bits) (i * exits + e) 0) left
+    out = assembled t (t .own) targets bits counts
 
-    pub out-emptied : out ≡ emptied t i e
+    out-emptied : out ≡ emptied t i e
     unfolding emptied
-    out-emptied = empty-held t (t .own) (t .targets) (t .bits) (t .counts) i e j b x y (λ z. cleared-target (sym x ∙ z))
+    out-emptied = q
 
-    pub stopped : stops t i e ≡ true →
-        record { answer = Given 0 0; table = out } ≡
-        cond (stops t i e) (record { answer = Given 0 0; table = emptied t i e }) (repaired (emptied t i e))
-    stopped h = rw h (λ k. record { answer = Given 0 0; table = out-emptied k })
-
-    pub went-on : stops t i e ≡ false →
-        repaired out ≡ cond (stops t i e) (record { answer = Given 0 0; table = emptied t i e }) (repaired (emptied t i e))
-    went-on h = rw h (ap repaired out-emptied)
-
-    pub stops-weak : (b ≡ getD (t .own) j 0 → ⊥) → stops t i e ≡ true
+    pub stops-weak : (b ≡ getD (t .own) j 0 → ⊥) → handed (Given 0 0) out ≡ cleared t i e
     unfolding stops linkBit ownBit targetOf exitPlace
     stops-weak d =
         let w : strong t i e ≡ false = weak-bit t i e (λ z. d (y ∙ z ∙ sym (ap (λ (k : ℕ). getD (t .own) k 0) x))) in
-        rw w
+        let h : stops t i e ≡ true = rw w in
+        rw h (ap (handed (Given 0 0)) out-emptied)
 
     module _ (o : b ≡ getD (t .own) j 0) where
-      held-left : heldStrongly (emptied t i e) (targetOf t i e) ≡ ltb 0 (getD left (j * counters + b) 0)
+      held-left : heldStrongly (emptied t i e) (targetOf t i e) ≡ ltb 0 (getD counts (j * counters + b) 0)
       unfolding heldStrongly counterOf counterPlace ownBit targetOf exitPlace
       held-left =
           subst
-          (λ (v : Table). ltb 0 (getD (v .counts) (getD (t .targets) (i * exits + e) 0 * counters + getD (v .own) (getD (t .targets) (i * exits + e) 0) 0) 0) ≡ ltb 0 (getD left (j * counters + b) 0))
+          (λ (v : Table). ltb 0 (getD (v .counts) (getD (t .targets) (i * exits + e) 0 * counters + getD (v .own) (getD (t .targets) (i * exits + e) 0) 0) 0) ≡ ltb 0 (getD counts (j * counters + b) 0))
           out-emptied
           (rw (sym x, sym o) refl)
 
       strong-here : strong t i e ≡ true
       unfolding linkBit ownBit targetOf exitPlace
-      strong-here = bit-strong t i e (c .filled) (sym y ∙ o ∙ ap (λ (k : ℕ). getD (t .own) k 0) x)
+      strong-here = bit-strong t i e (m .1 .filled) (sym y ∙ o ∙ ap (λ (k : ℕ). getD (t .own) k 0) x)
 
-      pub stops-held : (getD left (j * counters + b) 0 ≡ 0 → ⊥) → stops t i e ≡ true
+      pub stops-held : (getD counts (j * counters + b) 0 ≡ 0 → ⊥) → handed (Given 0 0) out ≡ cleared t i e
       unfolding stops
       stops-held d =
-          or-right (not (strong t i e)) _ (held-left ∙ lt-ltb 0 _ (positive (getD left (j * counters + b) 0) d))
+          let h : stops t i e ≡ true = or-right (not (strong t i e)) _ (held-left ∙ lt-ltb 0 _ (positive (getD counts (j * counters + b) 0) d)) in
+          rw h (ap (handed (Given 0 0)) out-emptied)
         where
-          positive : (m : ℕ) → (m ≡ 0 → ⊥) → 0 < m
-          positive m f = omega arith
+          positive : (n : ℕ) → (n ≡ 0 → ⊥) → 0 < n
+          positive n f = omega arith
 
-      pub stops-not : getD left (j * counters + b) 0 ≡ 0 → stops t i e ≡ false
-      unfolding stops
-      stops-not z =
-          let l : getD left (j * counters + b) 0 ≤ 0 = omega arith in
-          let h : heldStrongly (emptied t i e) (targetOf t i e) ≡ false = held-left ∙ le-ltb 0 _ l in
-          rw (strong-here, h)
+      module _ (z : getD counts (j * counters + b) 0 ≡ 0) where
+        goes-on : stops t i e ≡ false
+        unfolding stops
+        goes-on =
+            let l : getD counts (j * counters + b) 0 ≤ 0 = omega arith in
+            let h : heldStrongly (emptied t i e) (targetOf t i e) ≡ false = held-left ∙ le-ltb 0 _ l in
+            rw (strong-here, h)
+
+        pub just-emptied : (start : ℕ) → start ≡ getD (t .targets) (i * exits + e) 0 → Emptied out start
+        unfolding targetOf exitPlace
+        just-emptied start k =
+            (t, i, e, m .0, m .1 .used, m .1 .exit, m .1 .filled, out-emptied, goes-on, k)
+
+        pub went-on : repaired out ≡ cleared t i e
+        went-on = let h = goes-on in rw h (ap repaired out-emptied)
 
 -- The refusals, in their order.
 module _ (t : Table) (i e : ℕ) where
   abbrev refused : ℕ → Outcome
-  refused n = record { answer = Refused n; table = t }
+  refused n = handed (Refused n) t
 
   refuses : (n : ℕ) → clearRefusal t i e ≡ n → (n ≡ 0 → ⊥) → refused n ≡ clearCall t i e
   unfolding clearCall
@@ -201,7 +200,7 @@ module _ (t : Table) (i e : ℕ) where
   refuses-empty s u l h = let x : leb exits e ≡ false = lt-leb exits e l in refuses 6 (rw (s, u, x, h)) (λ z. omega arith)
 
   pub accepts : sound t ≡ true → inUse t i ≡ true → e < exits → holds t i e ≡ true →
-      cond (stops t i e) (record { answer = Given 0 0; table = emptied t i e }) (repaired (emptied t i e)) ≡ clearCall t i e
+      cleared t i e ≡ clearCall t i e
   unfolding clearCall clearRefusal first
   accepts s u l h =
       let x : leb exits e ≡ false = lt-leb exits e l in

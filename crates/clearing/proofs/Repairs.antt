@@ -25,7 +25,8 @@ use Rattle.table.proofs.Relink.{relink-used}
 use Rattle.table.proofs.Formed.{Formed, formed-place, formed-relink}
 use Rattle.table.proofs.Restore.{taken}
 use Rattle.table.proofs.Repair.{taking}
-use Rattle.clearing.specs.Clearing.{assembled, underRepair, isOne, asMarks, leadsAt, leadsWithin, leadsTo, wantedIn, Standing, Repairable, InRange, Added}
+use Rattle.withdraw.specs.Withdraw.{assembled}
+use Rattle.clearing.specs.Clearing.{underRepair, isOne, asMarks, leadsAt, leadsWithin, leadsTo, wantedIn, Standing, Repairable, InRange, Added}
 use Rattle.clearing.proofs.Laws.{is-one, marks-at}
 
 -- a place where 1 stands is a place of the list

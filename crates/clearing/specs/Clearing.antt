@@ -1,5 +1,6 @@
 -- The lists that clear works on, as a table. Assumes nothing.
---   rebuilt t used ..   the table t with these lists in the place of its own; assembled: with own bits and links alone
+--   handed r t          the outcome with the answer r and the table t
+--   cleared t i e       the outcome of an accepted clearing; Clearable t i e: it is accepted
 --   isOne l i           the number at i of l is 1: step i is marked
 --   asMarks n l         the marks of l below n
 --   underRepair t ..    the assembled table under repair, with the marks below its capacity
@@ -18,26 +19,24 @@ use lib.ListN.{length, getD}
 use lib.Dec.{eqb}
 use Rattle.finite.specs.Below.{any, tabulate}
 use Rattle.table.specs.declared.Table.{Table}
+use Rattle.table.specs.declared.Answer.{Answer}
+use Rattle.table.specs.declared.Answer.the-variants.{Given}
+use Rattle.table.specs.declared.Outcome.{Outcome}
 use Rattle.table.specs.Table.{places, exits, counters, exitPlace, inUse}
-use Rattle.table.specs.Clear.{Repair}
+use Rattle.table.specs.Sound.{Sound}
+use Rattle.table.specs.Clear.{Repair, emptied, stops, repaired}
 use Rattle.table.proofs.Formed.{Formed}
+use Rattle.table.proofs.Calls.{ClearFits}
+use Rattle.withdraw.specs.Withdraw.{assembled}
 
-abbrev pub rebuilt : Table → List ℕ → List ℕ → List ℕ → List ℕ → List ℕ → List ℕ → List ℕ → Table
-rebuilt t used kinds contents own targets bits counts =
-    record {
-      capacity = t .capacity;
-      last = t .last;
-      used = used;
-      kinds = kinds;
-      contents = contents;
-      own = own;
-      targets = targets;
-      bits = bits;
-      counts = counts;
-    }
+abbrev pub handed : Answer → Table → Outcome
+handed r t = record { answer = r; table = t }
 
-abbrev pub assembled : Table → List ℕ → List ℕ → List ℕ → List ℕ → Table
-assembled t own targets bits counts = rebuilt t (t .used) (t .kinds) (t .contents) own targets bits counts
+abbrev pub cleared : Table → ℕ → ℕ → Outcome
+cleared t i e = cond (stops t i e) (handed (Given 0 0) (emptied t i e)) (repaired (emptied t i e))
+
+abbrev pub Clearable : Table → ℕ → ℕ → Type 0
+Clearable t i e = Sound t × ClearFits t i e
 
 unfoldable pub isOne : List ℕ → ℕ → Bool
 isOne l i = eqb (getD l i 0) 1

@@ -1,17 +1,15 @@
 // Clear: an exit of a step is emptied, and the steps that no chain of links reaches any more are freed.
 ghost use mathlib.Core.Path.{_≡_};
-ghost use mathlib.Core.Bool.{cond};
 ghost use mathlib.Core.List.{List};
 ghost use Prim.Native.Nat.{ℕ, _<_, _≤_};
 ghost use lib.ListN.{length, getD};
 ghost use Rattle.finite.specs.Below.{one};
 ghost use Rattle.table.specs.Table.{exits, places, exitPlace};
-ghost use Rattle.table.specs.Sound.{Sound};
+ghost use Rattle.table.specs.Sound.{Shape};
 ghost use Rattle.table.specs.Calls.{relink};
-ghost use Rattle.table.specs.Clear.{emptied, stops, weakened, restored, repair, unlinked, blanked, eachDoubtful, size, repaired, clearCall};
-ghost use Rattle.table.proofs.Calls.{ClearFits};
-ghost use Rattle.withdraw.specs.Withdraw.{Emptied};
-ghost use Rattle.clearing.specs.Clearing.{rebuilt, assembled, underRepair, isOne, asMarks, leadsAt, leadsTo, wantedIn, Held, Standing, Repairable, InRange, Added};
+ghost use Rattle.table.specs.Clear.{weakened, restored, repair, unlinked, blanked, eachDoubtful, size, repaired, clearCall};
+ghost use Rattle.withdraw.specs.Withdraw.{whole, rebuilt, assembled, Emptied};
+ghost use Rattle.clearing.specs.Clearing.{handed, cleared, Clearable, underRepair, isOne, asMarks, leadsAt, leadsTo, wantedIn, Held, Standing, Repairable, InRange, Added};
 use table::Answer;
 use table::Outcome;
 use table::Table;
@@ -301,39 +299,162 @@ fn count_marks(n: usize, doubt: &[u16; 128]) -> u16
     marks
 }
 
-// Rules 2 to 4 on a table whose step `start` has just lost its last strong link: the doubtful steps are found, and taken back or freed. Gives back
-// the number of each and the table, written anew once.
-fn repair_table(u: Table, start: u16) -> Outcome
-    requires { ⌜ Emptied u start ⌝ }
-    ensures { λ r. ⌜ r ≡ repaired u ⌝ }
+// Rules 2 to 4 on the working copy, in which step `start` has just lost its last strong link: the doubtful steps are found, and taken back or freed.
+// Gives back the number of each.
+fn repair_copy(
+    n: usize,
+    start: u16,
+    used: &mut [u16; 128],
+    kinds: &mut [u16; 128],
+    contents: &mut [u16; 128],
+    own: &mut [u16; 128],
+    targets: &mut [u16; 512],
+    bits: &mut [u16; 512],
+    counts: &mut [u16; 256],
+) -> Answer
+    requires { ⌜ ((t : Table) × (t .capacity ≡ n) ×
+        Emptied (rebuilt t (now used) (now kinds) (now contents) (now own) (now targets) (now bits) (now counts)) start) ⌝ }
+    ensures { λ r. ⌜ ((t : Table) → t .capacity ≡ n →
+        Emptied (rebuilt t (now (used .entry)) (now (kinds .entry)) (now (contents .entry)) (now (own .entry)) (now (targets .entry)) (now (bits .entry)) (now (counts .entry))) start →
+        handed r (rebuilt t (now (used .exit)) (now (kinds .exit)) (now (contents .exit)) (now (own .exit)) (now (targets .exit)) (now (bits .exit)) (now (counts .exit))) ≡
+        repaired (rebuilt t (now (used .entry)) (now (kinds .entry)) (now (contents .entry)) (now (own .entry)) (now (targets .entry)) (now (bits .entry)) (now (counts .entry)))) ⌝ }
 {
-    let n = wide(u.capacity);
-    let mut doubt = withdraw::doubtful_steps(u, start);
+    let mut doubt = withdraw::doubtful_steps(targets, bits, own, counts, start);
     let doubts = count_marks(n, &doubt);
-    let mut used = u.used;
-    let mut kinds = u.kinds;
-    let mut contents = u.contents;
-    let mut own = u.own;
-    let mut targets = u.targets;
-    let mut bits = u.bits;
-    let mut counts = u.counts;
-    repair_steps(n, &targets, &mut own, &mut bits, &mut counts, &mut doubt);
+    repair_steps(n, targets, own, bits, counts, &mut doubt);
     let freed = count_marks(n, &doubt);
-    unlink_steps(n, &doubt, &mut targets, &mut bits, &mut counts);
-    blank_steps(
-        n,
-        &doubt,
+    unlink_steps(n, &doubt, targets, bits, counts);
+    blank_steps(n, &doubt, used, kinds, contents, own, counts);
+    Answer::Given(doubts, freed)
+}
+
+// Rule 1 on the working copy, and the others where it does not stop: exit e of step i, which holds a link, is cleared.
+fn clear_exit(
+    n: usize,
+    i: usize,
+    e: usize,
+    used: &mut [u16; 128],
+    kinds: &mut [u16; 128],
+    contents: &mut [u16; 128],
+    own: &mut [u16; 128],
+    targets: &mut [u16; 512],
+    bits: &mut [u16; 512],
+    counts: &mut [u16; 256],
+) -> Answer
+    requires { ⌜ ((t : Table) × (t .capacity ≡ n) ×
+        Clearable (rebuilt t (now used) (now kinds) (now contents) (now own) (now targets) (now bits) (now counts)) i e) ⌝ }
+    ensures { λ r. ⌜ ((t : Table) → t .capacity ≡ n →
+        Clearable (rebuilt t (now (used .entry)) (now (kinds .entry)) (now (contents .entry)) (now (own .entry)) (now (targets .entry)) (now (bits .entry)) (now (counts .entry))) i e →
+        handed r (rebuilt t (now (used .exit)) (now (kinds .exit)) (now (contents .exit)) (now (own .exit)) (now (targets .exit)) (now (bits .exit)) (now (counts .exit))) ≡
+        cleared (rebuilt t (now (used .entry)) (now (kinds .entry)) (now (contents .entry)) (now (own .entry)) (now (targets .entry)) (now (bits .entry)) (now (counts .entry))) i e) ⌝ }
+{
+    let p = i * 4 + e;
+    let target = targets[p];
+    let b = bits[p];
+    let j = wide(target);
+    let c = j * 2 + wide(b);
+    empty_exit(i, e, targets, bits, counts);
+    if b != own[j] {
+        return Answer::Given(0, 0);
+    }
+    if counts[c] != 0 {
+        return Answer::Given(0, 0);
+    }
+    repair_copy(n, target, used, kinds, contents, own, targets, bits, counts)
+}
+
+// Clear on the working copy of a table's arrays: the refusals in their order, then the clearing. A refused one leaves the arrays as they were.
+fn clear_copy(
+    capacity: u16,
+    last: u16,
+    step: u16,
+    exit: u16,
+    used: &mut [u16; 128],
+    kinds: &mut [u16; 128],
+    contents: &mut [u16; 128],
+    own: &mut [u16; 128],
+    targets: &mut [u16; 512],
+    bits: &mut [u16; 512],
+    counts: &mut [u16; 256],
+) -> Answer
+    requires { ⌜ Shape (whole capacity last (now used) (now kinds) (now contents) (now own) (now targets) (now bits) (now counts)) ⌝ }
+    ensures { λ r. ⌜
+        handed r (whole capacity last (now (used .exit)) (now (kinds .exit)) (now (contents .exit)) (now (own .exit)) (now (targets .exit)) (now (bits .exit)) (now (counts .exit))) ≡
+        clearCall (whole capacity last (now (used .entry)) (now (kinds .entry)) (now (contents .entry)) (now (own .entry)) (now (targets .entry)) (now (bits .entry)) (now (counts .entry))) step exit ⌝ }
+{
+    if !soundness::fields_sound(
+        capacity,
+        last,
+        used,
+        kinds,
+        contents,
+        own,
+        targets,
+        bits,
+        counts,
+    ) {
+        return Answer::Refused(NOT_SOUND);
+    }
+    if 128 <= step {
+        return Answer::Refused(NOT_IN_USE);
+    }
+    let i = wide(step);
+    if used[i] != 1 {
+        return Answer::Refused(NOT_IN_USE);
+    }
+    if 4 <= exit {
+        return Answer::Refused(BAD_EXIT);
+    }
+    let e = wide(exit);
+    if targets[i * 4 + e] == 0 {
+        return Answer::Refused(EXIT_EMPTY);
+    }
+    clear_exit(
+        wide(capacity),
+        i,
+        e,
+        used,
+        kinds,
+        contents,
+        own,
+        targets,
+        bits,
+        counts,
+    )
+}
+
+// Clears an exit: the link in it is taken out, and the steps that nothing leads to any more are freed. The answer counts the steps that were
+// doubtful and those that were freed. The arrays of the table are copied once, lent to everything between, and handed back.
+pub fn clear(t: Table, step: u16, exit: u16) -> Outcome
+    ensures { λ r. ⌜ r ≡ clearCall t step exit ⌝ }
+{
+    let capacity = t.capacity;
+    let last = t.last;
+    let mut used = t.used;
+    let mut kinds = t.kinds;
+    let mut contents = t.contents;
+    let mut own = t.own;
+    let mut targets = t.targets;
+    let mut bits = t.bits;
+    let mut counts = t.counts;
+    let answer = clear_copy(
+        capacity,
+        last,
+        step,
+        exit,
         &mut used,
         &mut kinds,
         &mut contents,
         &mut own,
+        &mut targets,
+        &mut bits,
         &mut counts,
     );
     Outcome {
-        answer: Answer::Given(doubts, freed),
+        answer,
         table: Table {
-            capacity: u.capacity,
-            last: u.last,
+            capacity,
+            last,
             used,
             kinds,
             contents,
@@ -343,73 +464,4 @@ fn repair_table(u: Table, start: u16) -> Outcome
             counts,
         },
     }
-}
-
-// Rule 1, and the others where it does not stop: the outcome of clearing exit e of step i, which holds a link.
-fn clear_exit(t: Table, i: usize, e: usize) -> Outcome
-    requires { ⌜ Sound t × ClearFits t i e × Held (t .targets) (t .bits) (t .counts) i e ⌝ }
-    ensures { λ r. ⌜ r ≡ cond (stops t i e) (record { answer = Answer.Given 0 0; table = emptied t i e }) (repaired (emptied t i e)) ⌝ }
-{
-    let p = i * 4 + e;
-    let target = t.targets[p];
-    let b = t.bits[p];
-    let j = wide(target);
-    let c = j * 2 + wide(b);
-    let mut u = t;
-    u.targets[p] = 0;
-    u.bits[p] = 0;
-    u.counts[c] -= 1;
-    if b != t.own[j] {
-        return Outcome {
-            answer: Answer::Given(0, 0),
-            table: u,
-        };
-    }
-    if u.counts[c] != 0 {
-        return Outcome {
-            answer: Answer::Given(0, 0),
-            table: u,
-        };
-    }
-    repair_table(u, target)
-}
-
-// Clears an exit: the link in it is taken out, and the steps that nothing leads to any more are freed. The answer counts the steps that were
-// doubtful and those that were freed.
-pub fn clear(t: Table, step: u16, exit: u16) -> Outcome
-    ensures { λ r. ⌜ r ≡ clearCall t step exit ⌝ }
-{
-    if !soundness::is_sound(t) {
-        return Outcome {
-            answer: Answer::Refused(NOT_SOUND),
-            table: t,
-        };
-    }
-    if 128 <= step {
-        return Outcome {
-            answer: Answer::Refused(NOT_IN_USE),
-            table: t,
-        };
-    }
-    let i = wide(step);
-    if t.used[i] != 1 {
-        return Outcome {
-            answer: Answer::Refused(NOT_IN_USE),
-            table: t,
-        };
-    }
-    if 4 <= exit {
-        return Outcome {
-            answer: Answer::Refused(BAD_EXIT),
-            table: t,
-        };
-    }
-    let e = wide(exit);
-    if t.targets[i * 4 + e] == 0 {
-        return Outcome {
-            answer: Answer::Refused(EXIT_EMPTY),
-            table: t,
-        };
-    }
-    clear_exit(t, i, e)
 }

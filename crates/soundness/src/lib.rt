@@ -5,8 +5,9 @@ ghost use Prim.Native.Nat.{ℕ, _+_, _*_, _<_, _≤_};
 ghost use lib.ListN.{getD, set, replicate};
 ghost use Rattle.finite.specs.Below.{all};
 ghost use Rattle.table.specs.Table.{places, exits, counters};
-ghost use Rattle.table.specs.Sound.{contentFits, kindFits, sound};
+ghost use Rattle.table.specs.Sound.{contentFits, kindFits, Shape, sound};
 ghost use Rattle.withdraw.specs.Search.{headAt, InRange, Binary, Pending, rest, strongCounts};
+ghost use Rattle.withdraw.specs.Withdraw.{whole};
 ghost use Rattle.soundness.specs.Parts.{exitFits, exitBlank, stepFits, recount, countsSame, allMarked, Spans};
 use table::Table;
 
@@ -250,25 +251,51 @@ fn spans<'a>(
     all_marked(used, &marks)
 }
 
+// Whether the table with these fields is sound, whatever stands in them.
+pub fn fields_sound<'a>(
+    capacity: u16,
+    last: u16,
+    used: &'a [u16; 128],
+    kinds: &'a [u16; 128],
+    contents: &'a [u16; 128],
+    own: &'a [u16; 128],
+    targets: &'a [u16; 512],
+    bits: &'a [u16; 512],
+    counts: &'a [u16; 256],
+) -> bool
+    requires { ⌜ Shape (whole capacity last (now used) (now kinds) (now contents) (now own) (now targets) (now bits) (now counts)) ⌝ }
+    ensures { λ r. ⌜ r ≡ sound (whole capacity last (now (used .entry)) (now (kinds .entry)) (now (contents .entry)) (now (own .entry)) (now (targets .entry)) (now (bits .entry)) (now (counts .entry))) ⌝ }
+{
+    let n = wide(capacity);
+    if n < 1 {
+        return false;
+    }
+    if 128 < n {
+        return false;
+    }
+    if n <= wide(last) {
+        return false;
+    }
+    if used[0] != 1 {
+        return false;
+    }
+    if !steps_fit(n, used, kinds, contents, own, targets, bits, counts) {
+        return false;
+    }
+    let links = recounted(targets, bits, n * 4);
+    if !counts_same(counts, &links) {
+        return false;
+    }
+    spans(used, own, targets, bits, counts)
+}
+
 // Whether a table is sound, whatever stands in its fields.
 pub fn is_sound(t: Table) -> bool
     ensures { λ r. ⌜ r ≡ sound t ⌝ }
 {
-    let capacity = wide(t.capacity);
-    if capacity < 1 {
-        return false;
-    }
-    if 128 < capacity {
-        return false;
-    }
-    if capacity <= wide(t.last) {
-        return false;
-    }
-    if t.used[0] != 1 {
-        return false;
-    }
-    if !steps_fit(
-        capacity,
+    fields_sound(
+        t.capacity,
+        t.last,
         &t.used,
         &t.kinds,
         &t.contents,
@@ -276,12 +303,5 @@ pub fn is_sound(t: Table) -> bool
         &t.targets,
         &t.bits,
         &t.counts,
-    ) {
-        return false;
-    }
-    let counts = recounted(&t.targets, &t.bits, capacity * 4);
-    if !counts_same(&t.counts, &counts) {
-        return false;
-    }
-    spans(&t.used, &t.own, &t.targets, &t.bits, &t.counts)
+    )
 }

@@ -6,7 +6,7 @@ ghost use Rattle.finite.specs.Below.{one, tabulate};
 ghost use Rattle.finite.specs.Reach.{marked};
 ghost use Rattle.table.specs.Clear.{doubtful};
 ghost use Rattle.withdraw.specs.Search.{headAt, at, rest, Search, Pending, Withdrawn, InRange, Binary, strongCounts};
-ghost use Rattle.withdraw.specs.Withdraw.{Emptied};
+ghost use Rattle.withdraw.specs.Withdraw.{assembled, Emptied};
 use table::Table;
 
 // The step that the strong link in the exit at place p leads to, or 0 where the exit is empty or its link is weak.
@@ -88,15 +88,23 @@ fn wide(b: u16) -> usize
     b as usize
 }
 
-// The steps that are doubtful once an exit is emptied that held the last strong link to the step `start`: 1 for each.
-pub fn doubtful_steps(t: Table, start: u16) -> [u16; 128]
-    requires { ⌜ Emptied t start ⌝ }
-    ensures { λ r. ⌜ r ≡ tabulate places (λ i. one (marked (doubtful t) i)) ⌝ }
+// The steps that are doubtful in the table of these arrays, once an exit is emptied that held the last strong link to the step `start`: 1 for each.
+pub fn doubtful_steps<'a>(
+    targets: &'a [u16; 512],
+    bits: &'a [u16; 512],
+    own: &'a [u16; 128],
+    counts: &'a [u16; 256],
+    start: u16,
+) -> [u16; 128]
+    requires { ⌜ ((t : Table) × Emptied (assembled t (now own) (now targets) (now bits) (now counts)) start) ⌝ }
+    ensures { λ r. ⌜ ((t : Table) →
+        Emptied (assembled t (now (own .entry)) (now (targets .entry)) (now (bits .entry)) (now (counts .entry))) start →
+        r ≡ tabulate places (λ i. one (marked (doubtful (assembled t (now (own .entry)) (now (targets .entry)) (now (bits .entry)) (now (counts .entry)))) i))) ⌝ }
 {
-    let mut left = strong_counts(&t.counts, &t.own);
+    let mut left = strong_counts(counts, own);
     let mut marks = [0u16; 128];
     let i = wide(start);
     marks[i] = 1;
-    withdraw_step(&t.targets, &t.bits, &t.own, &mut left, &mut marks, i);
+    withdraw_step(targets, bits, own, &mut left, &mut marks, i);
     marks
 }

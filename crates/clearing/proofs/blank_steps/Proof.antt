@@ -7,7 +7,8 @@ use Prim.Native.Nat.{ℕ, _-_, _≤_}
 use native.Mathlib.Omega.{arith}
 use Rattle.table.specs.declared.Table.{Table}
 use Rattle.table.specs.Clear.{blanked}
-use Rattle.clearing.specs.Clearing.{rebuilt, asMarks}
+use Rattle.withdraw.specs.Withdraw.{rebuilt}
+use Rattle.clearing.specs.Clearing.{asMarks}
 use Rattle.clearing.proofs.Laws.{is-one, not-one, marks-at, eachBelow, each-none, each-go, each-stay, each-done}
 use Rattle.clearing.proofs.blank_steps.Statement.{statement}
 use Rattle.clearing.proofs.blank_steps.Tie as tie

@@ -8,7 +8,8 @@ use Rattle.finite.proofs.Loops.{rounds-none, rounds-next, rounds-done}
 use Rattle.table.specs.declared.Table.{Table}
 use Rattle.table.specs.Table.{exits, ownBit, withSteps}
 use Rattle.table.specs.Clear.{flipped, weakened, restored}
-use Rattle.clearing.specs.Clearing.{assembled, Standing}
+use Rattle.withdraw.specs.Withdraw.{assembled}
+use Rattle.clearing.specs.Clearing.{Standing}
 use Rattle.clearing.proofs.Laws.{standing-place, standing-own, standing-held, standing-flipped, standing-weakened}
 use Rattle.clearing.proofs.restore_step.Statement.{statement}
 use Rattle.clearing.proofs.restore_step.Tie as tie

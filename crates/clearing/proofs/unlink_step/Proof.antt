@@ -10,7 +10,8 @@ use Rattle.table.specs.declared.Table.{Table}
 use Rattle.table.specs.Table.{exits}
 use Rattle.table.specs.Calls.{relink}
 use Rattle.table.specs.Clear.{unlinked}
-use Rattle.clearing.specs.Clearing.{assembled, Standing}
+use Rattle.withdraw.specs.Withdraw.{assembled}
+use Rattle.clearing.specs.Clearing.{Standing}
 use Rattle.clearing.proofs.Laws.{standing-held, standing-emptied}
 use Rattle.clearing.proofs.unlink_step.Statement.{statement}
 use Rattle.clearing.proofs.unlink_step.Tie as tie

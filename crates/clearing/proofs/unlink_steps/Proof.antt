@@ -7,7 +7,8 @@ use Prim.Native.Nat.{ℕ, _-_, _≤_}
 use native.Mathlib.Omega.{arith}
 use Rattle.table.specs.declared.Table.{Table}
 use Rattle.table.specs.Clear.{unlinked}
-use Rattle.clearing.specs.Clearing.{assembled, asMarks, Repairable}
+use Rattle.withdraw.specs.Withdraw.{assembled}
+use Rattle.clearing.specs.Clearing.{asMarks, Repairable}
 use Rattle.clearing.proofs.Laws.{is-one, not-one, marks-at, eachBelow, each-none, each-go, each-stay, each-done}
 use Rattle.clearing.proofs.Repairs.{able-most, able-standing, able-unlinked}
 use Rattle.clearing.proofs.unlink_steps.Statement.{statement}

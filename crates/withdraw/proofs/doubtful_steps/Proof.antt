@@ -5,17 +5,23 @@ use Prim.Native.Nat.{ℕ, _+_, _<_}
 use mathlib.Core.Path.{_≡_, refl, sym, _∙_, ap, subst}
 use mathlib.Core.List.{List}
 use lib.ListN.{length, getD, set}
+use Rattle.table.specs.declared.Table.{Table}
 use Rattle.table.specs.Table.{places, ownBit}
 use Rattle.withdraw.specs.Search.{rest, Search, Withdrawn}
+use Rattle.withdraw.specs.Withdraw.{assembled}
 use Rattle.withdraw.proofs.Laws.{search-mark}
 use Rattle.withdraw.proofs.Found.{heads, own-bit, in-range}
 use Rattle.withdraw.proofs.Doubtful.{zeros, begin-doubt, formed-doubt, found-doubt}
 use Rattle.withdraw.proofs.doubtful_steps.Statement.{statement}
 use Rattle.withdraw.proofs.doubtful_steps.Tie as tie
 
+-- the table that the arrays are part of
+abbrev whole : tie.Start → Table → Table
+whole s t = assembled t (s .args .own .now) (s .args .targets .now) (s .args .bits .now) (s .args .counts .now)
+
 strong-counts-requires : tie.Need-strong-counts-requires
 unfolding ownBit
-strong-counts-requires c κs = own-bit (c .before .before .before .args .t1) (formed-doubt _ _ (c .before .before .before .pre))
+strong-counts-requires c κs = own-bit (whole c (c .pre .0)) (formed-doubt _ _ (c .pre .1))
 
 wide-requires : tie.Need-wide-requires
 wide-requires c κs = search needs
@@ -24,18 +30,17 @@ mul-marks : tie.Need-mul-marks
 mul-marks c = search needs
 
 array-write-marks : tie.Need-array-write-marks
-array-write-marks c = rw (c .wide .ensures) (begin-doubt _ _ (c .before .before .before .before .before .pre) .low)
+array-write-marks c = rw (c .wide .ensures) (begin-doubt _ _ (c .before .before .pre .1) .low)
 
 withdraw-step-requires : tie.Need-withdraw-step-requires
 withdraw-step-requires c κs =
-    let pre = c .before .before .before .before .before .before .before .before .before .before .before .pre in
-    let t = c .before .before .before .before .before .before .before .before .before .before .before .args .t1 in
-    let i = c .before .before .before .before .before .before .wide .result in
-    let e = c .before .before .before .before .before .before .wide .ensures in
-    let n = c .before .before .before .before .before .before .before .strong-counts .ensures in
-    let b = begin-doubt t _ pre in (
+    let s = c .before .before .before .before in
+    let t = whole s (s .pre .0) in
+    let e = c .before .before .wide .ensures in
+    let n = c .before .before .before .strong-counts .ensures in
+    let b = begin-doubt t _ (s .pre .1) in (
       rw e (b .low),
-      in-range t (formed-doubt t _ pre),
+      in-range t (formed-doubt t _ (s .pre .1)),
       (
         (λ (j : ℕ). 0),
         rw (e, n) (search-mark b),
@@ -44,11 +49,11 @@ withdraw-step-requires c κs =
 
 returns : tie.Need-returns
 returns c =
-    let pre = c .before .before .before .before .before .before .before .before .before .before .before .before .pre in
-    let t = c .before .before .before .before .before .before .before .before .before .before .before .before .args .t1 in
-    let e = c .before .before .before .before .before .before .before .wide .ensures in
-    let n = c .before .before .before .before .before .before .before .before .strong-counts .ensures in
-    found-doubt t _ pre _ _ (rw (e, n) at (c .withdraw-step .ensures))
+    λ t x.
+    let s = c .before .before .before .before .before in
+    let e = c .before .before .before .wide .ensures in
+    let n = c .before .before .before .before .strong-counts .ensures in
+    found-doubt (whole s t) _ x _ _ (rw (e, n) at (c .withdraw-step .ensures))
 
 pub doubtful-steps-spec : {M : Type 1} → statement M
 doubtful-steps-spec =
