@@ -1,11 +1,11 @@
 -- What the lists come to as the outcome of the call. Assumes nothing.
 use mathlib.Core.Path.{_≡_, refl, sym, _∙_, ap, ap₂, subst}
-use mathlib.Core.Bool.{Bool, true, false, _&&_, not, cond}
+use mathlib.Core.Bool.{Bool, true, false, _&&_, not}
 use mathlib.Core.Logic.{_⊎_, ⊎-elim}
 use mathlib.Core.List.{List}
 use Prim.Native.Nat.{ℕ, _+_, _*_, _-_, _≤_, _<_}
 use native.Mathlib.Omega.{arith}
-use lib.ListN.{getD, set, List·getD-eq-default}
+use lib.ListN.{getD, List·getD-eq-default}
 use lib.Dec.{eqb, leb, ltb}
 use borrow.Author.Tests.{lt-ltb, le-ltb, le-leb, lt-leb, eq-eqb, ne-eqb}
 use Rattle.finite.specs.Below.{one, tabulate}
@@ -20,14 +20,14 @@ use Rattle.table.specs.Table.{places, exits, counters, exitPlace, counterPlace,
 use Rattle.table.specs.Sound.{Sound, sound}
 use Rattle.table.specs.Answer.{first}
 use Rattle.table.specs.Calls.{relink}
-use Rattle.table.specs.Clear.{Repair, emptied, heldStrongly, stops, doubtful, repair, repairOf, unlinked, blanked, eachDoubtful, release, size, repaired, clearRefusal, clearCall}
-use Rattle.table.proofs.Links.{holds-target, target-holds, target-empty, used-place, bit-strong}
+use Rattle.table.specs.Clear.{Repair, emptied, heldStrongly, stops, doubtful, repair, repairOf, unlinked, blanked, eachDoubtful, release, size, repaired, cleared, clearRefusal, clearCall}
+use Rattle.table.proofs.Links.{target-holds, target-empty, used-place, bit-strong}
 use Rattle.table.proofs.Formed.{Formed, sound-formed}
 use Rattle.table.proofs.Edits.{weak-bit}
 use Rattle.table.proofs.Clear.{formed-emptied}
-use Rattle.table.proofs.Calls.{ClearFits, unless-zero, unless-refused}
+use Rattle.table.proofs.Calls.{unless-zero, unless-refused}
 use Rattle.withdraw.specs.Withdraw.{rebuilt, assembled, Emptied}
-use Rattle.clearing.specs.Clearing.{handed, cleared, Clearable, underRepair, isOne, asMarks, Held, Standing, Repairable}
+use Rattle.clearing.specs.Clearing.{handed, Clearable, underRepair, isOne, asMarks, Held, Standing, Repairable}
 use Rattle.clearing.proofs.Laws.{standing-held}
 
 pub emptied-formed : {u : Table} {start : ℕ} → Emptied u start → Formed u

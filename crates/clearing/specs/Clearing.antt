@@ -1,6 +1,6 @@
 -- The lists that clear works on, as a table. Assumes nothing.
 --   handed r t          the outcome with the answer r and the table t
---   cleared t i e       the outcome of an accepted clearing; Clearable t i e: it is accepted
+--   Clearable t i e     clearing exit e of step i is accepted
 --   isOne l i           the number at i of l is 1: step i is marked
 --   asMarks n l         the marks of l below n
 --   underRepair t ..    the assembled table under repair, with the marks below its capacity
@@ -14,26 +14,22 @@
 use mathlib.Core.Path.{_≡_}
 use mathlib.Core.Bool.{Bool, true, _&&_, not, cond}
 use mathlib.Core.List.{List}
-use Prim.Native.Nat.{ℕ, _+_, _*_, _-_, _<_, _≤_}
+use Prim.Native.Nat.{ℕ, _+_, _*_, _<_, _≤_}
 use lib.ListN.{length, getD}
 use lib.Dec.{eqb}
 use Rattle.finite.specs.Below.{any, tabulate}
 use Rattle.table.specs.declared.Table.{Table}
 use Rattle.table.specs.declared.Answer.{Answer}
-use Rattle.table.specs.declared.Answer.the-variants.{Given}
 use Rattle.table.specs.declared.Outcome.{Outcome}
 use Rattle.table.specs.Table.{places, exits, counters, exitPlace, inUse}
 use Rattle.table.specs.Sound.{Sound}
-use Rattle.table.specs.Clear.{Repair, emptied, stops, repaired}
+use Rattle.table.specs.Clear.{Repair}
 use Rattle.table.proofs.Formed.{Formed}
 use Rattle.table.proofs.Calls.{ClearFits}
 use Rattle.withdraw.specs.Withdraw.{assembled}
 
 abbrev pub handed : Answer → Table → Outcome
 handed r t = record { answer = r; table = t }
-
-abbrev pub cleared : Table → ℕ → ℕ → Outcome
-cleared t i e = cond (stops t i e) (handed (Given 0 0) (emptied t i e)) (repaired (emptied t i e))
 
 abbrev pub Clearable : Table → ℕ → ℕ → Type 0
 Clearable t i e = Sound t × ClearFits t i e

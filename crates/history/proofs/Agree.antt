@@ -2,38 +2,36 @@
 -- says. Assumes nothing.
 --   Agrees t c      the three facts of the call c on t
 --   call-agrees     every call with any arguments
-use mathlib.Core.Path.{_≡_, refl, sym, _∙_, ap, ap₂, subst}
-use mathlib.Core.Bool.{Bool, true, false, _&&_, not, cond}
-use mathlib.Core.Logic.{_⊎_, inl, inr, ⊎-elim}
+use mathlib.Core.Path.{_≡_, refl, sym, _∙_, ap, ap₂}
+use mathlib.Core.Bool.{Bool, true, false, cond}
+use mathlib.Core.Logic.{_⊎_, ⊎-elim}
 use mathlib.Core.List.{List, [], _∷_}
-use Prim.Native.Nat.{ℕ, zero, suc, _+_, _-_, _≤_, _<_}
+use Prim.Native.Nat.{ℕ, _+_, _-_}
 use native.Mathlib.Omega.{arith}
 use lib.ListN.{length, set}
 use lib.Dec.{eqb, ltb}
 use borrow.Author.Tests.{eq-eqb, ne-eqb}
 use Rattle.finite.proofs.Bools.{test}
-use Rattle.finite.proofs.Below.{eq-or-ne, count-ext}
+use Rattle.finite.proofs.Below.{eq-or-ne}
 use Rattle.table.specs.declared.Table.{Table}
-use Rattle.table.specs.declared.Answer.{Answer}
 use Rattle.table.specs.declared.Answer.the-variants.{Refused, Given}
 use Rattle.table.specs.declared.Outcome.{Outcome}
 use Rattle.table.specs.Table.{inUse, targetOf, holds, stepsInUse}
 use Rattle.table.specs.Sound.{Sound}
 use Rattle.table.specs.Answer.{first, unless, refusalOf, firstOf, secondOf, triedRefusal}
-use Rattle.table.specs.Calls.{numberGiven, addRefusal, addTable, addCall, linkRefusal, linkTable, linkCall, readRefusal, readCall, trialRefusal, tryFrom, trialCall}
-use Rattle.table.specs.Clear.{emptied, clearRefusal, clearCall}
-use Rattle.table.specs.Plan.{Plan, planOf, planCount, planNumber, planAdd, planLink, planClear, planAddRefusal, planLinkRefusal, planClearRefusal, planReadRefusal, planTrialRefusal}
+use Rattle.table.specs.Calls.{addCall, linkCall, readCall, trialRefusal, tryFrom, trialCall}
+use Rattle.table.specs.Clear.{emptied, clearCall}
+use Rattle.table.specs.Plan.{planOf, planCount, planReadRefusal, planTrialRefusal}
 use Rattle.table.proofs.Links.{sound-wired}
 use Rattle.table.proofs.Plan.{plan-capacity, plan-count}
-use Rattle.table.proofs.Calls.{Orders, done, next, first-same, past-sound, unless-zero, unless-refused, add-refusal, link-refusal, clear-refusal, read-refusal, trial-refusal, add-fits, link-fits, clear-fits, number-plan, add-sound, add-plan, link-sound, link-plan, clearing, clear-cleared, clear-plan}
-use Rattle.table.proofs.Clear.{Cleared}
+use Rattle.table.proofs.Calls.{done, next, first-same, past-sound, unless-zero, unless-refused, add-refusal, link-refusal, clear-refusal, read-refusal, trial-refusal, add-fits, link-fits, clear-fits, number-plan, add-sound, add-plan, link-sound, link-plan, clear-cleared, clear-plan}
 use Rattle.image.specs.Image.{imageSize, imageLength, writeRefusal, writeCall}
 use Rattle.keyline.specs.declared.Command.{Command}
 use Rattle.keyline.specs.declared.Command.the-variants.{Add, Link, Clear, Count}
 use Rattle.keyline.specs.declared.Decoded.{Decoded}
 use Rattle.keyline.specs.declared.Decoded.the-variants.{Line, Nothing}
 use Rattle.keyline.specs.Keys.{decode, callDigit, spokenCounts, perform, performLine, keyCall}
-use Rattle.history.specs.History.{Call, add, link, clear, read, trial, write, keyLine, Heard, onlyRefusal, heardAs, callOf, Ran, ran, run, Drawn, drawUnless, drawAdd, drawLink, drawClear, drawCount, unchanged, planWriteRefusal, drawCommand, drawLine, draw}
+use Rattle.history.specs.History.{Call, add, link, clear, read, trial, write, keyLine, onlyRefusal, heardAs, callOf, ran, run, Drawn, drawUnless, drawAdd, drawLink, drawClear, drawCount, unchanged, planWriteRefusal, drawCommand, drawLine, draw}
 
 -- an outcome and what is drawn beside it
 record Beside (digit : ℕ) (o : Outcome) (d : Drawn) : Type 0 where

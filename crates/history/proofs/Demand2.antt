@@ -1,26 +1,23 @@
 -- Demand 2, call by call: what an accepted add, link and clear do on a sound table, and the spoken counts. Assumes nothing.
 use mathlib.Core.Path.{_≡_, refl, sym, _∙_, ap, ap₂}
-use mathlib.Core.Bool.{Bool, true, false, _&&_, not}
+use mathlib.Core.Bool.{true, _&&_, not}
 use mathlib.Core.Logic.{_↔_}
-use Prim.Native.Nat.{ℕ, _+_, _-_, _<_}
-use native.Mathlib.Omega.{arith}
+use Prim.Native.Nat.{ℕ, _-_, _<_}
 use Rattle.finite.specs.Reach.{Chain, reaches}
 use Rattle.finite.proofs.Bools.{and-intro, and-left, and-right, clash, refute, not-true-false}
 use Rattle.finite.proofs.Reach.{reach-sound, reach-complete}
 use Rattle.table.specs.declared.Table.{Table}
 use Rattle.table.specs.declared.Answer.the-variants.{Given}
-use Rattle.table.specs.declared.Outcome.{Outcome}
 use Rattle.table.specs.Table.{inUse, linked, stronglyLinked, stepsInUse, withLinks}
 use Rattle.table.specs.Sound.{Sound}
 use Rattle.table.specs.Calls.{relink, addRefusal, addCall, linkRefusal, linkCall}
-use Rattle.table.specs.Clear.{emptied, clearRefusal, clearCall}
-use Rattle.table.specs.Plan.{planOf}
+use Rattle.table.specs.Clear.{emptied, cleared, clearRefusal, clearCall}
 use Rattle.table.proofs.Links.{sound-wired, linked-below}
 use Rattle.table.proofs.Formed.{formed-wired}
 use Rattle.table.proofs.Spine.{strong-below}
 use Rattle.table.proofs.Plan.{plan-capacity, plan-count}
-use Rattle.table.proofs.Calls.{unless-zero, add-fits, link-fits, clear-fits, number-plan, add-sound, add-plan, link-sound, link-plan, clearing, clear-cleared, clear-plan}
-use Rattle.table.proofs.Clear.{Cleared, formed-emptied, sound-reached}
+use Rattle.table.proofs.Calls.{unless-zero, add-fits, link-fits, clear-fits, number-plan, add-sound, add-plan, link-sound, link-plan, clear-cleared, clear-plan}
+use Rattle.table.proofs.Clear.{formed-emptied, sound-reached}
 use Rattle.keyline.specs.Keys.{spokenCounts}
 use Rattle.history.specs.Demands.{AddDemand, LinkDemand, ClearDemand, CountDemand}
 
@@ -59,8 +56,8 @@ clear-demand t s i e z =
     let formed = formed-emptied t s i e (g .used) (g .exit) (g .filled) in
     let w = formed-wired formed in
     let links = reach-iff u (λ a b l. linked-below w a b l) (formed .least) in
-    let after = reach-iff (clearing s i e g .table) (λ a b l. linked-below (sound-wired (c .sound)) a b l) (c .sound .least) in
-    rw (unless-zero _ t (clearing s i e g) z)
+    let after = reach-iff (cleared t i e .table) (λ a b l. linked-below (sound-wired (c .sound)) a b l) (c .sound .least) in
+    rw (unless-zero _ t (cleared t i e) z)
     (record {
       sound = c .sound;
       plan = clear-plan s i e g;

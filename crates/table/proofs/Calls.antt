@@ -3,36 +3,33 @@
 --   first-zero      no condition of an order holds
 --   add-refusal link-refusal clear-refusal read-refusal trial-refusal   the table's refusal is the plan's
 --   Accepted..      the conditions of an accepted call, as facts
-use mathlib.Core.Path.{_≡_, refl, sym, _∙_, ap, ap₂, subst}
+use mathlib.Core.Path.{_≡_, refl, sym, _∙_, ap, ap₂}
 use mathlib.Core.Bool.{Bool, true, false, _&&_, not, cond}
-use mathlib.Core.Logic.{_⊎_, inl, inr, ⊎-elim}
+use mathlib.Core.Logic.{_⊎_, ⊎-elim}
 use mathlib.Core.List.{List, [], _∷_}
 use mathlib.Core.Option.{some}
-use Prim.Native.Nat.{ℕ, zero, suc, _+_, _-_, _≤_, _<_}
-use native.Mathlib.Omega.{arith}
+use Prim.Native.Nat.{ℕ, zero, suc, _-_, _<_}
 use lib.ListN.{length, getD, set, replicate}
-use lib.Dec.{eqb, leb, ltb}
-use borrow.Author.Tests.{eqb-true, eqb-false, eq-eqb, ne-eqb, leb-false}
-use Rattle.finite.specs.Below.{find}
-use Rattle.finite.specs.Reach.{reaches}
-use Rattle.finite.proofs.Bools.{and-left, and-right, clash, test, not-true-false, not-false-true}
+use lib.Dec.{eqb}
+use borrow.Author.Tests.{eqb-false, eq-eqb, ne-eqb, leb-false}
+use Rattle.finite.proofs.Bools.{and-left, and-right, test, not-true-false, not-false-true}
 use Rattle.finite.proofs.Below.{find-ext}
 use Rattle.finite.proofs.Reach.{chain-keeps, reach-sound}
 use Rattle.table.specs.declared.Table.{Table}
 use Rattle.table.specs.declared.Answer.the-variants.{Given, Refused}
 use Rattle.table.specs.declared.Outcome.{Outcome}
-use Rattle.table.specs.Table.{exits, inUse, kindOf, contentOf, targetOf, holds, linked, stepsInUse}
+use Rattle.table.specs.Table.{exits, inUse, targetOf, holds, linked, stepsInUse}
 use Rattle.table.specs.Sound.{Sound, contentFits, sound}
 use Rattle.table.specs.Answer.{notSound, first, unless}
-use Rattle.table.specs.Calls.{numberGiven, relink, withStep, addRefusal, addTable, addCall, weakBit, linkRefusal, linkTable, linkCall, readRefusal, resultsFit, trialRefusal}
-use Rattle.table.specs.Clear.{emptied, stops, doubtful, repairOf, release, size, repaired, clearRefusal, clearCall}
-use Rattle.table.specs.Plan.{Plan, planOf, planInUse, planTarget, planHolds, planCount, planNumber, replan, withTarget, planAdd, planLink, pruned, planClear, planAddRefusal, planLinkRefusal, planClearRefusal, planReadRefusal, planTrialRefusal}
+use Rattle.table.specs.Calls.{numberGiven, withStep, addRefusal, addTable, weakBit, linkRefusal, linkTable, readRefusal, trialRefusal}
+use Rattle.table.specs.Clear.{emptied, stops, repairOf, repaired, cleared, clearRefusal}
+use Rattle.table.specs.Plan.{Plan, planOf, planNumber, replan, withTarget, planAdd, planLink, pruned, planClear, planAddRefusal, planLinkRefusal, planClearRefusal, planReadRefusal, planTrialRefusal}
 use Rattle.table.proofs.Links.{Wired, sound-wired, linked-used}
 use Rattle.table.proofs.Sound.{sound-test}
-use Rattle.table.proofs.Formed.{Formed, sound-formed, formed-wired}
+use Rattle.table.proofs.Formed.{sound-formed, formed-wired}
 use Rattle.table.proofs.Edits.{number-given, sound-link, sound-add, formed-with-step, with-step-kept}
 use Rattle.table.proofs.Clear.{Cleared, formed-emptied, cleared-stop, cleared-repair}
-use Rattle.table.proofs.Plan.{plan-capacity, plan-last, plan-used, plan-target, plan-holds, plan-count, plan-relink, plan-with-step, plan-pruned}
+use Rattle.table.proofs.Plan.{plan-capacity, plan-used, plan-target, plan-holds, plan-count, plan-relink, plan-with-step, plan-pruned}
 
 -- two orders with the same conditions, each asked for only where those before it do not hold
 pub data Orders : List (Bool × ℕ) → List (Bool × ℕ) → Type 0 where
@@ -214,11 +211,7 @@ module _ {t : Table} (s : Sound t) where
         ∙ ap (withTarget (planOf t) second f) (sym (plan-target (sound-wired s) source e (g .exit)))
 
   module _ (i e : ℕ) (g : ClearFits t i e) where
-    -- the outcome of an accepted clearing
-    abbrev pub clearing : Outcome
-    clearing = cond (stops t i e) (record { answer = Given 0 0; table = emptied t i e }) (repaired (emptied t i e))
-
-    pub clear-cleared : (doubts : ℕ) × (freed : ℕ) × (clearing .answer ≡ Given doubts freed) × Cleared (emptied t i e) doubts freed (clearing .table)
+    pub clear-cleared : (doubts : ℕ) × (freed : ℕ) × (cleared t i e .answer ≡ Given doubts freed) × Cleared (emptied t i e) doubts freed (cleared t i e .table)
     unfolding repaired repairOf
     clear-cleared =
         ⊎-elim
@@ -226,19 +219,19 @@ module _ {t : Table} (s : Sound t) where
         (λ (h : stops t i e ≡ false). rw h (_, _, refl, cleared-repair t s i e (g .used) (g .exit) (g .filled)))
         (test (stops t i e))
 
-    pub clear-plan : planOf (clearing .table) ≡ planClear (planOf t) i e
+    pub clear-plan : planOf (cleared t i e .table) ≡ planClear (planOf t) i e
     unfolding planClear
     clear-plan =
         let c = clear-cleared .3 in
         let formed = formed-emptied t s i e (g .used) (g .exit) (g .filled) in
-        plan-pruned (emptied t i e) (clearing .table) (formed-wired formed) (c .capacity) (c .last) (c .used)
+        plan-pruned (emptied t i e) (cleared t i e .table) (formed-wired formed) (c .capacity) (c .last) (c .used)
         (λ k y. cleared-still k y)
         (c .kind)
         (c .content)
         (c .target)
         ∙ ap pruned (unfold emptied in plan-relink t (sound-formed s) i e 0 0 (g .used) (g .exit))
       where
-        cleared-still : (k : ℕ) → inUse (clearing .table) k ≡ true → inUse (emptied t i e) k ≡ true
+        cleared-still : (k : ℕ) → inUse (cleared t i e .table) k ≡ true → inUse (emptied t i e) k ≡ true
         cleared-still k y =
             let f = formed-wired (formed-emptied t s i e (g .used) (g .exit) (g .filled)) in
             let r = reach-sound (linked (emptied t i e)) _ 0 k (sym (clear-cleared .3 .used k) ∙ y) in

@@ -6,6 +6,7 @@
 --   restored t k      rule 3: its bit is flipped, then every link out of it is made weak
 --   repair repairOf   rule 3: the lowest wanted step is restored, while there is one
 --   release t d       rule 4: the steps still doubtful are freed
+--   cleared t i e     the four rules together
 --   clearCall         the call
 use mathlib.Core.Bool.{Bool, true, false, _&&_, _||_, not, cond}
 use mathlib.Core.List.{List, [], _∷_}
@@ -117,7 +118,9 @@ clearRefusal t i e =
     (not (holds t i e), exitEmpty) ∷
     [])
 
+-- the outcome of a clearing that is not refused
+abbrev pub cleared : Table → ℕ → ℕ → Outcome
+cleared t i e = cond (stops t i e) (record { answer = Given 0 0; table = emptied t i e }) (repaired (emptied t i e))
+
 unfoldable pub clearCall : Table → ℕ → ℕ → Outcome
-clearCall t i e =
-    unless (clearRefusal t i e) t
-    (cond (stops t i e) (record { answer = Given 0 0; table = emptied t i e }) (repaired (emptied t i e)))
+clearCall t i e = unless (clearRefusal t i e) t (cleared t i e)

@@ -1,11 +1,11 @@
 // The search of rule 2 of clearing: withdrawing a step and withdrawing an exit call each other.
 ghost use mathlib.Core.Path.{_≡_};
-ghost use Prim.Native.Nat.{ℕ, _+_, _*_, _<_};
+ghost use Prim.Native.Nat.{_+_, _*_, _<_};
 ghost use Rattle.table.specs.Table.{places, exits};
 ghost use Rattle.finite.specs.Below.{one, tabulate};
 ghost use Rattle.finite.specs.Reach.{marked};
 ghost use Rattle.table.specs.Clear.{doubtful};
-ghost use Rattle.withdraw.specs.Search.{headAt, at, rest, Search, Pending, Withdrawn, InRange, Binary, strongCounts};
+ghost use Rattle.withdraw.specs.Search.{headAt, at, rest, Pending, Withdrawn, InRange, Binary, strongCounts};
 ghost use Rattle.withdraw.specs.Withdraw.{assembled, Emptied};
 use table::Table;
 

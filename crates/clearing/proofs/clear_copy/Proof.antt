@@ -32,7 +32,7 @@ looked c = c .before .before .before .before
 abbrev sent : tie.After-clear-exit-arg7 → tie.After-wide3
 sent c = c .before .before .before .before .before .before .before
 
--- the table that the working copy is part of
+-- the table of the working copy
 abbrev given : tie.Start → Table
 given s =
     let a = s .args in
@@ -53,9 +53,6 @@ fits c =
       },
     )
 
-fields-sound-requires : tie.Need-fields-sound-requires
-fields-sound-requires c κs = search needs
-
 returns : tie.Need-returns
 returns c =
     let s = begun (c .before) in
@@ -67,15 +64,6 @@ returns-2 c =
     let t = given s in
     let ok = proved-sound (c .before) in
     refuses-unused t (s .args .step) (s .args .exit) ok (unused-above t (s .args .step) 0 (test-sound t ok) (c .if2 .taken))
-
-wide-requires : tie.Need-wide-requires
-wide-requires c κs = search needs
-
-mul-if3 : tie.Need-mul-if3
-mul-if3 c = search needs
-
-element-copy-out-if3 : tie.Need-element-copy-out-if3
-element-copy-out-if3 c = search needs
 
 returns-3 : tie.Need-returns-3
 returns-3 c =
@@ -94,21 +82,6 @@ returns-4 c =
     refuses-exit t (k .result) (s .args .exit) (proved-sound x1) (code-used t (k .result) 0 (c .before .if3 .left)) (c .if4 .taken)
     ∙ ap (λ (i : ℕ). clearCall t i (s .args .exit)) (k .ensures)
 
-wide-requires-2 : tie.Need-wide-requires-2
-wide-requires-2 c κs = search needs
-
-mul-if5 : tie.Need-mul-if5
-mul-if5 c = search needs
-
-add-if5 : tie.Need-add-if5
-add-if5 c = search needs
-
-mul-if5-2 : tie.Need-mul-if5-2
-mul-if5-2 c = search needs
-
-element-copy-out-if5 : tie.Need-element-copy-out-if5
-element-copy-out-if5 c = search needs
-
 returns-5 : tie.Need-returns-5
 returns-5 c =
     let x3 = c .before .before .before .before in
@@ -119,9 +92,6 @@ returns-5 c =
     let l : f .result < exits = omega arith in
     refuses-empty t (k .result) (f .result) (proved-sound x1) (code-used t (k .result) 0 (x3 .if3 .left)) l (code-empty t (k .result) (f .result) (c .if5 .taken))
     ∙ ap₂ (clearCall t) (k .ensures) (f .ensures)
-
-wide-requires-3 : tie.Need-wide-requires-3
-wide-requires-3 c κs = search needs
 
 clear-exit-requires : tie.Need-clear-exit-requires
 clear-exit-requires c κs =
@@ -143,20 +113,20 @@ pub clear-copy-spec : {M : Type 1} → statement M
 clear-copy-spec =
     tie.close
     (tie.spec
-    fields-sound-requires
+    (λ c κs. search needs)
     returns
     returns-2
-    wide-requires
-    mul-if3
-    element-copy-out-if3
+    (λ c κs. search needs)
+    (λ c. search needs)
+    (λ c. search needs)
     returns-3
     returns-4
-    wide-requires-2
-    mul-if5
-    add-if5
-    mul-if5-2
-    element-copy-out-if5
+    (λ c κs. search needs)
+    (λ c. search needs)
+    (λ c. search needs)
+    (λ c. search needs)
+    (λ c. search needs)
     returns-5
-    wide-requires-3
+    (λ c κs. search needs)
     clear-exit-requires
     returns-6)

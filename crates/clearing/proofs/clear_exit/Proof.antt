@@ -1,11 +1,7 @@
 -- `clearing::clear_exit` meets its contract: rule 1 stops where the definition's does. Assumes nothing.
-use mathlib.Core.Path.{_≡_, refl, sym, _∙_}
-use Prim.Native.Nat.{ℕ, _+_, _*_, _<_}
-use native.Mathlib.Omega.{arith}
-use lib.ListN.{getD}
+use mathlib.Core.Path.{refl, sym, _∙_}
 use borrow.Author.Needs.{needs}
 use Rattle.table.specs.declared.Table.{Table}
-use Rattle.table.specs.Table.{places, exits, counters}
 use Rattle.withdraw.specs.Withdraw.{rebuilt}
 use Rattle.clearing.specs.Clearing.{Held}
 use Rattle.clearing.proofs.Outcomes.{cleared-held, stops-weak, stops-held, just-emptied, went-on}
@@ -19,52 +15,16 @@ begun c = c .before .before .before .before
 abbrev read : tie.After-empty-exit → tie.After-wide2
 read c = c .before .before .before .before
 
--- the table that the working copy is part of
-abbrev whole : tie.Start → Table → Table
-whole s t =
+-- the table t with the working copy in it
+abbrev filled : tie.Start → Table → Table
+filled s t =
     rebuilt t (s .args .used .now) (s .args .kinds .now) (s .args .contents .now) (s .args .own .now) (s .args .targets .now) (s .args .bits .now) (s .args .counts .now)
 
 held : (s : tie.Start) → Held (s .args .targets .now) (s .args .bits .now) (s .args .counts .now) (s .args .i) (s .args .e)
-held s = cleared-held (whole s (s .pre .0)) (s .args .i) (s .args .e) (s .pre .2)
-
-mul-p : tie.Need-mul-p
-mul-p c = let h = held c in search needs
-
-add-p : tie.Need-add-p
-add-p c = let h = held c in search needs
-
-mul-target : tie.Need-mul-target
-mul-target c = let h = held c in search needs
-
-element-copy-out-target : tie.Need-element-copy-out-target
-element-copy-out-target c = let h = held c in search needs
-
-mul-b : tie.Need-mul-b
-mul-b c = let h = held (c .before) in search needs
-
-element-copy-out-b : tie.Need-element-copy-out-b
-element-copy-out-b c = let h = held (c .before) in search needs
-
-wide-requires : tie.Need-wide-requires
-wide-requires c κs = search needs
-
-mul-c : tie.Need-mul-c
-mul-c c = let h = held (c .before .before .before) in search needs
-
-wide-requires-2 : tie.Need-wide-requires-2
-wide-requires-2 c κs = search needs
-
-add-c : tie.Need-add-c
-add-c c = let h = held (begun c) in search needs
+held s = cleared-held (filled s (s .pre .0)) (s .args .i) (s .args .e) (s .pre .2)
 
 empty-exit-requires : tie.Need-empty-exit-requires
 empty-exit-requires c κs = held (begun (c .before .before .before))
-
-mul-if1 : tie.Need-mul-if1
-mul-if1 c = let h = held (begun (read c)) in search needs
-
-element-copy-out-if1 : tie.Need-element-copy-out-if1
-element-copy-out-if1 c = let h = held (begun (read c)) in search needs
 
 returns : tie.Need-returns
 returns c =
@@ -72,14 +32,8 @@ returns c =
     let x1 = c .before .before in
     let r = read x1 in
     let s = begun r in
-    stops-weak (whole s t) (s .args .i) (s .args .e) x _ _ (r .before .wide .ensures) (r .wide2 .ensures) _ _ _ (x1 .empty-exit .ensures (whole s t) (s .args .own .now))
+    stops-weak (filled s t) (s .args .i) (s .args .e) x _ _ (r .before .wide .ensures) (r .wide2 .ensures) _ _ _ (x1 .empty-exit .ensures (filled s t) (s .args .own .now))
     (λ z. c .if1 .taken (sym (r .wide2 .ensures) ∙ z))
-
-mul-if2 : tie.Need-mul-if2
-mul-if2 c = let h = held (begun (read (c .before .before))) in search needs
-
-element-copy-out-if2 : tie.Need-element-copy-out-if2
-element-copy-out-if2 c = let h = held (begun (read (c .before .before))) in search needs
 
 returns-2 : tie.Need-returns-2
 returns-2 c =
@@ -87,7 +41,7 @@ returns-2 c =
     let x1 = c .before .before .before .before in
     let r = read x1 in
     let s = begun r in
-    stops-held (whole s t) (s .args .i) (s .args .e) x _ _ (r .before .wide .ensures) (r .wide2 .ensures) _ _ _ (x1 .empty-exit .ensures (whole s t) (s .args .own .now))
+    stops-held (filled s t) (s .args .i) (s .args .e) x _ _ (r .before .wide .ensures) (r .wide2 .ensures) _ _ _ (x1 .empty-exit .ensures (filled s t) (s .args .own .now))
     (r .wide2 .ensures ∙ c .before .before .if1 .left)
     (c .if2 .taken)
 
@@ -100,7 +54,7 @@ repair-copy-requires c κs =
     let t = s .pre .0 in (
       t,
       s .pre .1,
-      just-emptied (whole s t) (s .args .i) (s .args .e) (s .pre .2) _ _ (r .before .wide .ensures) (r .wide2 .ensures) _ _ _ (x1 .empty-exit .ensures (whole s t) (s .args .own .now))
+      just-emptied (filled s t) (s .args .i) (s .args .e) (s .pre .2) _ _ (r .before .wide .ensures) (r .wide2 .ensures) _ _ _ (x1 .empty-exit .ensures (filled s t) (s .args .own .now))
           (r .wide2 .ensures ∙ f .before .before .if1 .left)
           (f .if2 .left)
           _
@@ -115,31 +69,31 @@ returns-3 c =
     let r = read x1 in
     let s = begun r in
     let o = r .wide2 .ensures ∙ f .before .before .if1 .left in
-    let m = x1 .empty-exit .ensures (whole s t) (s .args .own .now) in
+    let m = x1 .empty-exit .ensures (filled s t) (s .args .own .now) in
     c .repair-copy .ensures t q
-    (just-emptied (whole s t) (s .args .i) (s .args .e) x _ _ (r .before .wide .ensures) (r .wide2 .ensures) _ _ _ m o (f .if2 .left) _ refl)
-    ∙ went-on (whole s t) (s .args .i) (s .args .e) x _ _ (r .before .wide .ensures) (r .wide2 .ensures) _ _ _ m o (f .if2 .left)
+    (just-emptied (filled s t) (s .args .i) (s .args .e) x _ _ (r .before .wide .ensures) (r .wide2 .ensures) _ _ _ m o (f .if2 .left) _ refl)
+    ∙ went-on (filled s t) (s .args .i) (s .args .e) x _ _ (r .before .wide .ensures) (r .wide2 .ensures) _ _ _ m o (f .if2 .left)
 
 pub clear-exit-spec : {M : Type 1} → statement M
 clear-exit-spec =
     tie.close
     (tie.spec
-    mul-p
-    add-p
-    mul-target
-    element-copy-out-target
-    mul-b
-    element-copy-out-b
-    wide-requires
-    mul-c
-    wide-requires-2
-    add-c
+    (λ c. let h = held c in search needs)
+    (λ c. let h = held c in search needs)
+    (λ c. let h = held c in search needs)
+    (λ c. let h = held c in search needs)
+    (λ c. let h = held (c .before) in search needs)
+    (λ c. let h = held (c .before) in search needs)
+    (λ c κs. search needs)
+    (λ c. let h = held (c .before .before .before) in search needs)
+    (λ c κs. search needs)
+    (λ c. let h = held (begun c) in search needs)
     empty-exit-requires
-    mul-if1
-    element-copy-out-if1
+    (λ c. let h = held (begun (read c)) in search needs)
+    (λ c. let h = held (begun (read c)) in search needs)
     returns
-    mul-if2
-    element-copy-out-if2
+    (λ c. let h = held (begun (read (c .before .before))) in search needs)
+    (λ c. let h = held (begun (read (c .before .before))) in search needs)
     returns-2
     repair-copy-requires
     returns-3)

@@ -1,7 +1,6 @@
 -- `clearing::repair_copy` meets its contract, from what each function says of its lists. Assumes nothing.
 use mathlib.Core.Path.{sym}
 use native.Mathlib.Omega.{arith}
-use borrow.Author.Needs.{needs}
 use Rattle.table.specs.declared.Table.{Table}
 use Rattle.withdraw.specs.Withdraw.{rebuilt}
 use Rattle.clearing.proofs.Outcomes.{emptied-formed, found-able, repaired-lists}
@@ -27,13 +26,13 @@ left c = c .before .before .before .before .before
 abbrev parted : tie.After-blank-steps → tie.After-unlink-steps
 parted c = c .before .before .before .before .before .before .before
 
--- the table that the working copy is part of
-abbrev whole : tie.Start → Table → Table
-whole s t =
+-- the table t with the working copy in it
+abbrev filled : tie.Start → Table → Table
+filled s t =
     rebuilt t (s .args .used .now) (s .args .kinds .now) (s .args .contents .now) (s .args .own .now) (s .args .targets .now) (s .args .bits .now) (s .args .counts .now)
 
 doubtful-steps-requires : tie.Need-doubtful-steps-requires
-doubtful-steps-requires c κs = let s = c .before .before .before .before in (whole s (s .pre .0), s .pre .2)
+doubtful-steps-requires c κs = let s = c .before .before .before .before in (filled s (s .pre .0), s .pre .2)
 
 count-marks-requires : tie.Need-count-marks-requires
 count-marks-requires c κs = let s = begun (c .before) in omega (arith, s .pre .1, emptied-formed (s .pre .2) .most)
@@ -42,7 +41,7 @@ repair-steps-requires : tie.Need-repair-steps-requires
 repair-steps-requires c κs =
     let f = found (c .before .before .before .before .before) in
     let s = begun f in
-    let u = whole s (s .pre .0) in
+    let u = filled s (s .pre .0) in
     found-able u _ _ (sym (s .pre .1)) (f .doubtful-steps .ensures u (s .pre .2)) (emptied-formed (s .pre .2))
 
 count-marks-requires-2 : tie.Need-count-marks-requires-2
@@ -66,7 +65,7 @@ returns c =
     let r = mended l in
     let m = counted r in
     let f = found m in
-    let u = whole (begun f) t in
+    let u = filled (begun f) t in
     repaired-lists u _ (sym q) (emptied-formed x .most) _ _ _ _ _ (f .doubtful-steps .ensures u x) (r .repair-steps .ensures .0)
     _ _ _ _ _ _ _ _ _ _
     (p .unlink-steps .ensures)

@@ -65,32 +65,20 @@ counts-at c b q =
 formed : (c : tie.Else6) → Formed (given (ranged (fitted (same c))))
 formed c = checked-formed (checked (same c)) (counts-at (c .before) true (not-false _ (c .if6 .left)))
 
-wide-requires : tie.Need-wide-requires
-wide-requires c κs = search needs
-
 returns : tie.Need-returns
 returns c = unsound _ (λ s. let w = c .before .wide .ensures in let l = c .if1 .taken in let m = s .least in omega arith)
 
 returns-2 : tie.Need-returns-2
 returns-2 c = unsound _ (λ s. let w = c .before .before .wide .ensures in let l = c .if2 .taken in let m = s .most in omega arith)
 
-wide-requires-2 : tie.Need-wide-requires-2
-wide-requires-2 c κs = search needs
-
 returns-3 : tie.Need-returns-3
 returns-3 c =
     unsound _
     (λ s. let w = c .before .before .before .before .wide .ensures in let v = c .before .wide2 .ensures in let l = c .if3 .taken in let m = s .last in omega arith)
 
-element-copy-out-if4 : tie.Need-element-copy-out-if4
-element-copy-out-if4 c = search needs
-
 returns-4 : tie.Need-returns-4
 unfolding inUse
 returns-4 c = unsound _ (λ s. c .if4 .taken (eqb-true _ _ (s .alarm)))
-
-steps-fit-requires : tie.Need-steps-fit-requires
-steps-fit-requires c κs = search needs
 
 returns-5 : tie.Need-returns-5
 returns-5 c =
@@ -108,9 +96,6 @@ recounted-requires c κs =
     let w = ranged (fitted c) .wide .ensures in
     let m = k .most in
     (omega arith, checked-range k, λ p l. checked-bits k p (rw w at l))
-
-counts-same-requires : tie.Need-counts-same-requires
-counts-same-requires c κs = search needs
 
 returns-6 : tie.Need-returns-6
 returns-6 c = unsound _ (λ s. clash (formed-counts (sound-formed s)) (counts-at (c .before) false (not-true _ (c .if6 .taken))))
@@ -130,18 +115,18 @@ pub fields-sound-spec : {M : Type 1} → statement M
 fields-sound-spec =
     tie.close
     (tie.spec
-    wide-requires
+    (λ c κs. search needs)
     returns
     returns-2
-    wide-requires-2
+    (λ c κs. search needs)
     returns-3
-    element-copy-out-if4
+    (λ c. search needs)
     returns-4
-    steps-fit-requires
+    (λ c κs. search needs)
     returns-5
     mul-recounted
     recounted-requires
-    counts-same-requires
+    (λ c κs. search needs)
     returns-6
     spans-requires
     returns-7)

@@ -1,33 +1,22 @@
 -- `doubtful_steps` gives the marks of the doubtful steps. Assumes nothing.
 use borrow.Author.Needs.{needs}
-use native.Mathlib.Omega.{arith}
-use Prim.Native.Nat.{ℕ, _+_, _<_}
-use mathlib.Core.Path.{_≡_, refl, sym, _∙_, ap, subst}
-use mathlib.Core.List.{List}
-use lib.ListN.{length, getD, set}
+use Prim.Native.Nat.{ℕ}
 use Rattle.table.specs.declared.Table.{Table}
-use Rattle.table.specs.Table.{places, ownBit}
-use Rattle.withdraw.specs.Search.{rest, Search, Withdrawn}
+use Rattle.table.specs.Table.{ownBit}
 use Rattle.withdraw.specs.Withdraw.{assembled}
 use Rattle.withdraw.proofs.Laws.{search-mark}
-use Rattle.withdraw.proofs.Found.{heads, own-bit, in-range}
-use Rattle.withdraw.proofs.Doubtful.{zeros, begin-doubt, formed-doubt, found-doubt}
+use Rattle.withdraw.proofs.Found.{own-bit, in-range}
+use Rattle.withdraw.proofs.Doubtful.{begin-doubt, formed-doubt, found-doubt}
 use Rattle.withdraw.proofs.doubtful_steps.Statement.{statement}
 use Rattle.withdraw.proofs.doubtful_steps.Tie as tie
 
--- the table that the arrays are part of
-abbrev whole : tie.Start → Table → Table
-whole s t = assembled t (s .args .own .now) (s .args .targets .now) (s .args .bits .now) (s .args .counts .now)
+-- the table t with the lent arrays in it
+abbrev filled : tie.Start → Table → Table
+filled s t = assembled t (s .args .own .now) (s .args .targets .now) (s .args .bits .now) (s .args .counts .now)
 
 strong-counts-requires : tie.Need-strong-counts-requires
 unfolding ownBit
-strong-counts-requires c κs = own-bit (whole c (c .pre .0)) (formed-doubt _ _ (c .pre .1))
-
-wide-requires : tie.Need-wide-requires
-wide-requires c κs = search needs
-
-mul-marks : tie.Need-mul-marks
-mul-marks c = search needs
+strong-counts-requires c κs = own-bit (filled c (c .pre .0)) (formed-doubt _ _ (c .pre .1))
 
 array-write-marks : tie.Need-array-write-marks
 array-write-marks c = rw (c .wide .ensures) (begin-doubt _ _ (c .before .before .pre .1) .low)
@@ -35,7 +24,7 @@ array-write-marks c = rw (c .wide .ensures) (begin-doubt _ _ (c .before .before 
 withdraw-step-requires : tie.Need-withdraw-step-requires
 withdraw-step-requires c κs =
     let s = c .before .before .before .before in
-    let t = whole s (s .pre .0) in
+    let t = filled s (s .pre .0) in
     let e = c .before .before .wide .ensures in
     let n = c .before .before .before .strong-counts .ensures in
     let b = begin-doubt t _ (s .pre .1) in (
@@ -53,15 +42,15 @@ returns c =
     let s = c .before .before .before .before .before in
     let e = c .before .before .before .wide .ensures in
     let n = c .before .before .before .before .strong-counts .ensures in
-    found-doubt (whole s t) _ x _ _ (rw (e, n) at (c .withdraw-step .ensures))
+    found-doubt (filled s t) _ x _ _ (rw (e, n) at (c .withdraw-step .ensures))
 
 pub doubtful-steps-spec : {M : Type 1} → statement M
 doubtful-steps-spec =
     tie.close
     (tie.spec
     strong-counts-requires
-    wide-requires
-    mul-marks
+    (λ c κs. search needs)
+    (λ c. search needs)
     array-write-marks
     withdraw-step-requires
     returns)
