@@ -1,4 +1,2 @@
 -- The laws that the functions' proofs cite.
-pub mod Laws
-pub mod Repairs
 pub mod Outcomes

@@ -27,8 +27,9 @@ use Rattle.table.proofs.Edits.{weak-bit}
 use Rattle.table.proofs.Clear.{formed-emptied}
 use Rattle.table.proofs.Calls.{unless-zero, unless-refused}
 use Rattle.withdraw.specs.Withdraw.{rebuilt, assembled, Emptied}
-use Rattle.clearing.specs.Clearing.{handed, Clearable, underRepair, isOne, asMarks, Held, Standing, Repairable}
-use Rattle.clearing.proofs.Laws.{standing-held}
+use Rattle.repairing.specs.Repairing.{underRepair, isOne, asMarks, Held, Standing, Repairable}
+use Rattle.clearing.specs.Clearing.{handed, Clearable}
+use Rattle.repairing.proofs.Laws.{standing-held}
 
 pub emptied-formed : {u : Table} {start : ℕ} → Emptied u start → Formed u
 emptied-formed m = subst Formed (sym (m .7)) (formed-emptied (m .0) (m .3) (m .1) (m .2) (m .4) (m .5) (m .6))

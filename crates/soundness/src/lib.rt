@@ -11,12 +11,6 @@ ghost use Rattle.withdraw.specs.Withdraw.{whole};
 ghost use Rattle.soundness.specs.Parts.{exitFits, exitBlank, stepFits, recount, countsSame, allMarked, Spans};
 use table::Table;
 
-fn wide(x: u16) -> usize
-    ensures { λ r. ⌜ r ≡ x ⌝ }
-{
-    x as usize
-}
-
 // The contents that each kind may hold: 1 contact, 2 spoken message, 3 wait; no other kind can be added.
 pub fn content_fits(kind: u16, content: u16) -> bool
     ensures { λ r. ⌜ r ≡ contentFits kind content ⌝ }
@@ -52,7 +46,7 @@ fn exit_fits<'a>(
 {
     let p = i * 4 + e;
     let b = bits[p];
-    let j = wide(targets[p]);
+    let j = withdraw::wide(targets[p]);
     if j == 0 {
         return b == 0;
     }
@@ -192,8 +186,8 @@ fn recounted<'a>(targets: &'a [u16; 512], bits: &'a [u16; 512], n: usize) -> [u1
     let mut p = 0usize;
     // The links at the places below p are counted.
     while p < n {
-        let j = wide(targets[p]);
-        let b = wide(bits[p]);
+        let j = withdraw::wide(targets[p]);
+        let b = withdraw::wide(bits[p]);
         if j != 0 {
             let q = j * 2 + b;
             counts[q] = counts[q] + 1;
@@ -266,14 +260,14 @@ pub fn fields_sound<'a>(
     requires { ⌜ Shape (whole capacity last (now used) (now kinds) (now contents) (now own) (now targets) (now bits) (now counts)) ⌝ }
     ensures { λ r. ⌜ r ≡ sound (whole capacity last (now (used .entry)) (now (kinds .entry)) (now (contents .entry)) (now (own .entry)) (now (targets .entry)) (now (bits .entry)) (now (counts .entry))) ⌝ }
 {
-    let n = wide(capacity);
+    let n = withdraw::wide(capacity);
     if n < 1 {
         return false;
     }
     if 128 < n {
         return false;
     }
-    if n <= wide(last) {
+    if n <= withdraw::wide(last) {
         return false;
     }
     if used[0] != 1 {

@@ -82,10 +82,11 @@ pub fn strong_counts<'a>(counts: &'a [u16; 256], own: &'a [u16; 128]) -> [u16; 1
     left
 }
 
-fn wide(b: u16) -> usize
-    ensures { λ r. ⌜ r ≡ b ⌝ }
+// The same number, as an index.
+pub fn wide(x: u16) -> usize
+    ensures { λ r. ⌜ r ≡ x ⌝ }
 {
-    b as usize
+    x as usize
 }
 
 // The steps that are doubtful in the table of these arrays, once an exit is emptied that held the last strong link to the step `start`: 1 for each.

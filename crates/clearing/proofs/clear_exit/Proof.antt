@@ -3,7 +3,7 @@ use mathlib.Core.Path.{refl, sym, _∙_}
 use borrow.Author.Needs.{needs}
 use Rattle.table.specs.declared.Table.{Table}
 use Rattle.withdraw.specs.Withdraw.{rebuilt}
-use Rattle.clearing.specs.Clearing.{Held}
+use Rattle.repairing.specs.Repairing.{Held}
 use Rattle.clearing.proofs.Outcomes.{cleared-held, stops-weak, stops-held, just-emptied, went-on}
 use Rattle.clearing.proofs.clear_exit.Statement.{statement}
 use Rattle.clearing.proofs.clear_exit.Tie as tie

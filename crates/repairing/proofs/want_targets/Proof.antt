@@ -1,14 +1,14 @@
--- `clearing::want_targets` meets its contract. The loop's invariant: what the exits below e lead to has been added. The measure is what is left of
+-- `repairing::want_targets` meets its contract. The loop's invariant: what the exits below e lead to has been added. The measure is what is left of
 -- the exits. Assumes nothing.
 use mathlib.Core.Path.{_≡_, sym, _∙_, subst}
 use Prim.Native.Nat.{ℕ, _+_, _*_, _-_, _≤_, _<_}
 use native.Mathlib.Omega.{arith}
 use borrow.Author.Needs.{needs}
 use Rattle.table.specs.Table.{exits, exitPlace}
-use Rattle.clearing.specs.Clearing.{leadsWithin, Added}
-use Rattle.clearing.proofs.Laws.{added-start, added-exit}
-use Rattle.clearing.proofs.want_targets.Statement.{statement}
-use Rattle.clearing.proofs.want_targets.Tie as tie
+use Rattle.repairing.specs.Repairing.{leadsWithin, Added}
+use Rattle.repairing.proofs.Laws.{added-start, added-exit}
+use Rattle.repairing.proofs.want_targets.Statement.{statement}
+use Rattle.repairing.proofs.want_targets.Tie as tie
 
 abbrev Inv-loop : tie.InvT-loop
 Inv-loop k low targets doubt wanted₀ mark₀ e₀ wanted mark e =

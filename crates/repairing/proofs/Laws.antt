@@ -24,7 +24,7 @@ use Rattle.table.proofs.Links.{holds-target, empty-target, strong-holds}
 use Rattle.table.proofs.Relink.{exit-place-below}
 use Rattle.table.proofs.Formed.{Formed, formed-place, formed-below, formed-relink, formed-flipped}
 use Rattle.withdraw.specs.Withdraw.{rebuilt, assembled}
-use Rattle.clearing.specs.Clearing.{isOne, asMarks, leadsAt, leadsWithin, Held, Standing, Added}
+use Rattle.repairing.specs.Repairing.{isOne, asMarks, leadsAt, leadsWithin, Held, Standing, Added}
 
 -- One exit of a table that stands in lists.
 module _ (t : Table) (own targets bits counts : List ℕ) (k e : ℕ) where

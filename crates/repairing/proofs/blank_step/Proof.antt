@@ -1,8 +1,8 @@
--- `clearing::blank_step` meets its contract: its stores are the definition's. Assumes nothing.
+-- `repairing::blank_step` meets its contract: its stores are the definition's. Assumes nothing.
 use borrow.Author.Needs.{needs}
-use Rattle.clearing.proofs.Laws.{blank-stored}
-use Rattle.clearing.proofs.blank_step.Statement.{statement}
-use Rattle.clearing.proofs.blank_step.Tie as tie
+use Rattle.repairing.proofs.Laws.{blank-stored}
+use Rattle.repairing.proofs.blank_step.Statement.{statement}
+use Rattle.repairing.proofs.blank_step.Tie as tie
 
 mul-used : tie.Need-mul-used
 mul-used c = search needs

@@ -1,4 +1,4 @@
--- `clearing::unlink_step` meets its contract. The loop's invariant: the exits below e are empty, by the definition's own rounds, and a table in order
+-- `repairing::unlink_step` meets its contract. The loop's invariant: the exits below e are empty, by the definition's own rounds, and a table in order
 -- stands behind the lists. The measure is what is left of the exits. Assumes nothing.
 use mathlib.Core.Path.{_≡_, sym, _∙_, ap}
 use mathlib.Core.List.{List}
@@ -11,10 +11,10 @@ use Rattle.table.specs.Table.{exits}
 use Rattle.table.specs.Calls.{relink}
 use Rattle.table.specs.Clear.{unlinked}
 use Rattle.withdraw.specs.Withdraw.{assembled}
-use Rattle.clearing.specs.Clearing.{Standing}
-use Rattle.clearing.proofs.Laws.{standing-held, standing-emptied}
-use Rattle.clearing.proofs.unlink_step.Statement.{statement}
-use Rattle.clearing.proofs.unlink_step.Tie as tie
+use Rattle.repairing.specs.Repairing.{Standing}
+use Rattle.repairing.proofs.Laws.{standing-held, standing-emptied}
+use Rattle.repairing.proofs.unlink_step.Statement.{statement}
+use Rattle.repairing.proofs.unlink_step.Tie as tie
 
 abbrev Inv-loop : tie.InvT-loop
 Inv-loop k targets₀ bits₀ counts₀ e₀ targets bits counts e =

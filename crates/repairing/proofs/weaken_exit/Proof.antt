@@ -1,4 +1,4 @@
--- `clearing::weaken_exit` meets its contract: an empty exit and a weak link stay, and a strong link's stores are `relink`'s. Assumes nothing.
+-- `repairing::weaken_exit` meets its contract: an empty exit and a weak link stay, and a strong link's stores are `relink`'s. Assumes nothing.
 use mathlib.Core.Path.{_≡_, refl, sym, _∙_}
 use Prim.Native.Nat.{_+_, _*_, _-_, _<_}
 use native.Mathlib.Omega.{arith}
@@ -6,9 +6,9 @@ use lib.ListN.{getD}
 use lib.Seq.{getD-set-other}
 use borrow.Author.Needs.{needs}
 use Rattle.table.specs.Table.{places, exits, counters}
-use Rattle.clearing.proofs.Laws.{weaken-none, weaken-weak, weaken-held}
-use Rattle.clearing.proofs.weaken_exit.Statement.{statement}
-use Rattle.clearing.proofs.weaken_exit.Tie as tie
+use Rattle.repairing.proofs.Laws.{weaken-none, weaken-weak, weaken-held}
+use Rattle.repairing.proofs.weaken_exit.Statement.{statement}
+use Rattle.repairing.proofs.weaken_exit.Tie as tie
 
 mul-p : tie.Need-mul-p
 mul-p c = search needs

@@ -1,4 +1,4 @@
--- `clearing::restore_step` meets its contract. The loop's invariant: the exits below e are weakened, by the definition's own rounds, and a table in order
+-- `repairing::restore_step` meets its contract. The loop's invariant: the exits below e are weakened, by the definition's own rounds, and a table in order
 -- stands behind the lists. The measure is what is left of the exits. Assumes nothing.
 use mathlib.Core.Path.{_≡_, sym, _∙_, ap}
 use Prim.Native.Nat.{_-_, _≤_}
@@ -9,10 +9,10 @@ use Rattle.table.specs.declared.Table.{Table}
 use Rattle.table.specs.Table.{exits, ownBit, withSteps}
 use Rattle.table.specs.Clear.{flipped, weakened, restored}
 use Rattle.withdraw.specs.Withdraw.{assembled}
-use Rattle.clearing.specs.Clearing.{Standing}
-use Rattle.clearing.proofs.Laws.{standing-place, standing-own, standing-held, standing-flipped, standing-weakened}
-use Rattle.clearing.proofs.restore_step.Statement.{statement}
-use Rattle.clearing.proofs.restore_step.Tie as tie
+use Rattle.repairing.specs.Repairing.{Standing}
+use Rattle.repairing.proofs.Laws.{standing-place, standing-own, standing-held, standing-flipped, standing-weakened}
+use Rattle.repairing.proofs.restore_step.Statement.{statement}
+use Rattle.repairing.proofs.restore_step.Tie as tie
 
 abbrev Inv-loop : tie.InvT-loop
 Inv-loop k targets own bits₀ counts₀ e₀ bits counts e =

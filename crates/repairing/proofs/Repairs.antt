@@ -26,8 +26,8 @@ use Rattle.table.proofs.Formed.{Formed, formed-place, formed-relink}
 use Rattle.table.proofs.Restore.{taken}
 use Rattle.table.proofs.Repair.{taking}
 use Rattle.withdraw.specs.Withdraw.{assembled}
-use Rattle.clearing.specs.Clearing.{underRepair, isOne, asMarks, leadsAt, leadsWithin, leadsTo, wantedIn, Standing, Repairable, InRange, Added}
-use Rattle.clearing.proofs.Laws.{is-one, marks-at}
+use Rattle.repairing.specs.Repairing.{underRepair, isOne, asMarks, leadsAt, leadsWithin, leadsTo, wantedIn, Standing, Repairable, InRange, Added}
+use Rattle.repairing.proofs.Laws.{is-one, marks-at}
 
 -- a place where 1 stands is a place of the list
 one-below : (l : List ℕ) (k : ℕ) → getD l k 0 ≡ 1 → k < length l

@@ -1,14 +1,14 @@
--- `clearing::repair_steps` meets its contract. The loop's invariant: what is left of the definition's repair comes to the same, and the list has the
+-- `repairing::repair_steps` meets its contract. The loop's invariant: what is left of the definition's repair comes to the same, and the list has the
 -- candidates, none below `low`. The measure falls with each step taken back, and else with the way left for `low`. Assumes nothing.
 use mathlib.Core.Path.{_∙_}
 use Prim.Native.Nat.{_+_, _*_, _-_, _≤_}
 use native.Mathlib.Omega.{arith}
 use lib.ListN.{length-set}
 use Rattle.finite.specs.Below.{count}
-use Rattle.clearing.specs.Clearing.{isOne}
-use Rattle.clearing.proofs.Repairs.{Progress, Candidates, able-most, able-range, able-standing, candidate-doubtful, candidates-begin, candidates-skip, candidates-next, marks-fall, progress-begins, progress-next, progress-done}
-use Rattle.clearing.proofs.repair_steps.Statement.{statement}
-use Rattle.clearing.proofs.repair_steps.Tie as tie
+use Rattle.repairing.specs.Repairing.{isOne}
+use Rattle.repairing.proofs.Repairs.{Progress, Candidates, able-most, able-range, able-standing, candidate-doubtful, candidates-begin, candidates-skip, candidates-next, marks-fall, progress-begins, progress-next, progress-done}
+use Rattle.repairing.proofs.repair_steps.Statement.{statement}
+use Rattle.repairing.proofs.repair_steps.Tie as tie
 
 abbrev Inv-loop : tie.InvT-loop
 Inv-loop n targets own₀ bits₀ counts₀ doubt₀ wanted₀ low₀ own bits counts doubt wanted low =

@@ -1,4 +1,4 @@
--- `clearing::unlink_steps` meets its contract. The loop's invariant: the marked steps below k are unlinked, by the definition's own rounds, and a table
+-- `repairing::unlink_steps` meets its contract. The loop's invariant: the marked steps below k are unlinked, by the definition's own rounds, and a table
 -- in order stands behind the lists. The measure is what is left of n. Assumes nothing.
 use mathlib.Core.Path.{_≡_, _∙_}
 use mathlib.Core.Logic.{⊎-elim}
@@ -8,11 +8,11 @@ use native.Mathlib.Omega.{arith}
 use Rattle.table.specs.declared.Table.{Table}
 use Rattle.table.specs.Clear.{unlinked}
 use Rattle.withdraw.specs.Withdraw.{assembled}
-use Rattle.clearing.specs.Clearing.{asMarks, Repairable}
-use Rattle.clearing.proofs.Laws.{is-one, not-one, marks-at, eachBelow, each-none, each-go, each-stay, each-done}
-use Rattle.clearing.proofs.Repairs.{able-most, able-standing, able-unlinked}
-use Rattle.clearing.proofs.unlink_steps.Statement.{statement}
-use Rattle.clearing.proofs.unlink_steps.Tie as tie
+use Rattle.repairing.specs.Repairing.{asMarks, Repairable}
+use Rattle.repairing.proofs.Laws.{is-one, not-one, marks-at, eachBelow, each-none, each-go, each-stay, each-done}
+use Rattle.repairing.proofs.Repairs.{able-most, able-standing, able-unlinked}
+use Rattle.repairing.proofs.unlink_steps.Statement.{statement}
+use Rattle.repairing.proofs.unlink_steps.Tie as tie
 
 abbrev Inv-loop : tie.InvT-loop
 Inv-loop n doubt targets₀ bits₀ counts₀ k₀ targets bits counts k =

@@ -1,12 +1,12 @@
--- `clearing::want_step` meets its contract: the step is no step, not doubtful, or a new candidate. Assumes nothing.
+-- `repairing::want_step` meets its contract: the step is no step, not doubtful, or a new candidate. Assumes nothing.
 use mathlib.Core.Path.{_∙_, ap}
 use mathlib.Core.Bool.{Bool, _&&_}
 use native.Mathlib.Omega.{arith}
 use borrow.Author.Needs.{needs}
-use Rattle.clearing.specs.Clearing.{isOne, leadsAt}
-use Rattle.clearing.proofs.Laws.{added-none, added-one, leads-nowhere, leads-certain, leads-doubtful}
-use Rattle.clearing.proofs.want_step.Statement.{statement}
-use Rattle.clearing.proofs.want_step.Tie as tie
+use Rattle.repairing.specs.Repairing.{isOne, leadsAt}
+use Rattle.repairing.proofs.Laws.{added-none, added-one, leads-nowhere, leads-certain, leads-doubtful}
+use Rattle.repairing.proofs.want_step.Statement.{statement}
+use Rattle.repairing.proofs.want_step.Tie as tie
 
 returns : tie.Need-returns
 returns c =

@@ -1,4 +1,4 @@
--- `clearing::first_candidates` meets its contract. The loop's invariant: the list has the candidates that the steps below k have a link to. The measure
+-- `repairing::first_candidates` meets its contract. The loop's invariant: the list has the candidates that the steps below k have a link to. The measure
 -- is what is left of n. Assumes nothing.
 use mathlib.Core.Path.{_≡_, refl, sym, _∙_, ap}
 use mathlib.Core.Logic.{⊎-elim}
@@ -8,11 +8,11 @@ use lib.ListN.{length, getD}
 use Rattle.finite.specs.Below.{one}
 use Rattle.table.specs.Table.{places}
 use Rattle.table.proofs.Edits.{getD-zeros}
-use Rattle.clearing.specs.Clearing.{wantedIn}
-use Rattle.clearing.proofs.Laws.{is-one, not-one}
-use Rattle.clearing.proofs.Repairs.{wanted-start, wanted-go, wanted-stay}
-use Rattle.clearing.proofs.first_candidates.Statement.{statement}
-use Rattle.clearing.proofs.first_candidates.Tie as tie
+use Rattle.repairing.specs.Repairing.{wantedIn}
+use Rattle.repairing.proofs.Laws.{is-one, not-one}
+use Rattle.repairing.proofs.Repairs.{wanted-start, wanted-go, wanted-stay}
+use Rattle.repairing.proofs.first_candidates.Statement.{statement}
+use Rattle.repairing.proofs.first_candidates.Tie as tie
 
 abbrev Inv-loop : tie.InvT-loop
 Inv-loop n targets doubt wanted₀ k₀ wanted k =

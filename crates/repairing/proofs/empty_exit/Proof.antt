@@ -1,13 +1,13 @@
--- `clearing::empty_exit` meets its contract: its stores are `relink`'s, and a held link is counted, so the counter does not go below 0. Assumes nothing.
+-- `repairing::empty_exit` meets its contract: its stores are `relink`'s, and a held link is counted, so the counter does not go below 0. Assumes nothing.
 use mathlib.Core.Path.{_≡_, sym, _∙_}
 use Prim.Native.Nat.{_+_, _*_, _<_}
 use native.Mathlib.Omega.{arith}
 use lib.ListN.{getD}
 use borrow.Author.Needs.{needs}
 use Rattle.table.specs.Table.{exits, counters}
-use Rattle.clearing.proofs.Laws.{empty-held, empty-none}
-use Rattle.clearing.proofs.empty_exit.Statement.{statement}
-use Rattle.clearing.proofs.empty_exit.Tie as tie
+use Rattle.repairing.proofs.Laws.{empty-held, empty-none}
+use Rattle.repairing.proofs.empty_exit.Statement.{statement}
+use Rattle.repairing.proofs.empty_exit.Tie as tie
 
 mul-p : tie.Need-mul-p
 mul-p c = search needs

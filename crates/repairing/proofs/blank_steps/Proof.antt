@@ -1,4 +1,4 @@
--- `clearing::blank_steps` meets its contract. The loop's invariant: the records of the marked steps below k are zero, by the definition's own rounds.
+-- `repairing::blank_steps` meets its contract. The loop's invariant: the records of the marked steps below k are zero, by the definition's own rounds.
 -- The measure is what is left of n. Assumes nothing.
 use mathlib.Core.Path.{_≡_, _∙_}
 use mathlib.Core.Logic.{⊎-elim}
@@ -8,10 +8,10 @@ use native.Mathlib.Omega.{arith}
 use Rattle.table.specs.declared.Table.{Table}
 use Rattle.table.specs.Clear.{blanked}
 use Rattle.withdraw.specs.Withdraw.{rebuilt}
-use Rattle.clearing.specs.Clearing.{asMarks}
-use Rattle.clearing.proofs.Laws.{is-one, not-one, marks-at, eachBelow, each-none, each-go, each-stay, each-done}
-use Rattle.clearing.proofs.blank_steps.Statement.{statement}
-use Rattle.clearing.proofs.blank_steps.Tie as tie
+use Rattle.repairing.specs.Repairing.{asMarks}
+use Rattle.repairing.proofs.Laws.{is-one, not-one, marks-at, eachBelow, each-none, each-go, each-stay, each-done}
+use Rattle.repairing.proofs.blank_steps.Statement.{statement}
+use Rattle.repairing.proofs.blank_steps.Tie as tie
 
 abbrev Inv-loop : tie.InvT-loop
 Inv-loop n doubt used₀ kinds₀ contents₀ own₀ counts₀ k₀ used kinds contents own counts k =

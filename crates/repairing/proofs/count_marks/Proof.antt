@@ -1,4 +1,4 @@
--- `clearing::count_marks` meets its contract. The loop's invariant: `marks` is the count below k. The measure is what is left of n. Assumes nothing.
+-- `repairing::count_marks` meets its contract. The loop's invariant: `marks` is the count below k. The measure is what is left of n. Assumes nothing.
 use mathlib.Core.Path.{_≡_, refl, sym, _∙_, ap}
 use mathlib.Core.Logic.{⊎-elim}
 use Prim.Native.Nat.{ℕ, _-_, _≤_}
@@ -6,10 +6,10 @@ use native.Mathlib.Omega.{arith}
 use Rattle.finite.specs.Below.{count}
 use Rattle.finite.proofs.Below.{count-le}
 use Rattle.finite.proofs.Loops.{count-hit, count-miss}
-use Rattle.clearing.specs.Clearing.{isOne}
-use Rattle.clearing.proofs.Laws.{is-one, not-one, size-marks}
-use Rattle.clearing.proofs.count_marks.Statement.{statement}
-use Rattle.clearing.proofs.count_marks.Tie as tie
+use Rattle.repairing.specs.Repairing.{isOne}
+use Rattle.repairing.proofs.Laws.{is-one, not-one, size-marks}
+use Rattle.repairing.proofs.count_marks.Statement.{statement}
+use Rattle.repairing.proofs.count_marks.Tie as tie
 
 abbrev Inv-loop : tie.InvT-loop
 Inv-loop n doubt marks₀ k₀ marks k = (k ≤ n) × (marks ≡ count k (isOne doubt))

@@ -1,0 +1,2 @@
+-- What the functions of clear work on.
+pub mod Repairing
