@@ -1,9 +1,9 @@
 -- What the lists come to as the outcome of the call. Assumes nothing.
 use mathlib.Core.Path.{_≡_, refl, sym, _∙_, ap, ap₂, subst}
 use mathlib.Core.Bool.{Bool, true, false, _&&_, not}
-use mathlib.Core.Logic.{_⊎_, ⊎-elim}
+use mathlib.Core.Logic.{⊎-elim}
 use mathlib.Core.List.{List}
-use Prim.Native.Nat.{ℕ, _+_, _*_, _-_, _≤_, _<_}
+use Prim.Native.Nat.{ℕ, _+_, _*_, _≤_, _<_}
 use native.Mathlib.Omega.{arith}
 use lib.ListN.{getD, List·getD-eq-default}
 use lib.Dec.{eqb, leb, ltb}
@@ -24,15 +24,11 @@ use Rattle.table.specs.Clear.{Repair, emptied, heldStrongly, stops, doubtful, r
 use Rattle.table.proofs.Links.{target-holds, target-empty, used-place, bit-strong}
 use Rattle.table.proofs.Formed.{Formed, sound-formed}
 use Rattle.table.proofs.Edits.{weak-bit}
-use Rattle.table.proofs.Clear.{formed-emptied}
 use Rattle.table.proofs.Calls.{unless-zero, unless-refused}
 use Rattle.withdraw.specs.Withdraw.{rebuilt, assembled, Emptied}
 use Rattle.repairing.specs.Repairing.{underRepair, isOne, asMarks, Held, Standing, Repairable}
 use Rattle.clearing.specs.Clearing.{handed, Clearable}
 use Rattle.repairing.proofs.Laws.{standing-held}
-
-pub emptied-formed : {u : Table} {start : ℕ} → Emptied u start → Formed u
-emptied-formed m = subst Formed (sym (m .7)) (formed-emptied (m .0) (m .3) (m .1) (m .2) (m .4) (m .5) (m .6))
 
 -- The marks that the search hands back are the definition's.
 module _ (u : Table) where

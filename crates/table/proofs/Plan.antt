@@ -57,10 +57,6 @@ pub plan-capacity : (t : Table) → planOf t .capacity ≡ t .capacity
 unfolding planOf
 plan-capacity t = refl
 
-pub plan-last : (t : Table) → planOf t .last ≡ t .last
-unfolding planOf
-plan-last t = refl
-
 module _ {t : Table} (w : Wired t) where
   -- beyond the capacity no step is in use, and the plan has none
   pub plan-step : (i : ℕ) → stepOf (planOf t) i ≡ planStep t i

@@ -4,6 +4,7 @@ use Rattle.table.specs.Sound.{Shape}
 use Rattle.clearing.proofs.clear.Statement.{statement}
 use Rattle.clearing.proofs.clear.Tie as tie
 
+-- the lengths of the arrays
 shape : (s : tie.Start) → Shape (s .args .t)
 shape s = search needs
 

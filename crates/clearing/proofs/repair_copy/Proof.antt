@@ -3,7 +3,8 @@ use mathlib.Core.Path.{sym}
 use native.Mathlib.Omega.{arith}
 use Rattle.table.specs.declared.Table.{Table}
 use Rattle.withdraw.specs.Withdraw.{rebuilt}
-use Rattle.clearing.proofs.Outcomes.{emptied-formed, found-able, repaired-lists}
+use Rattle.withdraw.proofs.Doubtful.{formed-doubt}
+use Rattle.clearing.proofs.Outcomes.{found-able, repaired-lists}
 use Rattle.clearing.proofs.repair_copy.Statement.{statement}
 use Rattle.clearing.proofs.repair_copy.Tie as tie
 
@@ -35,19 +36,19 @@ doubtful-steps-requires : tie.Need-doubtful-steps-requires
 doubtful-steps-requires c κs = let s = c .before .before .before .before in (filled s (s .pre .0), s .pre .2)
 
 count-marks-requires : tie.Need-count-marks-requires
-count-marks-requires c κs = let s = begun (c .before) in omega (arith, s .pre .1, emptied-formed (s .pre .2) .most)
+count-marks-requires c κs = let s = begun (c .before) in omega (arith, s .pre .1, formed-doubt _ _ (s .pre .2) .most)
 
 repair-steps-requires : tie.Need-repair-steps-requires
 repair-steps-requires c κs =
     let f = found (c .before .before .before .before .before) in
     let s = begun f in
     let u = filled s (s .pre .0) in
-    found-able u _ _ (sym (s .pre .1)) (f .doubtful-steps .ensures u (s .pre .2)) (emptied-formed (s .pre .2))
+    found-able u _ _ (sym (s .pre .1)) (f .doubtful-steps .ensures u (s .pre .2)) (formed-doubt _ _ (s .pre .2))
 
 count-marks-requires-2 : tie.Need-count-marks-requires-2
 count-marks-requires-2 c κs =
     let s = begun (found (counted (c .before))) in
-    omega (arith, s .pre .1, emptied-formed (s .pre .2) .most)
+    omega (arith, s .pre .1, formed-doubt _ _ (s .pre .2) .most)
 
 unlink-steps-requires : tie.Need-unlink-steps-requires
 unlink-steps-requires c κs = (_, mended (c .before .before .before .before) .repair-steps .ensures .1)
@@ -55,7 +56,7 @@ unlink-steps-requires c κs = (_, mended (c .before .before .before .before) .re
 blank-steps-requires : tie.Need-blank-steps-requires
 blank-steps-requires c κs =
     let s = begun (found (counted (mended (left (c .before .before .before .before .before .before))))) in
-    omega (arith, s .pre .1, emptied-formed (s .pre .2) .most)
+    omega (arith, s .pre .1, formed-doubt _ _ (s .pre .2) .most)
 
 returns : tie.Need-returns
 returns c =
@@ -66,7 +67,7 @@ returns c =
     let m = counted r in
     let f = found m in
     let u = filled (begun f) t in
-    repaired-lists u _ (sym q) (emptied-formed x .most) _ _ _ _ _ (f .doubtful-steps .ensures u x) (r .repair-steps .ensures .0)
+    repaired-lists u _ (sym q) (formed-doubt _ _ x .most) _ _ _ _ _ (f .doubtful-steps .ensures u x) (r .repair-steps .ensures .0)
     _ _ _ _ _ _ _ _ _ _
     (p .unlink-steps .ensures)
     (c .blank-steps .ensures)
