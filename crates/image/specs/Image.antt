@@ -24,8 +24,8 @@ use Rattle.table.specs.declared.Answer.the-variants.{Refused, Given}
 use Rattle.table.specs.declared.Outcome.{Outcome}
 use Rattle.table.specs.Table.{places, exits, counters, inUse, kindOf, contentOf, ownBit, targetOf, linkBit, linksTo, stepsInUse, withLinks}
 use Rattle.table.specs.Sound.{sound}
-use Rattle.table.specs.Answer.{notSound, tooShort, notAccepted, first, unless}
-use Rattle.table.specs.Calls.{freshTable}
+use Rattle.table.specs.Answer.{tooShort, notAccepted, first, unless}
+use Rattle.table.specs.Calls.{tableTests, freshTable}
 use Rattle.table.specs.Plan.{Plan}
 
 -- "two bytes each, little-endian; so are all fields"
@@ -93,7 +93,7 @@ pub record WriteOutcome : Type 0 where
   pub buffer : List ℕ
 
 unfoldable pub writeRefusal : Table → ℕ → ℕ
-writeRefusal t room = first ((not (sound t), notSound) ∷ (ltb room (imageLength t), tooShort) ∷ [])
+writeRefusal t room = first (tableTests t ++ ((ltb room (imageLength t), tooShort) ∷ []))
 
 -- "the answer is the image's length"; the bytes past the image are untouched
 unfoldable pub writeCall : Table → List ℕ → WriteOutcome

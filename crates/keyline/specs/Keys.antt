@@ -18,9 +18,8 @@ use Rattle.keyline.specs.declared.Command.the-variants.{Add, Link, Clear
 use Rattle.keyline.specs.declared.Decoded.{Decoded}
 use Rattle.keyline.specs.declared.Decoded.the-variants.{Line, Nothing}
 use Rattle.table.specs.Table.{stepsInUse}
-use Rattle.table.specs.Sound.{sound}
-use Rattle.table.specs.Answer.{notSound, notKeyLine, first, unless}
-use Rattle.table.specs.Calls.{addCall, linkCall}
+use Rattle.table.specs.Answer.{notKeyLine, first, unless}
+use Rattle.table.specs.Calls.{tableTests, addCall, linkCall}
 use Rattle.table.specs.Clear.{clearCall}
 
 -- "Keys are ASCII: H alarm held, A alarm pressed, *, digits."
@@ -85,4 +84,4 @@ performLine t Nothing = record { answer = Refused notKeyLine; table = t }
 performLine t (Line c) = perform t c
 
 unfoldable pub keyCall : Table → List ℕ → Outcome
-keyCall t bs = unless (first ((not (sound t), notSound) ∷ [])) t (performLine t (decode bs))
+keyCall t bs = unless (first (tableTests t)) t (performLine t (decode bs))

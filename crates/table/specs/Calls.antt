@@ -1,12 +1,13 @@
 -- The calls fresh, add, link, read and trial (document 01, "Calls"); clear is in Clear. Each is the answer, the table handed back and every
 -- lent byte, for every input; the refused ones too. Assumes nothing.
+--   tableTests t    what every call on a table asks first: 1
 --   freshTable c    only step 0 in use, all bits 0, last number 0
 --   relink t i e j b   exit e of step i gets a link to j with bit b, or is emptied where j is 0; the counters follow
 --   numberGiven     the number that add gives: the first free one of a circle; on a full table, where add is refused, it is not used
 --   resultsFit      every line result is below 4
 --   freshCall addCall linkCall readCall trialCall   the calls
 use mathlib.Core.Bool.{Bool, true, false, not, cond}
-use mathlib.Core.List.{List, [], _∷_}
+use mathlib.Core.List.{List, [], _∷_, _++_}
 use Prim.Native.Nat.{ℕ, _+_, _*_, _-_}
 use lib.ListN.{length, getD, set, replicate}
 use lib.Dec.{eqb, leb, ltb}
@@ -22,6 +23,10 @@ use Rattle.table.specs.declared.Tried.the-variants.{Refused, Ended}
 use Rattle.table.specs.Table.{places, exits, counters, exitPlace, counterPlace, inUse, kindOf, contentOf, ownBit, targetOf, linkBit, counterOf, holds, stepsInUse, withLinks, withSteps}
 use Rattle.table.specs.Sound.{capacityFits, contentFits, sound}
 use Rattle.table.specs.Answer.{notSound, badCapacity, notInUse, badExit, exitFilled, exitEmpty, badKind, full, badResult, tooShort, first, unless}
+
+-- what is asked of the table itself, before all else: that it is sound
+abbrev pub tableTests : Table → List (Bool × ℕ)
+tableTests t = (not (sound t), notSound) ∷ []
 
 -- Fresh: "a capacity; only step 0 in use, all bits 0, last number 0". Step 0 is of kind 0 with content 0.
 unfoldable pub freshTable : ℕ → Table
@@ -67,13 +72,13 @@ numberGiven capacity last free = find capacity (after capacity) (after capacity 
 unfoldable pub addRefusal : Table → ℕ → ℕ → ℕ → ℕ → ℕ
 addRefusal t holder e kind content =
     first
-    ((not (sound t), notSound) ∷
-    (not (inUse t holder), notInUse) ∷
+    (tableTests t ++
+    ((not (inUse t holder), notInUse) ∷
     (leb exits e, badExit) ∷
     (holds t holder e, exitFilled) ∷
     (not (contentFits kind content), badKind) ∷
     (eqb (stepsInUse t) (t .capacity), full) ∷
-    [])
+    []))
 
 -- step n is taken into use, with its kind and content, as the number last given; a free step's bit is 0 and its exits are empty
 unfoldable pub withStep : Table → ℕ → ℕ → ℕ → Table
@@ -92,14 +97,14 @@ addCall t holder e kind content =
 unfoldable pub linkRefusal : Table → ℕ → ℕ → ℕ → ℕ → ℕ
 linkRefusal t source e second f =
     first
-    ((not (sound t), notSound) ∷
-    (not (inUse t source), notInUse) ∷
+    (tableTests t ++
+    ((not (inUse t source), notInUse) ∷
     (leb exits e, badExit) ∷
     (not (holds t source e), exitEmpty) ∷
     (not (inUse t second), notInUse) ∷
     (leb exits f, badExit) ∷
     (holds t second f, exitFilled) ∷
-    [])
+    []))
 
 -- the bit that a weak link to j has: not its target's
 unfoldable pub weakBit : Table → ℕ → ℕ
@@ -138,7 +143,7 @@ noFields =
     }
 
 unfoldable pub readRefusal : Table → ℕ → ℕ
-readRefusal t i = first ((not (sound t), notSound) ∷ (not (inUse t i), notInUse) ∷ [])
+readRefusal t i = first (tableTests t ++ ((not (inUse t i), notInUse) ∷ []))
 
 unfoldable pub readCall : Table → ℕ → Reading
 readCall t i =
@@ -166,10 +171,10 @@ resultsFit results = all (length results) (λ k. ltb (getD results k 0) exits)
 unfoldable pub trialRefusal : Table → List ℕ → List ℕ → ℕ
 trialRefusal t results trace =
     first
-    ((not (sound t), notSound) ∷
-    (not (resultsFit results), badResult) ∷
+    (tableTests t ++
+    ((not (resultsFit results), badResult) ∷
     (ltb (length trace) (length results), tooShort) ∷
-    [])
+    []))
 
 unfoldable pub trialCall : Table → List ℕ → List ℕ → TrialOutcome
 trialCall t results trace =

@@ -9,7 +9,7 @@
 --   cleared t i e     the four rules together
 --   clearCall         the call
 use mathlib.Core.Bool.{Bool, true, false, _&&_, _||_, not, cond}
-use mathlib.Core.List.{List, [], _∷_}
+use mathlib.Core.List.{List, [], _∷_, _++_}
 use Prim.Native.Nat.{ℕ, zero, suc, _-_}
 use lib.ListN.{set}
 use lib.Dec.{leb, ltb}
@@ -19,9 +19,8 @@ use Rattle.table.specs.declared.Table.{Table}
 use Rattle.table.specs.declared.Answer.the-variants.{Given}
 use Rattle.table.specs.declared.Outcome.{Outcome}
 use Rattle.table.specs.Table.{exits, counterPlace, inUse, ownBit, targetOf, counterOf, holds, strong, linked, stronglyLinked, withLinks, withSteps}
-use Rattle.table.specs.Sound.{sound}
-use Rattle.table.specs.Answer.{notSound, notInUse, badExit, exitEmpty, first, unless}
-use Rattle.table.specs.Calls.{relink, weakBit}
+use Rattle.table.specs.Answer.{notInUse, badExit, exitEmpty, first, unless}
+use Rattle.table.specs.Calls.{tableTests, relink, weakBit}
 
 -- 1. "Empty the exit and lower the counter."
 unfoldable pub emptied : Table → ℕ → ℕ → Table
@@ -112,11 +111,11 @@ repaired t =
 unfoldable pub clearRefusal : Table → ℕ → ℕ → ℕ
 clearRefusal t i e =
     first
-    ((not (sound t), notSound) ∷
-    (not (inUse t i), notInUse) ∷
+    (tableTests t ++
+    ((not (inUse t i), notInUse) ∷
     (leb exits e, badExit) ∷
     (not (holds t i e), exitEmpty) ∷
-    [])
+    []))
 
 -- the outcome of a clearing that is not refused
 abbrev pub cleared : Table → ℕ → ℕ → Outcome

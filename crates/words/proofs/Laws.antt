@@ -1,0 +1,295 @@
+-- Words and tables: each other's inverse, and what a store into a word does to the table. Assumes nothing.
+--   words-table table-words   there and back
+--   shape-table     the lengths of the parts
+--   part-read       a word of a part
+--   store-*         a word that is stored into changes its part alone
+use mathlib.Core.Path.{_≡_, refl, sym, _∙_, ap}
+use mathlib.Core.Bool.{true, false}
+use mathlib.Core.Logic.{⊎-elim}
+use mathlib.Core.List.{List, _∷_, _++_}
+use Prim.Native.Nat.{ℕ, suc, _+_, _*_, _-_, _≤_, _<_}
+use native.Mathlib.Omega.{arith}
+use lib.ListN.{length, getD, set, take, drop, length-take, length-drop, length-set}
+use lib.Seq.{set-out, getD-set-same, getD-set-other, getD-take, getD-drop, take-set-le, take-set-lt, drop-set-lt, drop-set-add, take-at, drop-at, take-all, take-add, drop-drop, length-take-le, drop-cons, drop-append-add}
+use lib.Dec.{eqb}
+use borrow.Author.Tests.{eq-eqb, ne-eqb}
+use Rattle.table.specs.declared.Table.{Table}
+use Rattle.table.specs.Table.{places, exits, counters, counterPlace, withLinks, withSteps}
+use Rattle.table.specs.Sound.{Shape}
+use Rattle.table.specs.Calls.{raised, lowered}
+use Rattle.finite.proofs.Bools.{test}
+use Rattle.finite.proofs.Below.{eq-or-ne, le-or-lt}
+use Rattle.words.specs.Words.{words, usedFrom, kindsFrom, contentsFrom, ownFrom, targetsFrom, bitsFrom, countsFrom, part, tableOf, wordsOf, Becomes}
+
+pub part-read : (w : List ℕ) (from n k : ℕ) → k < n → getD (part from n w) k 0 ≡ getD w (from + k) 0
+part-read w from n k l = getD-take n (drop from w) k 0 l ∙ getD-drop from w k 0
+
+pub part-size : (w : List ℕ) (from n : ℕ) → from + n ≤ length w → length (part from n w) ≡ n
+part-size w from n l = length-take-le n (drop from w) (let d = length-drop from w in omega arith)
+
+pub part-store : (w : List ℕ) (from n k x : ℕ) → k < n → part from n (set w (from + k) x) ≡ set (part from n w) k x
+part-store w from n k x l = ap (take n) (drop-set-add from w k x) ∙ take-set-lt n (drop from w) k x l
+
+pub part-below : (w : List ℕ) (from n q x : ℕ) → q < from → part from n (set w q x) ≡ part from n w
+part-below w from n q x l = ap (take n) (drop-set-lt from w q x l)
+
+pub part-above : (w : List ℕ) (from n q x : ℕ) → from + n ≤ q → part from n (set w q x) ≡ part from n w
+part-above w from n q x l =
+    let k : q ≡ from + (q - from) = omega arith in
+    ap (λ (p : ℕ). part from n (set w p x)) k ∙ ap (take n) (drop-set-add from w (q - from) x) ∙ take-set-le n (drop from w) (q - from) x (omega arith)
+
+-- tables with the same fields are the same
+fields : ℕ → ℕ → List ℕ → List ℕ → List ℕ → List ℕ → List ℕ → List ℕ → List ℕ → Table
+fields capacity last used kinds contents own targets bits counts =
+    record {
+      capacity = capacity;
+      last = last;
+      used = used;
+      kinds = kinds;
+      contents = contents;
+      own = own;
+      targets = targets;
+      bits = bits;
+      counts = counts;
+    }
+
+same-fields : (t u : Table) → t .capacity ≡ u .capacity → t .last ≡ u .last → t .used ≡ u .used → t .kinds ≡ u .kinds → t .contents ≡ u .contents →
+    t .own ≡ u .own → t .targets ≡ u .targets → t .bits ≡ u .bits → t .counts ≡ u .counts → t ≡ u
+unfolding fields
+same-fields t u a b c d e f g h i =
+    ap (λ (x : ℕ). fields x (t .last) (t .used) (t .kinds) (t .contents) (t .own) (t .targets) (t .bits) (t .counts)) a ∙
+    ap (λ (x : ℕ). fields (u .capacity) x (t .used) (t .kinds) (t .contents) (t .own) (t .targets) (t .bits) (t .counts)) b ∙
+    ap (λ (x : List ℕ). fields (u .capacity) (u .last) x (t .kinds) (t .contents) (t .own) (t .targets) (t .bits) (t .counts)) c ∙
+    ap (λ (x : List ℕ). fields (u .capacity) (u .last) (u .used) x (t .contents) (t .own) (t .targets) (t .bits) (t .counts)) d ∙
+    ap (λ (x : List ℕ). fields (u .capacity) (u .last) (u .used) (u .kinds) x (t .own) (t .targets) (t .bits) (t .counts)) e ∙
+    ap (λ (x : List ℕ). fields (u .capacity) (u .last) (u .used) (u .kinds) (u .contents) x (t .targets) (t .bits) (t .counts)) f ∙
+    ap (λ (x : List ℕ). fields (u .capacity) (u .last) (u .used) (u .kinds) (u .contents) (u .own) x (t .bits) (t .counts)) g ∙
+    ap (λ (x : List ℕ). fields (u .capacity) (u .last) (u .used) (u .kinds) (u .contents) (u .own) (u .targets) x (t .counts)) h ∙
+    ap (λ (x : List ℕ). fields (u .capacity) (u .last) (u .used) (u .kinds) (u .contents) (u .own) (u .targets) (u .bits) x) i
+
+-- A store into one word changes the field that it belongs to.
+module _ (w : List ℕ) where
+  pub store-last : (x : ℕ) → 1 < length w → tableOf (set w 1 x) ≡ withSteps (tableOf w) x (tableOf w .used) (tableOf w .kinds) (tableOf w .contents) (tableOf w .own)
+  unfolding tableOf withSteps
+  store-last x l =
+      same-fields _ _
+      (getD-set-other w _ 0 x 0 (omega arith))
+      (getD-set-same w 1 x 0 l)
+      (part-below w usedFrom places _ x (omega arith))
+      (part-below w kindsFrom places _ x (omega arith))
+      (part-below w contentsFrom places _ x (omega arith))
+      (part-below w ownFrom places _ x (omega arith))
+      (part-below w targetsFrom (places * exits) _ x (omega arith))
+      (part-below w bitsFrom (places * exits) _ x (omega arith))
+      (part-below w countsFrom (places * counters) _ x (omega arith))
+
+  pub store-used : (k x : ℕ) → k < places → tableOf (set w (usedFrom + k) x) ≡ withSteps (tableOf w) (tableOf w .last) (set (tableOf w .used) k x) (tableOf w .kinds) (tableOf w .contents) (tableOf w .own)
+  unfolding tableOf withSteps
+  store-used k x l =
+      same-fields _ _
+      (getD-set-other w _ 0 x 0 (omega arith))
+      (getD-set-other w _ 1 x 0 (omega arith))
+      (part-store w usedFrom places k x l)
+      (part-below w kindsFrom places _ x (omega arith))
+      (part-below w contentsFrom places _ x (omega arith))
+      (part-below w ownFrom places _ x (omega arith))
+      (part-below w targetsFrom (places * exits) _ x (omega arith))
+      (part-below w bitsFrom (places * exits) _ x (omega arith))
+      (part-below w countsFrom (places * counters) _ x (omega arith))
+
+  pub store-kinds : (k x : ℕ) → k < places → tableOf (set w (kindsFrom + k) x) ≡ withSteps (tableOf w) (tableOf w .last) (tableOf w .used) (set (tableOf w .kinds) k x) (tableOf w .contents) (tableOf w .own)
+  unfolding tableOf withSteps
+  store-kinds k x l =
+      same-fields _ _
+      (getD-set-other w _ 0 x 0 (omega arith))
+      (getD-set-other w _ 1 x 0 (omega arith))
+      (part-above w usedFrom places _ x (omega arith))
+      (part-store w kindsFrom places k x l)
+      (part-below w contentsFrom places _ x (omega arith))
+      (part-below w ownFrom places _ x (omega arith))
+      (part-below w targetsFrom (places * exits) _ x (omega arith))
+      (part-below w bitsFrom (places * exits) _ x (omega arith))
+      (part-below w countsFrom (places * counters) _ x (omega arith))
+
+  pub store-contents : (k x : ℕ) → k < places → tableOf (set w (contentsFrom + k) x) ≡ withSteps (tableOf w) (tableOf w .last) (tableOf w .used) (tableOf w .kinds) (set (tableOf w .contents) k x) (tableOf w .own)
+  unfolding tableOf withSteps
+  store-contents k x l =
+      same-fields _ _
+      (getD-set-other w _ 0 x 0 (omega arith))
+      (getD-set-other w _ 1 x 0 (omega arith))
+      (part-above w usedFrom places _ x (omega arith))
+      (part-above w kindsFrom places _ x (omega arith))
+      (part-store w contentsFrom places k x l)
+      (part-below w ownFrom places _ x (omega arith))
+      (part-below w targetsFrom (places * exits) _ x (omega arith))
+      (part-below w bitsFrom (places * exits) _ x (omega arith))
+      (part-below w countsFrom (places * counters) _ x (omega arith))
+
+  pub store-own : (k x : ℕ) → k < places → tableOf (set w (ownFrom + k) x) ≡ withSteps (tableOf w) (tableOf w .last) (tableOf w .used) (tableOf w .kinds) (tableOf w .contents) (set (tableOf w .own) k x)
+  unfolding tableOf withSteps
+  store-own k x l =
+      same-fields _ _
+      (getD-set-other w _ 0 x 0 (omega arith))
+      (getD-set-other w _ 1 x 0 (omega arith))
+      (part-above w usedFrom places _ x (omega arith))
+      (part-above w kindsFrom places _ x (omega arith))
+      (part-above w contentsFrom places _ x (omega arith))
+      (part-store w ownFrom places k x l)
+      (part-below w targetsFrom (places * exits) _ x (omega arith))
+      (part-below w bitsFrom (places * exits) _ x (omega arith))
+      (part-below w countsFrom (places * counters) _ x (omega arith))
+
+  pub store-targets : (k x : ℕ) → k < (places * exits) → tableOf (set w (targetsFrom + k) x) ≡ withLinks (tableOf w) (set (tableOf w .targets) k x) (tableOf w .bits) (tableOf w .counts)
+  unfolding tableOf withLinks
+  store-targets k x l =
+      same-fields _ _
+      (getD-set-other w _ 0 x 0 (omega arith))
+      (getD-set-other w _ 1 x 0 (omega arith))
+      (part-above w usedFrom places _ x (omega arith))
+      (part-above w kindsFrom places _ x (omega arith))
+      (part-above w contentsFrom places _ x (omega arith))
+      (part-above w ownFrom places _ x (omega arith))
+      (part-store w targetsFrom (places * exits) k x l)
+      (part-below w bitsFrom (places * exits) _ x (omega arith))
+      (part-below w countsFrom (places * counters) _ x (omega arith))
+
+  pub store-bits : (k x : ℕ) → k < (places * exits) → tableOf (set w (bitsFrom + k) x) ≡ withLinks (tableOf w) (tableOf w .targets) (set (tableOf w .bits) k x) (tableOf w .counts)
+  unfolding tableOf withLinks
+  store-bits k x l =
+      same-fields _ _
+      (getD-set-other w _ 0 x 0 (omega arith))
+      (getD-set-other w _ 1 x 0 (omega arith))
+      (part-above w usedFrom places _ x (omega arith))
+      (part-above w kindsFrom places _ x (omega arith))
+      (part-above w contentsFrom places _ x (omega arith))
+      (part-above w ownFrom places _ x (omega arith))
+      (part-above w targetsFrom (places * exits) _ x (omega arith))
+      (part-store w bitsFrom (places * exits) k x l)
+      (part-below w countsFrom (places * counters) _ x (omega arith))
+
+  pub store-counts : (k x : ℕ) → k < (places * counters) → tableOf (set w (countsFrom + k) x) ≡ withLinks (tableOf w) (tableOf w .targets) (tableOf w .bits) (set (tableOf w .counts) k x)
+  unfolding tableOf withLinks
+  store-counts k x l =
+      same-fields _ _
+      (getD-set-other w _ 0 x 0 (omega arith))
+      (getD-set-other w _ 1 x 0 (omega arith))
+      (part-above w usedFrom places _ x (omega arith))
+      (part-above w kindsFrom places _ x (omega arith))
+      (part-above w contentsFrom places _ x (omega arith))
+      (part-above w ownFrom places _ x (omega arith))
+      (part-above w targetsFrom (places * exits) _ x (omega arith))
+      (part-above w bitsFrom (places * exits) _ x (omega arith))
+      (part-store w countsFrom (places * counters) k x l)
+
+pub shape-table : (w : List ℕ) → length w ≡ words → Shape (tableOf w)
+unfolding tableOf
+shape-table w l =
+    record {
+      used = part-size w usedFrom places (omega arith);
+      kinds = part-size w kindsFrom places (omega arith);
+      contents = part-size w contentsFrom places (omega arith);
+      own = part-size w ownFrom places (omega arith);
+      targets = part-size w targetsFrom (places * exits) (omega arith);
+      bits = part-size w bitsFrom (places * exits) (omega arith);
+      counts = part-size w countsFrom (places * counters) (omega arith);
+    }
+
+-- the first part of what is left, then the rest
+split : (w : List ℕ) (from n rest : ℕ) → part from n w ++ part (from + n) rest w ≡ part from (n + rest) w
+split w from n rest =
+    ap (λ (l : List ℕ). take n (drop from w) ++ take rest l) (sym (drop-drop n from w)) ∙ sym (take-add n rest (drop from w))
+
+pub words-table : (w : List ℕ) → length w ≡ words → wordsOf (tableOf w) ≡ w
+unfolding tableOf wordsOf
+words-table w l =
+    let a = split w bitsFrom 512 256 in
+    let b = split w targetsFrom 512 768 in
+    let c = split w ownFrom 128 1280 in
+    let d = split w contentsFrom 128 1408 in
+    let e = split w kindsFrom 128 1536 in
+    let f = split w usedFrom 128 1664 in
+    ap (λ (x : List ℕ). getD w 0 0 ∷ getD w 1 0 ∷ (part 2 128 w ++ (part 130 128 w ++ (part 258 128 w ++ (part 386 128 w ++ (part 514 512 w ++ x)))))) a ∙
+    ap (λ (x : List ℕ). getD w 0 0 ∷ getD w 1 0 ∷ (part 2 128 w ++ (part 130 128 w ++ (part 258 128 w ++ (part 386 128 w ++ x))))) b ∙
+    ap (λ (x : List ℕ). getD w 0 0 ∷ getD w 1 0 ∷ (part 2 128 w ++ (part 130 128 w ++ (part 258 128 w ++ x)))) c ∙
+    ap (λ (x : List ℕ). getD w 0 0 ∷ getD w 1 0 ∷ (part 2 128 w ++ (part 130 128 w ++ x))) d ∙
+    ap (λ (x : List ℕ). getD w 0 0 ∷ getD w 1 0 ∷ (part 2 128 w ++ x)) e ∙
+    ap (λ (x : List ℕ). getD w 0 0 ∷ getD w 1 0 ∷ x) f ∙
+    begin w l
+  where
+    begin : (w : List ℕ) → length w ≡ words → getD w 0 0 ∷ getD w 1 0 ∷ part 2 1792 w ≡ w
+    begin w l =
+        ap (λ (x : List ℕ). getD w 0 0 ∷ getD w 1 0 ∷ x) (take-all 1792 (drop 2 w) (let d = length-drop 2 w in omega arith)) ∙
+        sym (drop-cons w 0 0 (omega arith) ∙ ap (λ (x : List ℕ). getD w 0 0 ∷ x) (drop-cons w 1 0 (omega arith)))
+
+pub table-words : (t : Table) → Shape t → tableOf (wordsOf t) ≡ t
+unfolding tableOf wordsOf
+table-words t s =
+    same-fields _ _
+    refl
+    refl
+    (take-at (t .used) _ places (s .used))
+    (ap (take places) (drop-at (t .used) _ places (s .used)) ∙ take-at (t .kinds) _ places (s .kinds))
+    (ap (take places) (past (t .used) _ places places (s .used) ∙ drop-at (t .kinds) _ places (s .kinds)) ∙ take-at (t .contents) _ places (s .contents))
+    (ap (take places)
+    (past (t .used) _ places 256 (s .used) ∙ past (t .kinds) _ places places (s .kinds) ∙ drop-at (t .contents) _ places (s .contents)) ∙
+    take-at (t .own) _ places (s .own))
+    (ap (take (places * exits))
+    (past (t .used) _ places 384 (s .used) ∙ past (t .kinds) _ places 256 (s .kinds) ∙ past (t .contents) _ places places (s .contents) ∙
+    drop-at (t .own) _ places (s .own)) ∙
+    take-at (t .targets) _ (places * exits) (s .targets))
+    (ap (take (places * exits))
+    (past (t .used) _ places 896 (s .used) ∙ past (t .kinds) _ places 768 (s .kinds) ∙ past (t .contents) _ places 640 (s .contents) ∙
+    past (t .own) _ places 512 (s .own) ∙ drop-at (t .targets) _ (places * exits) (s .targets)) ∙
+    take-at (t .bits) _ (places * exits) (s .bits))
+    (ap (take (places * counters))
+    (past (t .used) _ places 1408 (s .used) ∙ past (t .kinds) _ places 1280 (s .kinds) ∙ past (t .contents) _ places 1152 (s .contents) ∙
+    past (t .own) _ places 1024 (s .own) ∙ past (t .targets) _ 512 512 (s .targets) ∙ drop-at (t .bits) _ (places * exits) (s .bits)) ∙
+    take-all (places * counters) (t .counts) (let c = s .counts in omega arith))
+  where
+    past : (p q : List ℕ) (n m : ℕ) → length p ≡ n → drop (n + m) (p ++ q) ≡ drop m q
+    past p q n m e = ap (λ (k : ℕ). drop (k + m) (p ++ q)) (sym e) ∙ drop-append-add p q m
+
+-- the words of a table that has its lengths
+pub became : (w v : List ℕ) (t : Table) → Becomes w v t → length w ≡ words → v ≡ wordsOf t
+became w v t b l = sym (words-table v (b .size ∙ l)) ∙ ap wordsOf (b .table)
+
+pub becomes-trans : (u v w : List ℕ) (t : Table) → length v ≡ length u → Becomes v w t → Becomes u w t
+becomes-trans u v w t l b = record { table = b .table; size = b .size ∙ l }
+
+-- a counter that rises, or falls, by a store into its word
+module _ (w : List ℕ) (j b q n : ℕ) (d : j ≡ 0 → ⊥) (e : q ≡ counterPlace j b) (l : q < places * counters) (m : n ≡ getD (tableOf w .counts) q 0) where
+  pub store-raised : tableOf (set w (countsFrom + q) (n + 1)) ≡ withLinks (tableOf w) (tableOf w .targets) (tableOf w .bits) (raised j b (tableOf w .counts))
+  unfolding raised
+  store-raised = store-counts w q (n + 1) l ∙ rw (ne-eqb j 0 d, m, e)
+
+  pub store-lowered : tableOf (set w (countsFrom + q) (n - 1)) ≡ withLinks (tableOf w) (tableOf w .targets) (tableOf w .bits) (lowered j b (tableOf w .counts))
+  unfolding lowered
+  store-lowered = store-counts w q (n - 1) l ∙ rw (ne-eqb j 0 d, m, e)
+
+-- step 0 stands for no step
+pub raised-none : (w : List ℕ) (j b : ℕ) → j ≡ 0 → tableOf w ≡ withLinks (tableOf w) (tableOf w .targets) (tableOf w .bits) (raised j b (tableOf w .counts))
+unfolding raised withLinks
+raised-none w j b z = rw (eq-eqb j 0 z)
+
+pub lowered-none : (w : List ℕ) (j b : ℕ) → j ≡ 0 → tableOf w ≡ withLinks (tableOf w) (tableOf w .targets) (tableOf w .bits) (lowered j b (tableOf w .counts))
+unfolding lowered withLinks
+lowered-none w j b z = rw (eq-eqb j 0 z)
+
+-- a counter that is lowered, or another, is no higher than before
+pub lowered-below : (j b m : ℕ) (cs : List ℕ) → ((q : ℕ) → getD cs q 0 < m) → (q : ℕ) → getD (lowered j b cs) q 0 < m
+unfolding lowered
+lowered-below j b m cs h q =
+    ⊎-elim (λ (z : eqb j 0 ≡ true). rw z (h q))
+    (λ (z : eqb j 0 ≡ false). rw z (set-below (counterPlace j b)))
+    (test (eqb j 0))
+  where
+    set-below : (p : ℕ) → getD (set cs p (getD cs p 0 - 1)) q 0 < m
+    set-below p =
+        ⊎-elim
+        (λ (s : q ≡ p).
+        ⊎-elim
+        (λ (o : length cs ≤ p). rw (set-out cs p (getD cs p 0 - 1) o) (h q))
+        (λ (i : p < length cs). rw (s, getD-set-same cs p (getD cs p 0 - 1) 0 i) (let r = h p in omega arith))
+        (le-or-lt (length cs) p))
+        (λ (n : q ≡ p → ⊥). rw (getD-set-other cs p q (getD cs p 0 - 1) 0 n) (h q))
+        (eq-or-ne q p)

@@ -1,0 +1,48 @@
+-- `words::put_step` meets its contract. Assumes nothing.
+use mathlib.Core.Path.{_∙_, ap}
+use Prim.Native.Nat.{_+_}
+use lib.ListN.{set, length-set}
+use Rattle.table.specs.declared.Table.{Table}
+use Rattle.table.specs.Table.{withSteps}
+use Rattle.words.specs.Words.{usedFrom, kindsFrom, contentsFrom}
+use Rattle.words.proofs.Laws.{store-used, store-kinds, store-contents, store-own}
+use borrow.Author.Needs.{needs}
+use Rattle.words.proofs.put_step.Statement.{statement}
+use Rattle.words.proofs.put_step.Tie as tie
+
+returns : tie.Need-returns
+unfolding withSteps
+returns c =
+    let w = c .args .t .now in
+    let i = c .args .i in
+    let w₁ = set w (usedFrom + i) 1 in
+    let w₂ = set w₁ (kindsFrom + i) (c .args .kind) in
+    let w₃ = set w₂ (contentsFrom + i) (c .args .content) in
+    record {
+      table =
+          store-own w₃ i (c .args .own) (c .pre) ∙
+          ap (λ (t : Table). withSteps t (t .last) (t .used) (t .kinds) (t .contents) (set (t .own) i (c .args .own)))
+          (store-contents w₂ i (c .args .content) (c .pre) ∙
+          ap (λ (t : Table). withSteps t (t .last) (t .used) (t .kinds) (set (t .contents) i (c .args .content)) (t .own))
+          (store-kinds w₁ i (c .args .kind) (c .pre) ∙
+          ap (λ (t : Table). withSteps t (t .last) (t .used) (set (t .kinds) i (c .args .kind)) (t .contents) (t .own)) (store-used w i 1 (c .pre))));
+      size = length-set w₃ _ _ ∙ length-set w₂ _ _ ∙ length-set w₁ _ _ ∙ length-set w _ _;
+    }
+
+pub put-step-spec : {M : Type 1} → statement M
+put-step-spec =
+    tie.close
+    (tie.spec
+    (λ c. search needs)
+    (λ c. search needs)
+    (λ c. search needs)
+    (λ c. search needs)
+    (λ c. search needs)
+    (λ c. search needs)
+    (λ c. search needs)
+    (λ c. search needs)
+    (λ c. search needs)
+    (λ c. search needs)
+    (λ c. search needs)
+    (λ c. search needs)
+    returns)

@@ -1,0 +1,2 @@
+-- The words of a table, and the table of words.
+pub mod Words

@@ -1,0 +1,94 @@
+-- The table as it stands in memory: 1,794 words of 16 bits, and which word is which field (document 01, "The table"). Assumes nothing.
+--   words           how many words a table has
+--   part from n w   the n words from a place on
+--   tableOf w       the table that the words w stand for
+--   wordsOf t       the words of the table t; `words-table` and `table-words` of the laws say that they are each other's inverse
+--   blankTable c l  the table with no step in use, all fields zero or empty
+--   Becomes w v t   the words w have become v: those of the table t, as many as before
+--   Linked t i e    exit e of step i has a place, and the link in it is in range and counted
+--   Relinkable t i e j b   a link to j with bit b can take the place of what exit e of step i holds
+use mathlib.Core.Path.{_≡_}
+use mathlib.Core.List.{List, _∷_, _++_}
+use Prim.Native.Nat.{ℕ, _*_, _<_}
+use lib.ListN.{length, getD, take, drop, replicate}
+use Rattle.table.specs.declared.Table.{Table}
+use Rattle.table.specs.Table.{places, exits, counters, targetOf, linkBit, counterOf}
+
+abbrev pub words : ℕ
+words = 1794
+
+-- where the fields begin: the capacity is word 0 and the last number given word 1
+abbrev pub usedFrom : ℕ
+usedFrom = 2
+
+abbrev pub kindsFrom : ℕ
+kindsFrom = 130
+
+abbrev pub contentsFrom : ℕ
+contentsFrom = 258
+
+abbrev pub ownFrom : ℕ
+ownFrom = 386
+
+abbrev pub targetsFrom : ℕ
+targetsFrom = 514
+
+abbrev pub bitsFrom : ℕ
+bitsFrom = 1026
+
+abbrev pub countsFrom : ℕ
+countsFrom = 1538
+
+abbrev pub part : ℕ → ℕ → List ℕ → List ℕ
+part from n w = take n (drop from w)
+
+unfoldable pub tableOf : List ℕ → Table
+tableOf w =
+    record {
+      capacity = getD w 0 0;
+      last = getD w 1 0;
+      used = part usedFrom places w;
+      kinds = part kindsFrom places w;
+      contents = part contentsFrom places w;
+      own = part ownFrom places w;
+      targets = part targetsFrom (places * exits) w;
+      bits = part bitsFrom (places * exits) w;
+      counts = part countsFrom (places * counters) w;
+    }
+
+unfoldable pub wordsOf : Table → List ℕ
+wordsOf t =
+    t .capacity ∷ t .last ∷ (t .used ++ (t .kinds ++ (t .contents ++ (t .own ++ (t .targets ++ (t .bits ++ t .counts))))))
+
+-- a table with no step in use and all fields zero or empty
+unfoldable pub blankTable : ℕ → ℕ → Table
+blankTable capacity last =
+    record {
+      capacity = capacity;
+      last = last;
+      used = replicate places 0;
+      kinds = replicate places 0;
+      contents = replicate places 0;
+      own = replicate places 0;
+      targets = replicate (places * exits) 0;
+      bits = replicate (places * exits) 0;
+      counts = replicate (places * counters) 0;
+    }
+
+pub record Becomes (before after : List ℕ) (t : Table) : Type 0 where
+  pub table : tableOf after ≡ t
+  pub size : length after ≡ length before
+
+pub record Linked (t : Table) (i e : ℕ) : Type 0 where
+  pub step : i < places
+  pub exit : e < exits
+  pub target : targetOf t i e < places
+  pub bit : linkBit t i e < counters
+  pub counted : (targetOf t i e ≡ 0 → ⊥) → 0 < counterOf t (targetOf t i e) (linkBit t i e)
+
+-- the new link is in range, and no counter stands at its top
+pub record Relinkable (t : Table) (i e j b : ℕ) : Type 0 where
+  pub old : Linked t i e
+  pub target : j < places
+  pub bit : b < counters
+  pub room : (q : ℕ) → getD (t .counts) q 0 < 65535
