@@ -8,11 +8,23 @@
 #include <string.h>
 #include <time.h>
 
-plan_reply earlier_plan_clear(plan_table t, uint16_t step, uint16_t exit);
+uint16_t earlier_plan_edition(void);
+plan_reply earlier_plan_clear(plan_table *t, uint16_t step, uint16_t exit);
 
-typedef plan_reply clearing(plan_table t, uint16_t step, uint16_t exit);
+typedef plan_reply clearing(plan_table *t, uint16_t step, uint16_t exit);
 
 enum { ROUNDS = 9, CLEARINGS = 1000 };
+
+/* A full table whose 127 steps stand in one chain, and the one that is cleared. */
+static plan_table full, table;
+
+static void expect(int holds, const char *what)
+{
+    if (!holds) {
+        fprintf(stderr, "%s\n", what);
+        exit(1);
+    }
+}
 
 #ifdef COPIES
 static size_t copied;
@@ -24,6 +36,14 @@ void *__wrap_memcpy(void *to, const void *from, size_t bytes)
 {
     copied += bytes;
     return __real_memcpy(to, from, bytes);
+}
+
+static double copies(clearing *clear)
+{
+    table = full;
+    copied = 0;
+    expect(clear(&table, 0, 0).second == 127, "a clearing did not free 127 steps");
+    return (double)copied / sizeof(plan_table);
 }
 #else
 static double nanoseconds(void)
@@ -39,17 +59,15 @@ static int order(const void *a, const void *b)
     return (x > y) - (x < y);
 }
 
-static double median(clearing *clear, const plan_table *t)
+static double median(clearing *clear)
 {
     static double times[CLEARINGS];
     for (int i = 0; i < CLEARINGS; i++) {
+        table = full;
         double start = nanoseconds();
-        plan_reply reply = clear(*t, 0, 0);
+        plan_reply reply = clear(&table, 0, 0);
         times[i] = nanoseconds() - start;
-        if (reply.second != 127) {
-            fprintf(stderr, "a clearing freed %d steps, not 127\n", reply.second);
-            exit(1);
-        }
+        expect(reply.second == 127, "a clearing did not free 127 steps");
     }
     qsort(times, CLEARINGS, sizeof *times, order);
     return times[CLEARINGS / 2];
@@ -58,28 +76,22 @@ static double median(clearing *clear, const plan_table *t)
 
 int main(void)
 {
-    static plan_reply full, before, after;
-    full = plan_fresh(128);
+    static plan_table other;
+    expect(plan_edition() == PLAN_EDITION && earlier_plan_edition() == PLAN_EDITION, "the two libraries have different editions");
+    plan_fresh(&full, 128);
     for (uint16_t step = 0; step < 127; step++)
-        full = plan_add(full.table, step, 0, 1, 0);
+        expect(plan_add(&full, step, 0, PLAN_CONTACT, 0).refusal == PLAN_DONE, "the chain was refused");
 #ifdef COPIES
-    copied = 0;
-    before = earlier_plan_clear(full.table, 0, 0);
-    size_t earlier = copied;
-    copied = 0;
-    after = plan_clear(full.table, 0, 0);
-    printf("%.2f %.2f\n", (double)earlier / sizeof(plan_table), (double)copied / sizeof(plan_table));
+    double earlier = copies(earlier_plan_clear);
+    printf("%.2f %.2f\n", earlier, copies(plan_clear));
 #else
     for (int round = 0; round < ROUNDS; round++) {
-        double earlier = median(earlier_plan_clear, &full.table);
-        printf("%.0f %.0f\n", earlier, median(plan_clear, &full.table));
+        double earlier = median(earlier_plan_clear);
+        printf("%.0f %.0f\n", earlier, median(plan_clear));
     }
-    before = earlier_plan_clear(full.table, 0, 0);
-    after = plan_clear(full.table, 0, 0);
 #endif
-    if (memcmp(&before, &after, sizeof before) != 0) {
-        fprintf(stderr, "the two libraries differ in the reply of a clearing\n");
-        return 1;
-    }
+    table = other = full;
+    plan_reply before = earlier_plan_clear(&table, 0, 0), after = plan_clear(&other, 0, 0);
+    expect(memcmp(&before, &after, sizeof before) == 0 && memcmp(&table, &other, sizeof table) == 0, "the two libraries differ in a clearing");
     return 0;
 }

@@ -1,15 +1,36 @@
-/* The call plan table of a lift telephone: the calls of document 01, as the static library libtelephone.a defines them.
+/* The call plan table of a lift telephone: the calls of document 01, as the static library libtelephone.a defines them. For C99, C11 and C++.
  *
- * Memory. A table is a value of 3,588 bytes. It goes to a call by value and comes back by value in the reply; the library keeps nothing between
- * calls, allocates nothing and holds no pointer after it returns. The caller owns every table, every reply and every lent buffer. A call reads
- * and writes a lent buffer only while it runs, and only within the length given. A null pointer is no buffer: lend any valid address with length 0.
- * Two buffers lent to one call do not overlap, and nobody else writes a lent buffer during the call.
+ *     plan_table t;
+ *     if (plan_edition() != PLAN_EDITION) return 1;
+ *     plan_fresh(&t, 128);
+ *     plan_reply r = plan_add(&t, 0, PLAN_ANSWERED, PLAN_CONTACT, 7);
+ *     if (r.refusal == PLAN_DONE) printf("step %d\n", r.first); else puts(plan_refusal_words(r.refusal));
  *
- * Any bytes may stand in a table: every field is a number. A call that is passed a table that is not sound answers refusal 1. All calls end, and
- * need at most 47 kB of stack.
+ * Memory. A table has 3,588 bytes. The caller owns it and lends it to a call by its address; a call that changes it does so in place. Other buffers
+ * are lent by an address and a length. A call reads and writes what it is lent only while it runs, and only within its length; the library allocates
+ * nothing and holds no pointer after it returns. No pointer is null: to lend a buffer of length 0, give any valid address. Things lent to one call do
+ * not overlap, and nobody else writes them during the call.
  *
- * Refusals. `refusal` is 0, or the number of the first condition of the call's order that holds. All other numbers of the reply are then 0, the
- * table in it is the one that was passed, and no lent byte was written. A refused fresh or load hands back a fresh table of capacity 1.
+ * Threads. The library keeps no state between calls: any number of threads may call it at once, with each table in one call at a time. Calls that
+ * take a const table only read it, and may share one that nobody changes.
+ *
+ * Any bytes may stand in a table: every field is a number. A call that is lent a table that is not sound answers refusal 1. All calls end.
+ *
+ * Refusals. `refusal` is PLAN_DONE, or the number of the first condition of the call's order that holds. All other numbers of the reply are then 0,
+ * every byte of the table is as it was, and no lent byte was written. Only plan_fresh and plan_load_image differ: refused, they leave a fresh table of
+ * capacity 1.
+ *
+ * Stack. A call and the table lent to it together take at most PLAN_STACK_MAX bytes of stack; a table that stands elsewhere takes none of them.
+ * Measured, without the caller's table of 3,588 bytes:
+ *
+ *     <<TO BE MEASURED, bytes: by `cargo test --release --test stack -- --nocapture` in compare/>>
+ *     plan_edition, plan_fresh                                            <<...>>
+ *     plan_is_sound, plan_counts, plan_image_length, plan_read            <<...>>
+ *     plan_add, plan_link                                                 <<...>>
+ *     plan_clear                                                          <<...>>
+ *     plan_trial, plan_write_image                                        <<...>>
+ *     plan_load_image                                                     <<...>>
+ *     plan_key_line                                                       <<...>>
  */
 #ifndef TELEPHONE_H
 #define TELEPHONE_H
@@ -21,11 +42,30 @@
 extern "C" {
 #endif
 
+#define PLAN_EDITION 2        /* of this interface; edition 1 passed tables by value */
 #define PLAN_PLACES 128       /* the largest capacity */
-#define PLAN_EXITS 4          /* exits of a step: 0 answered, 1 engaged, 2 no reply, 3 line fault */
+#define PLAN_EXITS 4          /* exits of a step */
 #define PLAN_IMAGE_MAX 2570   /* bytes of the largest image */
+#define PLAN_STACK_MAX 16384  /* bytes of stack for any call, with the caller's table */
+
+/* Kinds of step, and the content of each. */
+enum plan_kind {
+    PLAN_ALARM = 0,           /* step 0 only; content 0 */
+    PLAN_CONTACT = 1,         /* a phone book entry, 0 to 99; 0 is the primary */
+    PLAN_MESSAGE = 2,         /* a spoken message, 0 to 15 */
+    PLAN_WAIT = 3             /* seconds, 1 to 600 */
+};
+
+/* Exits of a step; line results have the same numbers. */
+enum plan_exit {
+    PLAN_ANSWERED = 0,
+    PLAN_ENGAGED = 1,
+    PLAN_NO_REPLY = 2,
+    PLAN_LINE_FAULT = 3
+};
 
 enum plan_refusal {
+    PLAN_DONE = 0,            /* not refused */
     PLAN_NOT_SOUND = 1,       /* table not sound */
     PLAN_BAD_CAPACITY = 2,    /* capacity not 1 to 128 */
     PLAN_NOT_IN_USE = 3,      /* step not in use */
@@ -50,7 +90,7 @@ typedef struct {
     uint16_t capacity;        /* 1 to 128 in a sound table */
     uint16_t last;            /* the number last given to a step */
     uint16_t used[128];       /* 1 for a step in use, 0 for a free one */
-    uint16_t kinds[128];      /* 0 alarm, 1 contact, 2 spoken message, 3 wait */
+    uint16_t kinds[128];
     uint16_t contents[128];
     uint16_t own[128];        /* the bit of its own that each step has */
     uint16_t targets[512];    /* exit e of step i at i * 4 + e; 0 is an empty exit */
@@ -58,12 +98,11 @@ typedef struct {
     uint16_t counts[256];     /* counter b of step i at i * 2 + b */
 } plan_table;
 
-/* The reply of a call that may change the table. */
+/* A refusal, and two numbers that each call gives a meaning. */
 typedef struct {
     uint16_t refusal;
     uint16_t first;
     uint16_t second;
-    plan_table table;
 } plan_reply;
 
 /* All fields of one step. */
@@ -91,10 +130,12 @@ typedef struct {
 } plan_write_reply;
 
 /* The layout that the library was compiled with, on x86-64. A reader of another layout must not link it. */
-#if defined(__cplusplus)
+#if defined(__cplusplus) && __cplusplus >= 201103L
 #define PLAN_LAYOUT(test, name) static_assert(test, #name)
-#else
+#elif defined(__STDC_VERSION__) && __STDC_VERSION__ >= 201112L
 #define PLAN_LAYOUT(test, name) _Static_assert(test, #name)
+#else
+#define PLAN_LAYOUT(test, name) typedef char plan_layout_##name[(test) ? 1 : -1]
 #endif
 PLAN_LAYOUT(sizeof(plan_table) == 3588, size_of_a_table);
 PLAN_LAYOUT(offsetof(plan_table, last) == 2, last);
@@ -105,53 +146,82 @@ PLAN_LAYOUT(offsetof(plan_table, own) == 772, own);
 PLAN_LAYOUT(offsetof(plan_table, targets) == 1028, targets);
 PLAN_LAYOUT(offsetof(plan_table, bits) == 2052, bits);
 PLAN_LAYOUT(offsetof(plan_table, counts) == 3076, counts);
-PLAN_LAYOUT(sizeof(plan_reply) == 3594, size_of_a_reply);
-PLAN_LAYOUT(offsetof(plan_reply, table) == 6, table_in_a_reply);
+PLAN_LAYOUT(sizeof(plan_reply) == 6, size_of_a_reply);
 PLAN_LAYOUT(sizeof(plan_read_reply) == 28, size_of_a_read_reply);
 PLAN_LAYOUT(offsetof(plan_read_reply, counts) == 24, counts_in_a_read_reply);
 PLAN_LAYOUT(sizeof(plan_trial_reply) == 16, size_of_a_trial_reply);
 PLAN_LAYOUT(offsetof(plan_trial_reply, moves) == 8, moves_in_a_trial_reply);
 PLAN_LAYOUT(sizeof(plan_write_reply) == 4, size_of_a_write_reply);
 PLAN_LAYOUT(sizeof(size_t) == 8, size_of_a_length);
+#undef PLAN_LAYOUT
+
+/* The edition of the library. A host compares it with PLAN_EDITION before any other call. */
+uint16_t plan_edition(void);
 
 /* 1 if the table is sound, else 0. No refusal. */
-uint16_t plan_is_sound(plan_table t);
+uint16_t plan_is_sound(const plan_table *t);
 
-/* A table of that capacity with step 0 alone in use.
+/* Makes a table of that capacity with step 0 alone in use, whatever stood there.
  * first and second: 0. Refusal: 2. */
-plan_reply plan_fresh(uint16_t capacity);
+plan_reply plan_fresh(plan_table *t, uint16_t capacity);
 
-/* Puts a new step at an empty exit of the holder. Kinds: 1 contact, content 0 to 99; 2 spoken message, 0 to 15; 3 wait, 1 to 600 seconds.
+/* Puts a new step at an empty exit of the holder.
  * first: the number of the new step. Refusals, in order: 1, 3, 4, 5, 7, 8. */
-plan_reply plan_add(plan_table t, uint16_t holder, uint16_t exit, uint16_t kind, uint16_t content);
+plan_reply plan_add(plan_table *t, uint16_t holder, uint16_t exit, uint16_t kind, uint16_t content);
 
 /* Copies the target of an exit of the source into an empty exit of the second step.
  * first and second: 0. Refusals, in order: 1, of the source 3, 4, 6, of the second 3, 4, 5. */
-plan_reply plan_link(plan_table t, uint16_t source, uint16_t source_exit, uint16_t second, uint16_t second_exit);
+plan_reply plan_link(plan_table *t, uint16_t source, uint16_t source_exit, uint16_t second, uint16_t second_exit);
 
 /* Empties an exit, and frees the steps that nothing reaches any more.
  * first: steps made doubtful; second: steps freed. Refusals, in order: 1, 3, 4, 6. */
-plan_reply plan_clear(plan_table t, uint16_t step, uint16_t exit);
+plan_reply plan_clear(plan_table *t, uint16_t step, uint16_t exit);
 
 /* All fields of a step. Refusals, in order: 1, 3. */
-plan_read_reply plan_read(plan_table t, uint16_t step);
+plan_read_reply plan_read(const plan_table *t, uint16_t step);
+
+/* first: steps in use; second: free ones, so that both make the capacity. Refusal: 1. */
+plan_reply plan_counts(const plan_table *t);
 
 /* Follows line results, each 0 to 3, from step 0. The number of each step entered is written to the trace, a byte each, from its start; bytes past
- * the moves are not touched. The trace must be as long as the results, whatever the trial does. It may not overlap the results.
+ * the moves are not touched. The trace must be as long as the results, whatever the trial does.
  * Refusals, in order: 1, 10, 11. */
-plan_trial_reply plan_trial(plan_table t, const uint8_t *results, size_t results_length, uint8_t *trace, size_t trace_length);
+plan_trial_reply plan_trial(const plan_table *t, const uint8_t *results, size_t results_length, uint8_t *trace, size_t trace_length);
 
-/* Writes the image of the table to the start of the buffer: 10 bytes and 20 for each step in use. Bytes past it are not touched.
+/* The length of the table's image: 10 bytes and 20 for each step in use. Refusal: 1. */
+plan_write_reply plan_image_length(const plan_table *t);
+
+/* Writes the image of the table to the start of the buffer. Bytes past it are not touched.
  * Refusals, in order: 1, 11. */
-plan_write_reply plan_write_image(plan_table t, uint8_t *buffer, size_t length);
+plan_write_reply plan_write_image(const plan_table *t, uint8_t *buffer, size_t length);
 
-/* The table of an image, which is exactly these bytes.
+/* Makes the table of an image, which is exactly these bytes, whatever stood there.
  * first and second: 0. Refusal: 12. */
-plan_reply plan_load_image(const uint8_t *bytes, size_t length);
+plan_reply plan_load_image(plan_table *t, const uint8_t *bytes, size_t length);
 
 /* Carries out a key line, given without its byte 10; any bytes of any length.
  * first and second: the two numbers that the program `keys` prints. Refusals: 1, 9, then those of its call. */
-plan_reply plan_key_line(plan_table t, const uint8_t *line, size_t length);
+plan_reply plan_key_line(plan_table *t, const uint8_t *line, size_t length);
+
+/* The words of a refusal. */
+static inline const char *plan_refusal_words(uint16_t refusal) {
+    switch (refusal) {
+    case PLAN_DONE: return "done";
+    case PLAN_NOT_SOUND: return "table not sound";
+    case PLAN_BAD_CAPACITY: return "capacity not 1 to 128";
+    case PLAN_NOT_IN_USE: return "step not in use";
+    case PLAN_BAD_EXIT: return "exit above 3";
+    case PLAN_EXIT_FILLED: return "exit to be filled holds a link";
+    case PLAN_EXIT_EMPTY: return "exit to copy or clear is empty";
+    case PLAN_BAD_KIND: return "kind not 1 to 3, or content out of range";
+    case PLAN_FULL: return "steps in use equal the capacity";
+    case PLAN_NOT_KEY_LINE: return "not a key line";
+    case PLAN_BAD_RESULT: return "some line result above 3";
+    case PLAN_TOO_SHORT: return "lent buffer shorter than needed";
+    case PLAN_NOT_ACCEPTED: return "image not accepted";
+    default: return "unknown refusal";
+    }
+}
 
 #ifdef __cplusplus
 }

@@ -1,5 +1,6 @@
-/* Links libtelephone.a and tries each call from C: sizes, the worked examples P1 to P10, one case of each refusal, the case of `keys`, and bytes
- * that are no sound table. Prints a line for each case that fails, and 'N passed, M failed' last. */
+/* Links libtelephone.a and tries each call from C, or from C++: edition, names and words, the worked examples P1 to P10, every refusal of every call,
+ * the case of `keys`, and bytes that are no sound table. A table is lent with bytes around it, which have to stay; a refused call has to leave every
+ * byte. Prints a line for each case that fails, and 'N passed, M failed' last. */
 #include "telephone.h"
 #include <stdio.h>
 #include <string.h>
@@ -15,6 +16,22 @@ static void expect(int holds, const char *name) {
     }
 }
 
+/* A table with bytes on both sides that no call may change. */
+enum { EDGE = 64, UNTOUCHED = 0xEE };
+typedef struct {
+    uint8_t before[EDGE];
+    plan_table table;
+    uint8_t after[EDGE];
+} lent;
+
+static int all_untouched(const uint8_t *bytes, size_t length) {
+    size_t i = 0;
+    while (i < length && bytes[i] == UNTOUCHED) i++;
+    return i == length;
+}
+
+static int edges_stand(const lent *m) { return all_untouched(m->before, EDGE) && all_untouched(m->after, EDGE); }
+
 static int same(const plan_table *a, const plan_table *b) { return memcmp(a, b, sizeof *a) == 0; }
 
 /* Whether a reply has these three numbers. */
@@ -22,108 +39,233 @@ static int gave(plan_reply r, int refusal, int first, int second) {
     return r.refusal == refusal && r.first == first && r.second == second;
 }
 
-static int refused(plan_reply r, int refusal, const plan_table *t) { return gave(r, refusal, 0, 0) && same(&r.table, t); }
+/* A fresh table of capacity 4, over bytes that are no table. */
+static lent f4(void) {
+    lent m;
+    memset(&m, UNTOUCHED, sizeof m);
+    expect(gave(plan_fresh(&m.table, 4), PLAN_DONE, 0, 0) && edges_stand(&m), "F4");
+    return m;
+}
 
-static const uint8_t f4_image[30] = {0x0A, 0, 1, 0, 4, 0, 0, 0, 1, 0, 0x14, 0, 2};
+/* F4 after P1: step 1 at exit 0 of step 0. */
+static lent p1(void) {
+    lent m = f4();
+    expect(gave(plan_add(&m.table, 0, PLAN_ANSWERED, PLAN_CONTACT, 0), PLAN_DONE, 1, 0), "P1");
+    return m;
+}
 
-static void edits(plan_table f4) {
-    plan_reply r = plan_add(f4, 0, 0, 1, 0);
-    expect(gave(r, 0, 1, 0), "P1");
-    r = plan_add(r.table, 1, 2, 1, 1);
+static void names(void) {
+    static const char *const words[13] = {
+        "done", "table not sound", "capacity not 1 to 128", "step not in use", "exit above 3", "exit to be filled holds a link",
+        "exit to copy or clear is empty", "kind not 1 to 3, or content out of range", "steps in use equal the capacity", "not a key line",
+        "some line result above 3", "lent buffer shorter than needed", "image not accepted"};
+    static const int refusals[13] = {
+        PLAN_DONE, PLAN_NOT_SOUND, PLAN_BAD_CAPACITY, PLAN_NOT_IN_USE, PLAN_BAD_EXIT, PLAN_EXIT_FILLED, PLAN_EXIT_EMPTY, PLAN_BAD_KIND, PLAN_FULL,
+        PLAN_NOT_KEY_LINE, PLAN_BAD_RESULT, PLAN_TOO_SHORT, PLAN_NOT_ACCEPTED};
+    int all = 1;
+    expect(plan_edition() == PLAN_EDITION && PLAN_EDITION == 2, "edition");
+    expect(sizeof(plan_table) == 3588, "size of a table");
+    for (int i = 0; i < 13; i++) all = all && refusals[i] == i && strcmp(plan_refusal_words((uint16_t)i), words[i]) == 0;
+    expect(all, "refusals 0 to 12 and their words");
+    all = 1;
+    for (long i = 13; i < 65536; i++) all = all && strcmp(plan_refusal_words((uint16_t)i), "unknown refusal") == 0;
+    expect(all, "words of all other numbers");
+    expect(PLAN_ALARM == 0 && PLAN_CONTACT == 1 && PLAN_MESSAGE == 2 && PLAN_WAIT == 3, "kinds");
+    expect(PLAN_ANSWERED == 0 && PLAN_ENGAGED == 1 && PLAN_NO_REPLY == 2 && PLAN_LINE_FAULT == 3, "exits");
+    expect(PLAN_OPEN == 0 && PLAN_SPENT == 1, "endings");
+    expect(PLAN_PLACES == 128 && PLAN_EXITS == 4 && PLAN_IMAGE_MAX == 10 + 20 * PLAN_PLACES, "sizes");
+}
+
+static void edits(void) {
+    lent m = p1();
+    plan_table *t = &m.table;
+    plan_reply r = plan_add(t, 1, PLAN_NO_REPLY, PLAN_CONTACT, 1);
     expect(gave(r, 0, 2, 0), "P2");
-    r = plan_link(r.table, 0, 0, 2, 2);
-    plan_read_reply s = plan_read(r.table, 1);
-    expect(gave(r, 0, 0, 0) && s.counts[0] == 1 && s.counts[1] == 1, "P3");
-    r = plan_link(r.table, 1, 2, 0, 1);
-    s = plan_read(r.table, 2);
-    expect(gave(r, 0, 0, 0) && s.counts[0] == 1 && s.counts[1] == 1, "P4");
-    r = plan_clear(r.table, 0, 0);
-    s = plan_read(r.table, 2);
-    expect(gave(r, 0, 2, 0) && r.table.own[1] == 1 && s.own == 1 && s.targets[2] == 1 && s.bits[2] == 1, "P5");
-    r = plan_clear(r.table, 0, 1);
-    expect(gave(r, 0, 2, 2) && plan_read(r.table, 1).refusal == 3 && plan_read(r.table, 2).refusal == 3, "P6");
-    r = plan_add(r.table, 0, 0, 3, 600);
+    r = plan_link(t, 0, PLAN_ANSWERED, 2, PLAN_NO_REPLY);
+    plan_read_reply s = plan_read(t, 1);
+    expect(gave(r, 0, 0, 0) && s.refusal == 0 && s.counts[0] == 1 && s.counts[1] == 1, "P3");
+    r = plan_link(t, 1, PLAN_NO_REPLY, 0, PLAN_ENGAGED);
+    s = plan_read(t, 2);
+    expect(gave(r, 0, 0, 0) && s.kind == PLAN_CONTACT && s.content == 1 && s.counts[0] == 1 && s.counts[1] == 1, "P4");
+    r = plan_clear(t, 0, PLAN_ANSWERED);
+    s = plan_read(t, 2);
+    expect(gave(r, 0, 2, 0) && t->own[1] == 1 && s.own == 1 && s.targets[2] == 1 && s.bits[2] == 1, "P5");
+    expect(t->bits[1] == 1 && t->bits[1 * 4 + 2] == 0, "P5, 0 to 2 strong and 1 to 2 weak");
+    r = plan_clear(t, 0, PLAN_ENGAGED);
+    expect(gave(r, 0, 2, 2) && plan_read(t, 1).refusal == 3 && plan_read(t, 2).refusal == 3, "P6");
+    expect(gave(plan_counts(t), 0, 1, 3), "P6, counts");
+    r = plan_add(t, 0, 0, PLAN_WAIT, 600);
     expect(gave(r, 0, 3, 0), "P7, first");
-    r = plan_add(r.table, 3, 0, 2, 15);
-    expect(gave(r, 0, 1, 0), "P7, second");
-    plan_table p1 = plan_add(f4, 0, 0, 1, 0).table;
-    expect(gave(plan_clear(plan_link(p1, 0, 0, 1, 0).table, 0, 0), 0, 1, 1), "P8");
-    r = plan_clear(plan_link(p1, 0, 0, 0, 1).table, 0, 0);
-    expect(gave(r, 0, 1, 0) && r.table.bits[1] == r.table.own[1], "P9");
+    r = plan_add(t, 3, 0, PLAN_MESSAGE, 15);
+    expect(gave(r, 0, 1, 0) && gave(plan_counts(t), 0, 3, 1), "P7, second");
+    expect(plan_is_sound(t) == 1 && edges_stand(&m), "after P7");
+    m = p1();
+    expect(gave(plan_link(t, 0, 0, 1, 0), 0, 0, 0) && gave(plan_clear(t, 0, 0), 0, 1, 1), "P8");
+    m = p1();
+    expect(gave(plan_link(t, 0, 0, 0, 1), 0, 0, 0) && gave(plan_clear(t, 0, 0), 0, 1, 0) && t->bits[1] == t->own[1], "P9");
+    expect(edges_stand(&m), "after P9");
 }
 
-static void images(plan_table f4) {
+static void images(void) {
+    static const uint8_t f4_image[30] = {0x0A, 0, 1, 0, 4, 0, 0, 0, 1, 0, 0x14, 0, 2};
     uint8_t buffer[40];
-    memset(buffer, 0xEE, sizeof buffer);
-    plan_write_reply w = plan_write_image(f4, buffer, 29);
-    expect(w.refusal == 11 && w.length == 0 && buffer[0] == 0xEE, "F4 written into 29 bytes");
-    w = plan_write_image(f4, buffer, sizeof buffer);
-    expect(w.refusal == 0 && w.length == 30 && memcmp(buffer, f4_image, 30) == 0 && buffer[30] == 0xEE, "P10");
-    plan_reply r = plan_load_image(f4_image, 30);
-    expect(gave(r, 0, 0, 0) && same(&r.table, &f4), "P10 loaded");
-    plan_table f1 = plan_fresh(1).table;
-    expect(refused(plan_load_image(f4_image, 0), 12, &f1), "no bytes");
-    expect(refused(plan_load_image(f4_image, 29), 12, &f1), "an image cut short");
+    lent m = f4(), n = p1();
+    plan_table fresh1, *t = &n.table;
+    plan_fresh(&fresh1, 1);
+    plan_write_reply w = plan_image_length(&m.table);
+    expect(w.refusal == 0 && w.length == 30, "length of F4's image");
+    memset(buffer, UNTOUCHED, sizeof buffer);
+    w = plan_write_image(&m.table, buffer, 29);
+    expect(w.refusal == PLAN_TOO_SHORT && w.length == 0 && all_untouched(buffer, 40), "F4 written into 29 bytes");
+    w = plan_write_image(&m.table, buffer, sizeof buffer);
+    expect(w.refusal == 0 && w.length == 30 && memcmp(buffer, f4_image, 30) == 0 && all_untouched(buffer + 30, 10), "P10");
+    w = plan_image_length(t);
+    expect(w.refusal == 0 && w.length == 50, "length of P1's image");
+    expect(gave(plan_load_image(t, f4_image, 30), 0, 0, 0) && same(t, &m.table), "P10 loaded over another table");
+    expect(gave(plan_load_image(t, f4_image, 0), PLAN_NOT_ACCEPTED, 0, 0) && same(t, &fresh1), "no bytes");
+    memset(t, UNTOUCHED, sizeof *t);
+    expect(gave(plan_load_image(t, f4_image, 29), PLAN_NOT_ACCEPTED, 0, 0) && same(t, &fresh1), "an image cut short");
+    expect(edges_stand(&m) && edges_stand(&n), "after the images");
 }
 
-static void refusals(plan_table f4) {
-    plan_table f1 = plan_fresh(1).table, out = f4, p1 = plan_add(f4, 0, 0, 1, 0).table;
-    out.used[0] = 0;
-    expect(refused(plan_fresh(0), 2, &f1) && refused(plan_fresh(129), 2, &f1), "fresh 0 and 129");
-    expect(plan_fresh(1).refusal == 0 && plan_fresh(128).refusal == 0, "fresh 1 and 128");
-    expect(refused(plan_add(out, 0, 0, 1, 0), 1, &out), "F4 with step 0 out of use");
-    expect(plan_read(f4, 1).refusal == 3, "F4, read 1");
-    expect(refused(plan_clear(f4, 0, 4), 4, &f4), "F4, clear 0, 4");
-    expect(refused(plan_add(p1, 0, 0, 1, 0), 5, &p1), "add twice at 0, 0");
-    expect(refused(plan_clear(f4, 0, 0), 6, &f4), "F4, clear 0, 0");
-    expect(refused(plan_add(f4, 0, 0, 3, 0), 7, &f4) && refused(plan_add(f4, 0, 0, 3, 601), 7, &f4), "wait 0 and 601");
-    expect(refused(plan_add(f1, 0, 0, 1, 0), 8, &f1), "fresh 1, then add");
-    expect(refused(plan_key_line(f4, (const uint8_t *)"H*5A", 4), 9, &f4), "H*5A");
+/* Tries every call that can be refused on a table, whichever refusal comes, and says whether a refused call left every byte. */
+static int leaves_every_byte(lent *m, const uint16_t a[4], const uint8_t *line) {
+    const lent was = *m;
+    plan_table *t = &m->table;
+    uint8_t lent_bytes[PLAN_IMAGE_MAX];
+    const size_t room = sizeof lent_bytes;
+    const uint8_t results[2] = {(uint8_t)a[0], (uint8_t)a[1]};
+    int all = 1;
+    if (plan_add(t, a[0], a[1], a[2], a[3]).refusal) all = all && memcmp(m, &was, sizeof was) == 0;
+    *m = was;
+    if (plan_link(t, a[0], a[1], a[2], a[3]).refusal) all = all && memcmp(m, &was, sizeof was) == 0;
+    *m = was;
+    if (plan_clear(t, a[0], a[1]).refusal) all = all && memcmp(m, &was, sizeof was) == 0;
+    *m = was;
+    if (plan_key_line(t, line, strlen((const char *)line)).refusal) all = all && memcmp(m, &was, sizeof was) == 0;
+    *m = was;
+    memset(lent_bytes, UNTOUCHED, room);
+    if (plan_trial(t, results, 2, lent_bytes, a[2] < room ? a[2] : room).refusal) all = all && all_untouched(lent_bytes, room);
+    memset(lent_bytes, UNTOUCHED, room);
+    if (plan_write_image(t, lent_bytes, a[3] < room ? a[3] : room).refusal) all = all && all_untouched(lent_bytes, room);
+    (void)plan_read(t, a[0]);
+    (void)plan_counts(t);
+    (void)plan_image_length(t);
+    (void)plan_is_sound(t);
+    return all && memcmp(m, &was, sizeof was) == 0;
 }
 
-static void trials(plan_table f4) {
-    plan_table p1 = plan_add(f4, 0, 0, 1, 0).table;
-    const uint8_t fits[2] = {0, 3}, unfit[2] = {0, 4};
-    uint8_t trace[3] = {0xEE, 0xEE, 0xEE};
-    expect(plan_trial(p1, unfit, 2, trace, 2).refusal == 10 && trace[0] == 0xEE, "results 0, 4");
-    expect(plan_trial(p1, fits, 2, trace, 1).refusal == 11 && trace[0] == 0xEE, "a trace too short");
-    plan_trial_reply r = plan_trial(p1, fits, 2, trace, 3);
+/* A call that has to be refused with this number, and leave every byte. */
+#define REFUSED(number, m, call) do { \
+        lent was_ = (m); \
+        expect(gave(call, number, 0, 0) && memcmp(&was_, &(m), sizeof was_) == 0, #call ", refusal " #number); \
+    } while (0)
+
+static void refusals(void) {
+    static const uint16_t capacities[5] = {0, 129, 256, 257, 65535};
+    static const uint16_t odd[8] = {0, 1, 2, 3, 4, 128, 256, 65535};
+    static const char *const lines[5] = {"H*100001000A", "H*200000012A", "H*30000A", "H*4A", "H*5A"};
+    lent f = f4(), p = p1(), out = f4(), one = f4();
+    plan_table fresh1;
+    int all = 1;
+    expect(gave(plan_fresh(&fresh1, 1), 0, 0, 0) && gave(plan_fresh(&one.table, 128), 0, 0, 0), "fresh 1 and 128");
+    for (int i = 0; i < 5; i++) {
+        memset(&one.table, UNTOUCHED, sizeof one.table);
+        all = all && gave(plan_fresh(&one.table, capacities[i]), PLAN_BAD_CAPACITY, 0, 0) && same(&one.table, &fresh1);
+    }
+    expect(all && edges_stand(&one), "capacities that are refused");
+    out.table.used[0] = 0;
+    REFUSED(1, out, plan_add(&out.table, 9, 9, 9, 9));
+    REFUSED(1, out, plan_link(&out.table, 9, 9, 9, 9));
+    REFUSED(1, out, plan_clear(&out.table, 9, 9));
+    REFUSED(1, out, plan_counts(&out.table));
+    REFUSED(1, out, plan_key_line(&out.table, (const uint8_t *)"H*5A", 4));
+    expect(plan_is_sound(&out.table) == 0 && plan_read(&out.table, 9).refusal == 1, "read of a table that is not sound");
+    expect(plan_image_length(&out.table).refusal == 1 && plan_image_length(&out.table).length == 0, "image length of one");
+    expect(plan_write_image(&out.table, one.before, 0).refusal == 1, "image of one");
+    expect(plan_trial(&out.table, out.before, EDGE, one.before, 0).refusal == 1 && edges_stand(&one), "trial of one");
+    expect(plan_read(&f.table, 1).refusal == 3 && plan_read(&f.table, 65535).refusal == 3, "F4, read 1");
+    REFUSED(3, f, plan_add(&f.table, 1, 4, 0, 0));
+    REFUSED(3, f, plan_link(&f.table, 256, 4, 9, 9));
+    REFUSED(3, f, plan_clear(&f.table, 128, 4));
+    REFUSED(4, f, plan_clear(&f.table, 0, 4));
+    REFUSED(4, p, plan_add(&p.table, 0, 256, 0, 0));
+    REFUSED(4, p, plan_link(&p.table, 0, 4, 9, 9));
+    REFUSED(4, p, plan_link(&p.table, 0, 0, 0, 4));
+    REFUSED(5, p, plan_add(&p.table, 0, 0, 0, 0));
+    REFUSED(5, p, plan_link(&p.table, 0, 0, 0, 0));
+    REFUSED(6, f, plan_clear(&f.table, 0, 0));
+    REFUSED(6, f, plan_link(&f.table, 0, 0, 9, 9));
+    REFUSED(7, f, plan_add(&f.table, 0, 0, PLAN_WAIT, 0));
+    REFUSED(7, f, plan_add(&f.table, 0, 0, PLAN_WAIT, 601));
+    REFUSED(7, f, plan_add(&f.table, 0, 0, PLAN_CONTACT, 100));
+    REFUSED(7, f, plan_add(&f.table, 0, 0, PLAN_MESSAGE, 16));
+    REFUSED(7, f, plan_add(&f.table, 0, 0, PLAN_ALARM, 0));
+    REFUSED(7, f, plan_add(&f.table, 0, 0, 257, 0));
+    one.table = fresh1;
+    REFUSED(8, one, plan_add(&one.table, 0, 0, PLAN_CONTACT, 0));
+    REFUSED(9, f, plan_key_line(&f.table, (const uint8_t *)"H*5A", 4));
+    REFUSED(9, f, plan_key_line(&f.table, (const uint8_t *)"H*4A ", 5));
+    REFUSED(9, f, plan_key_line(&f.table, f.before, 0));
+    REFUSED(6, f, plan_key_line(&f.table, (const uint8_t *)"H*30000A", 8));
+    all = 1;
+    for (int i = 0; i < 8 * 8 * 8 * 8; i++) {
+        const uint16_t a[4] = {odd[i % 8], odd[i / 8 % 8], odd[i / 64 % 8], odd[i / 512]};
+        lent *tables[4];
+        tables[0] = &f, tables[1] = &p, tables[2] = &out, tables[3] = &one;
+        for (int k = 0; k < 4; k++) all = all && leaves_every_byte(tables[k], a, (const uint8_t *)lines[i % 5]);
+    }
+    expect(all, "a refused call leaves every byte, and so does a call that reads");
+}
+
+static void trials(void) {
+    static const uint8_t fits[2] = {PLAN_ANSWERED, PLAN_LINE_FAULT}, unfit[2] = {0, 4};
+    lent m = p1();
+    const lent was = m;
+    uint8_t around[5], *trace = around + 1;
+    memset(around, UNTOUCHED, sizeof around);
+    expect(plan_trial(&m.table, unfit, 2, trace, 2).refusal == PLAN_BAD_RESULT && all_untouched(trace, 3), "results 0, 4");
+    expect(plan_trial(&m.table, fits, 2, trace, 1).refusal == PLAN_TOO_SHORT && all_untouched(trace, 3), "a trace too short");
+    plan_trial_reply r = plan_trial(&m.table, fits, 2, trace, 3);
     expect(r.refusal == 0 && r.ending == PLAN_OPEN && r.last == 1 && r.moves == 1, "a trial that ends open");
-    expect(trace[0] == 1 && trace[1] == 0xEE && trace[2] == 0xEE, "its trace");
-    r = plan_trial(p1, fits, 1, trace, 1);
+    expect(trace[0] == 1 && all_untouched(around, 1) && all_untouched(trace + 1, 3), "its trace");
+    r = plan_trial(&m.table, fits, 1, trace, 1);
     expect(r.refusal == 0 && r.ending == PLAN_SPENT && r.last == 1 && r.moves == 1, "a trial that ends spent");
+    expect(memcmp(&m, &was, sizeof m) == 0, "trials leave the table");
 }
 
 static void keys(void) {
     static const char *const lines[5] = {"H*100001000A", "H*200000012A", "H*30000A", "H*4A", "H*30000A"};
     static const int answers[5][3] = {{0, 1, 0}, {0, 0, 0}, {0, 1, 1}, {0, 1, 127}, {6, 0, 0}};
-    plan_table t = plan_fresh(128).table;
+    lent m = f4();
+    plan_fresh(&m.table, 128);
     for (int i = 0; i < 5; i++) {
-        plan_reply r = plan_key_line(t, (const uint8_t *)lines[i], strlen(lines[i]));
-        expect(gave(r, answers[i][0], answers[i][1], answers[i][2]), lines[i]);
-        t = r.table;
+        plan_reply r = plan_key_line(&m.table, (const uint8_t *)lines[i], strlen(lines[i]));
+        expect(gave(r, answers[i][0], answers[i][1], answers[i][2]) && edges_stand(&m), lines[i]);
     }
+    expect(gave(plan_counts(&m.table), 0, 1, 127), "counts without a key line");
 }
 
 /* Any bytes in a table's memory: each value in every byte. */
 static void wild(void) {
-    plan_table t;
+    static const uint16_t a[4] = {0, 0, 1, 0};
+    lent m;
     int all = 1;
+    memset(&m, UNTOUCHED, sizeof m);
     for (int value = 0; value < 256; value++) {
-        memset(&t, value, sizeof t);
-        all = all && plan_is_sound(t) == 0 && refused(plan_add(t, 0, 0, 1, 0), 1, &t) && refused(plan_clear(t, 0, 0), 1, &t);
+        memset(&m.table, value, sizeof m.table);
+        all = all && plan_is_sound(&m.table) == 0 && gave(plan_add(&m.table, 0, 0, 1, 0), 1, 0, 0) && gave(plan_clear(&m.table, 0, 0), 1, 0, 0);
+        all = all && leaves_every_byte(&m, a, (const uint8_t *)"H*4A");
     }
     expect(all, "bytes that are no sound table");
 }
 
 int main(void) {
-    plan_table f4 = plan_fresh(4).table;
-    expect(sizeof(plan_table) == 3588, "size of a table");
-    expect(plan_is_sound(f4) == 1, "F4 is sound");
-    edits(f4);
-    images(f4);
-    refusals(f4);
-    trials(f4);
+    names();
+    edits();
+    images();
+    refusals();
+    trials();
     keys();
     wild();
     printf("%d passed, %d failed\n", passed, failed);

@@ -1,6 +1,6 @@
 //! (b) The same job in Rust: bits and counters in a table that is changed in place, with a linear soundness test on every call.
 
-use telephone::Table;
+use telephone::raw::Table;
 
 const PLACES: usize = 128;
 const EXITS: usize = 4;

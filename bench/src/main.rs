@@ -1,17 +1,21 @@
-//! Prints the table of numbers: times as median and best of many passes, all measured in this process, then stack and size.
-//! (a) is the proved code through its interface, (b) `counted`, (c) `marked`. All three are checked to give the same answers.
+//! Prints the numbers: times as median and best of many passes, all measured in this process but those of the program `keys`, then stack and size.
+//! (a) is the proved library through its interface, (b) `counted`, (c) `marked`, (d) `tuned`. Before anything is timed, (b), (c) and (d) are held
+//! to (a) after every edit, and the soundness tests of (b) and (d) on damaged tables.
 
+mod clock;
 mod counted;
+mod keys;
 mod marked;
+mod tuned;
 
 use compare::stack::depth;
 use compare::{kept, lend};
 use reference::calls::Command;
 use reference::generate::Random;
 use reference::history::Call;
-use reference::plan::{plan_of, Plan};
+use reference::plan::Plan;
 use std::hint::black_box;
-use telephone::Table;
+use telephone::raw::{self, Table};
 
 const EDITS: usize = 10_000;
 const PASSES: usize = 41;
@@ -78,290 +82,438 @@ fn reaches(plan: &Plan, from: u16, to: u16) -> bool {
     false
 }
 
-/// All edits by the proved code; gives the last table and a sum of the answers.
-#[inline(never)]
-fn proved(edits: &[Command]) -> (Table, u64) {
-    let mut table = telephone::fresh(128).table;
-    let mut sum = 0;
-    for &edit in edits {
-        let reply = match edit {
-            Command::Add { holder, exit, kind, content } => {
-                telephone::add(table, holder, exit, kind, content)
-            }
-            Command::Link { source, source_exit, second, second_exit } => {
-                telephone::link(table, source, source_exit, second, second_exit)
-            }
-            Command::Clear { step, exit } => telephone::clear(table, step, exit),
-            Command::Count => unreachable!(),
-        };
-        sum += u64::from(reply.refusal) * 1_000_000
-            + u64::from(reply.first) * 1000
-            + u64::from(reply.second);
-        table = reply.table;
-    }
-    (table, sum)
+fn fresh(capacity: u16) -> Table {
+    let mut table = Table::ZERO;
+    assert_eq!(raw::fresh(&mut table, capacity).refusal, 0);
+    table
 }
 
-/// The same edits by (b).
-#[inline(never)]
-fn counted(edits: &[Command]) -> (Table, u64) {
-    let mut table = telephone::fresh(128).table;
+/// The answer to an edit: the refusal, or two numbers.
+type Answer = Result<(u16, u16), u16>;
+
+/// An edit by (a).
+fn proved_edit(table: &mut Table, edit: Command) -> Answer {
+    let reply = match edit {
+        Command::Add { holder, exit, kind, content } => {
+            raw::add(table, holder, exit, kind, content)
+        }
+        Command::Link { source, source_exit, second, second_exit } => {
+            raw::link(table, source, source_exit, second, second_exit)
+        }
+        Command::Clear { step, exit } => raw::clear(table, step, exit),
+        Command::Count => raw::counts(table),
+    };
+    match reply.refusal {
+        0 => Ok((reply.first, reply.second)),
+        refusal => Err(refusal),
+    }
+}
+
+/// An edit by (b).
+fn counted_edit(table: &mut Table, edit: Command) -> Answer {
+    match edit {
+        Command::Add { holder, exit, kind, content } => {
+            counted::add(table, holder, exit, kind, content).map(|number| (number, 0))
+        }
+        Command::Link { source, source_exit, second, second_exit } => {
+            counted::link(table, source, source_exit, second, second_exit).map(|()| (0, 0))
+        }
+        Command::Clear { step, exit } => counted::clear(table, step, exit),
+        Command::Count => unreachable!(),
+    }
+}
+
+/// An edit by (c), which gives no doubtful count.
+fn marked_edit(plan: &mut marked::Plan, edit: Command) -> Answer {
+    match edit {
+        Command::Add { holder, exit, kind, content } => {
+            plan.add(holder, exit, kind, content).map(|number| (number, 0))
+        }
+        Command::Link { source, source_exit, second, second_exit } => {
+            plan.link(source, source_exit, second, second_exit).map(|()| (0, 0))
+        }
+        Command::Clear { step, exit } => plan.clear(step, exit).map(|freed| (0, freed)),
+        Command::Count => unreachable!(),
+    }
+}
+
+/// An edit by (d).
+fn tuned_edit(table: &mut Table, edit: Command) -> Answer {
+    match edit {
+        Command::Add { holder, exit, kind, content } => {
+            tuned::add(table, holder, exit, kind, content).map(|number| (number, 0))
+        }
+        Command::Link { source, source_exit, second, second_exit } => {
+            tuned::link(table, source, source_exit, second, second_exit).map(|()| (0, 0))
+        }
+        Command::Clear { step, exit } => tuned::clear(table, step, exit),
+        Command::Count => tuned::counts(table),
+    }
+}
+
+/// All edits, one after the other; gives a sum of the answers.
+#[inline(always)]
+fn all<T>(mut table: T, edits: &[Command], edit: impl Fn(&mut T, Command) -> Answer) -> (T, u64) {
     let mut sum = 0;
-    for &edit in edits {
-        let (first, second) = match edit {
-            Command::Add { holder, exit, kind, content } => {
-                (counted::add(&mut table, holder, exit, kind, content).unwrap(), 0)
-            }
-            Command::Link { source, source_exit, second, second_exit } => {
-                counted::link(&mut table, source, source_exit, second, second_exit).unwrap();
-                (0, 0)
-            }
-            Command::Clear { step, exit } => counted::clear(&mut table, step, exit).unwrap(),
-            Command::Count => unreachable!(),
-        };
+    for &each in edits {
+        let (first, second) = edit(&mut table, each).unwrap();
         sum += u64::from(first) * 1000 + u64::from(second);
     }
     (table, sum)
 }
 
-/// The same edits by (c); gives the numbers given and the freed counts in one sum.
-#[inline(never)]
-fn marked(edits: &[Command]) -> u64 {
-    let mut plan = marked::Plan::fresh(128);
-    let mut sum = 0;
+/// Makes all edits by all four, and holds the answers and the tables or plans after each to those of (a). Gives the table after the last one.
+fn agree(edits: &[Command]) -> Table {
+    let (mut a, mut b, mut d) = (fresh(128), fresh(128), fresh(128));
+    let mut c = marked::Plan::fresh(128);
     for &edit in edits {
-        sum += u64::from(match edit {
-            Command::Add { holder, exit, kind, content } => {
-                plan.add(holder, exit, kind, content).unwrap()
-            }
-            Command::Link { source, source_exit, second, second_exit } => {
-                plan.link(source, source_exit, second, second_exit).map(|()| 0).unwrap()
-            }
-            Command::Clear { step, exit } => plan.clear(step, exit).unwrap(),
-            Command::Count => unreachable!(),
+        let answer = proved_edit(&mut a, edit);
+        assert!(counted_edit(&mut b, edit) == answer && b == a, "(b) differs: {edit:?}");
+        assert!(tuned_edit(&mut d, edit) == answer && d == a, "(d) differs: {edit:?}");
+        let plain = answer.map(|(first, second)| match edit {
+            Command::Clear { .. } => (0, second),
+            _ => (first, second),
         });
+        assert!(marked_edit(&mut c, edit) == plain, "(c) differs: {edit:?}");
+        assert!(c.agrees(&marked::Plan::of(&a)), "(c) has another plan: {edit:?}");
     }
-    sum
+    a
 }
 
-/// The processor time of this thread in nanoseconds, so that other work on the machine counts as little as it can.
-fn processor_time() -> f64 {
-    #[repr(C)]
-    struct Time {
-        seconds: i64,
-        nanoseconds: i64,
+/// Holds the soundness tests of (b) and (d) to that of (a) on one table; gives the verdict.
+fn verdict(table: &Table) -> bool {
+    let sound = raw::is_sound(table) == 1;
+    assert!(counted::sound(table) == sound && tuned::sound(table) == sound, "{table:?}");
+    sound
+}
+
+/// Damaged tables: some fields at odd values; then every word of a table, one at a time, at each of a few. Gives how many were sound and how many
+/// were not.
+fn verdicts() -> (usize, usize) {
+    let (mut random, mut found) = (Random(5), (0, 0));
+    let mut note = |table: &Table| *if verdict(table) { &mut found.0 } else { &mut found.1 } += 1;
+    for seed in 0..30_000 {
+        let mut table = Random(seed).sound_table();
+        for _ in 0..seed % 4 {
+            random.damage(&mut table);
+        }
+        note(&lend(&table));
     }
-    extern "C" {
-        fn clock_gettime(clock: i32, time: *mut Time) -> i32;
+    for seed in 0..3 {
+        let sound = lend(&Random(seed).sound_table());
+        for at in 0..1794 {
+            for value in [0, 1, 2, 3, 127, 128, 255, 256, 1024, 32768, 65535] {
+                let mut table = sound.clone();
+                *word(&mut table, at) = value;
+                note(&table);
+            }
+        }
     }
-    const CLOCK_THREAD_CPUTIME_ID: i32 = 3;
-    let mut time = Time { seconds: 0, nanoseconds: 0 };
-    // SAFETY: the struct is C's `struct timespec` on x86-64 Linux, and outlives the call.
-    let status = unsafe { clock_gettime(CLOCK_THREAD_CPUTIME_ID, &mut time) };
-    assert_eq!(status, 0);
-    time.seconds as f64 * 1e9 + time.nanoseconds as f64
+    found
+}
+
+/// A word of a table, by its place in memory.
+fn word(table: &mut Table, at: usize) -> &mut u16 {
+    let Table { capacity, last, used, kinds, contents, own, targets, bits, counts } = table;
+    let arrays = [&mut used[..], kinds, contents, own, targets, bits, counts];
+    let mut words = [capacity, last].into_iter().chain(arrays.into_iter().flatten());
+    words.nth(at).expect("a word of the table")
 }
 
 /// Nanoseconds of one run of a function, over so many runs.
 fn nanoseconds(runs: usize, mut function: impl FnMut()) -> f64 {
-    let start = processor_time();
+    let start = clock::this_thread();
     for _ in 0..runs {
         function();
     }
-    (processor_time() - start) / runs as f64
+    (clock::this_thread() - start) / runs as f64
 }
 
-/// The median and the best of some times.
-fn median_and_best(mut times: Vec<f64>) -> (f64, f64) {
-    times.sort_by(f64::total_cmp);
-    (times[times.len() / 2], times[0])
+/// The times of a function, one for each pass. Printed are the median and the best.
+#[derive(Clone)]
+struct Times(Vec<f64>);
+
+impl Times {
+    fn median(&self) -> f64 {
+        let mut times = self.0.clone();
+        times.sort_by(f64::total_cmp);
+        times[times.len() / 2]
+    }
+
+    fn best(&self) -> f64 {
+        self.0.iter().copied().fold(f64::INFINITY, f64::min)
+    }
+
+    /// Each of so many.
+    fn each(&self, number: usize) -> Times {
+        Times(self.0.iter().map(|time| time / number as f64).collect())
+    }
+
+    /// The median of the ratios to another function's times in the same passes.
+    fn by(&self, other: &Times) -> f64 {
+        Times(self.0.iter().zip(&other.0).map(|(time, other)| time / other).collect()).median()
+    }
+}
+
+impl std::fmt::Display for Times {
+    fn fmt(&self, f: &mut std::fmt::Formatter<'_>) -> std::fmt::Result {
+        write!(f, "{:5.0} {:5.0}", self.median(), self.best())
+    }
 }
 
 /// Times of several functions, taken in turn in every pass.
-fn passes<const N: usize>(runs: usize, mut functions: [&mut dyn FnMut(); N]) -> [(f64, f64); N] {
-    let mut times: [Vec<f64>; N] = std::array::from_fn(|_| Vec::new());
+fn passes<const N: usize>(runs: usize, mut functions: [&mut dyn FnMut(); N]) -> [Times; N] {
+    let mut times = std::array::from_fn(|_| Times(Vec::new()));
     for _ in 0..PASSES {
         for (list, function) in times.iter_mut().zip(functions.iter_mut()) {
-            list.push(nanoseconds(runs, &mut **function));
+            list.0.push(nanoseconds(runs, &mut **function));
         }
     }
-    times.map(median_and_best)
+    times
 }
 
-/// A full table whose 127 steps stand in one chain. With `held`, a weak link from step 0 takes them all back when the strong one is cleared; it
-/// leads to step 1, from which the chain goes upward.
-fn chain(held: bool) -> Table {
-    let mut table = telephone::fresh(128).table;
-    for step in 0..127 {
-        table = telephone::add(table, step, 0, 1, 0).table;
+/// Prints a row: times, then the ratios of the first to each of the others: the median over the passes, and that of the best times.
+fn row(name: &str, times: &[Times]) {
+    print!("{name:38}");
+    for time in times {
+        print!("  {time}");
     }
-    if held {
-        table = telephone::link(table, 0, 0, 0, 1).table;
+    for other in &times[1..] {
+        print!("  {:6.2} {:6.2}", times[0].by(other), times[0].best() / other.best());
     }
-    table
+    println!();
 }
 
-/// The chain of 127 with the numbers falling: step 0 leads to 127, that to 126 and so on, so that each step taken back makes a lower one the next.
-fn falling(dense: bool) -> Table {
-    let mut table = kept(chain(true));
-    let targets = &mut table.targets;
-    let bits = &mut table.bits;
-    (targets[0], targets[1]) = (127, 127);
-    for step in 1..128 {
-        targets[step * 4] = step as u16 - 1;
-        if dense {
-            for exit in 1..4 {
-                targets[step * 4 + exit] = 1 + ((step * 37 + exit * 41) % 127) as u16;
-                bits[step * 4 + exit] = 1;
-            }
-        }
+/// Prints the head of the rows below it.
+fn head(name: &str, programs: &[&str]) {
+    print!("\n{name:38}");
+    for program in programs {
+        print!("  {program:>11}");
     }
-    table.counts = table.counted();
-    let table = lend(&table);
-    assert_eq!(telephone::plan_is_sound(table.clone()), 1);
-    table
+    for program in &programs[1..] {
+        print!("  {:>13}", format!("(a)/{program}"));
+    }
+    println!();
 }
 
-/// A dense chain: every exit beside the chain's holds a weak link.
-fn dense_chain() -> Table {
-    let mut table = kept(chain(true));
-    for step in 1..128 {
-        for exit in 0..4 {
-            let place = step * 4 + exit;
-            if table.targets[place] == 0 {
-                (table.targets[place], table.bits[place]) =
-                    (1 + ((step * 53 + exit * 29) % 127) as u16, 1);
-            }
-        }
-    }
-    table.counts = table.counted();
-    let table = lend(&table);
-    assert_eq!(telephone::plan_is_sound(table.clone()), 1);
-    table
-}
-
-/// A row of the edits' table. Gives the table after the last edit.
-fn edit_row(name: &str, seed: u64, dense: bool, rings: bool) -> Table {
-    let edits = edits(seed, dense, rings);
-    let (proved_table, proved_sum) = proved(&edits);
-    let (counted_table, counted_sum) = counted(&edits);
-    assert!(proved_table == counted_table && proved_sum == counted_sum, "(a) and (b) differ");
-    let plan = plan_of(&kept(proved_table.clone()));
-    let mut drawn = Plan::fresh(128);
-    let mut sum = 0;
-    for &edit in &edits {
-        let [first, second] = drawn.draw(&Call::Edit(edit)).unwrap();
-        sum += u64::from(first.or(second).unwrap());
-    }
-    assert!(plan == drawn && marked(&edits) == sum, "(a) and (c) differ");
-    let [a, b, c] = passes(
+/// The edits by all four.
+fn edit_row(name: &str, edits: &[Command]) {
+    let (start, plan) = (fresh(128), marked::Plan::fresh(128));
+    let times = passes(
         1,
         [
             &mut || {
-                black_box(proved(black_box(&edits)));
+                black_box(all(start.clone(), black_box(edits), proved_edit));
             },
             &mut || {
-                black_box(counted(black_box(&edits)));
+                black_box(all(start.clone(), black_box(edits), counted_edit));
             },
             &mut || {
-                black_box(marked(black_box(&edits)));
+                black_box(all(plan.clone(), black_box(edits), marked_edit));
+            },
+            &mut || {
+                black_box(all(start.clone(), black_box(edits), tuned_edit));
             },
         ],
     );
-    let each = |(median, best): (f64, f64)| {
-        format!("{:6.0} {:6.0}", median / EDITS as f64, best / EDITS as f64)
-    };
-    let count = |test: fn(&Command) -> bool| edits.iter().filter(|edit| test(edit)).count();
-    let adds = count(|edit| matches!(edit, Command::Add { .. }));
-    let clears = count(|edit| matches!(edit, Command::Clear { .. }));
-    println!(
-        "{name:24} {} {} {}   {:4.2} {:4.2}   {adds:5} {:5} {clears:5}",
-        each(a),
-        each(b),
-        each(c),
-        a.0 / b.0,
-        a.1 / b.1,
-        EDITS - adds - clears
-    );
-    proved_table
+    row(name, &times.map(|time| time.each(EDITS)));
 }
 
-/// A row with one table: the soundness test and a call on it, by (a) and by (b).
-fn single_row(name: &str, table: &Table, clear: Option<(u16, u16)>) {
-    let mut in_place = table.clone();
-    let test: [(f64, f64); 2] = passes(
+/// The soundness test of one table by (a), (b) and (d). Gives the times of (a).
+fn test_row(name: &str, table: &Table) -> Times {
+    let times = passes(
         500,
         [
             &mut || {
-                black_box(telephone::plan_is_sound(black_box(table).clone()));
+                black_box(raw::is_sound(black_box(table)));
             },
             &mut || {
                 black_box(counted::sound(black_box(table)));
             },
+            &mut || {
+                black_box(tuned::sound(black_box(table)));
+            },
         ],
     );
-    print!("{name:40} {:6.0} {:6.0} {:6.0} {:6.0}", test[0].0, test[0].1, test[1].0, test[1].1);
-    let Some((step, exit)) = clear else {
-        println!();
-        return;
-    };
-    let [a, b] = passes(
+    row(name, &times);
+    times[0].clone()
+}
+
+/// Clearing exit 0 of step 0 of one table by all four, each on a copy that is made first. It has to give these counts. Gives the times of (a).
+fn clear_row(name: &str, table: &Table, counts: (u16, u16)) -> Times {
+    let edit = Command::Clear { step: 0, exit: 0 };
+    let plan = marked::Plan::of(table);
+    let (mut a, mut b, mut c, mut d) = (table.clone(), table.clone(), plan.clone(), table.clone());
+    let times = passes(
         500,
         [
             &mut || {
-                black_box(telephone::clear(black_box(table).clone(), step, exit));
+                a.clone_from(black_box(table));
+                black_box(proved_edit(&mut a, edit)).unwrap();
             },
             &mut || {
-                in_place.clone_from(black_box(table));
-                black_box(counted::clear(&mut in_place, step, exit)).unwrap();
+                b.clone_from(black_box(table));
+                black_box(counted_edit(&mut b, edit)).unwrap();
+            },
+            &mut || {
+                c.clone_from(black_box(&plan));
+                black_box(marked_edit(&mut c, edit)).unwrap();
+            },
+            &mut || {
+                d.clone_from(black_box(table));
+                black_box(tuned_edit(&mut d, edit)).unwrap();
             },
         ],
     );
-    let reply = telephone::clear(table.clone(), step, exit);
-    assert!(reply.refusal == 0 && reply.table == in_place);
-    println!(
-        "   {:6.0} {:6.0} {:6.0} {:6.0}   {:4.2}   {:3} {:3}",
-        a.0,
-        a.1,
-        b.0,
-        b.1,
-        a.0 / test[0].0,
-        reply.first,
-        reply.second
-    );
+    assert!(a == b && a == d && c.agrees(&marked::Plan::of(&a)), "{name}");
+    assert_eq!(proved_edit(&mut table.clone(), edit), Ok(counts), "{name}");
+    row(name, &times);
+    times[0].clone()
 }
 
-/// The stack of the deepest call found: a repair of 127 steps by key line.
-fn deepest() -> usize {
-    let table = chain(true);
+/// What holds the first step of a chain beside the link that is cleared, and what stands in the exits that the chain leaves empty.
+#[derive(Clone, Copy)]
+enum Chain {
+    /// Nothing: all steps are freed.
+    Free,
+    /// A weak link from step 0: all steps are taken back, in the chain's order.
+    Held,
+    /// The same, and weak links in all other exits of the steps.
+    Dense,
+}
+
+/// A full table whose 127 steps stand in one chain in this order, from exit 0 to exit 0.
+fn chain(order: impl IntoIterator<Item = u16>, how: Chain) -> Table {
+    let mut table = kept(&fresh(128));
+    let mut exit = 0;
+    for step in order {
+        let place = usize::from(step);
+        (table.used[place], table.kinds[place]) = (1, 1);
+        table.targets[exit] = step;
+        exit = place * 4;
+    }
+    if !matches!(how, Chain::Free) {
+        (table.targets[1], table.bits[1]) = (table.targets[0], 1);
+    }
+    if matches!(how, Chain::Dense) {
+        for place in (4..512).filter(|place| place % 4 != 0) {
+            let target = 1 + (place / 4 * 37 + place % 4 * 41) % 127;
+            (table.targets[place], table.bits[place]) = (target as u16, 1);
+        }
+    }
+    table.counts = table.counted();
+    let table = lend(&table);
+    assert!(verdict(&table) && raw::counts(&table).first == 128);
+    table
+}
+
+/// The order in which the lowest and the highest step left take turns: 1, 127, 2, 126 and so on.
+fn zigzag() -> impl Iterator<Item = u16> {
+    (0..127).map(|i| if i % 2 == 0 { 1 + i / 2 } else { 127 - i / 2 })
+}
+
+/// Bytes of stack that a call on a table takes, without the table.
+fn stack(table: &Table, mut call: impl FnMut(&mut Table) -> raw::Reply) -> usize {
+    let mut table = table.clone();
     let mut reply = None;
-    let bytes = depth(|| reply = Some(telephone::key_line(table.clone(), b"H*30000A")));
-    black_box(reply);
+    let bytes = depth(|| reply = Some(call(&mut table)));
+    assert_eq!(black_box(reply).expect("a reply").refusal, 0);
     bytes
 }
 
+/// The kinds of edits that are timed.
+fn kinds() -> [(&'static str, Vec<Command>); 4] {
+    [
+        ("dense, with rings", edits(1, true, true)),
+        ("dense, without rings", edits(1, true, false)),
+        ("sparse, with rings", edits(1, false, true)),
+        ("sparse, without rings", edits(1, false, false)),
+    ]
+}
+
 fn main() {
-    println!("Nanoseconds of processor time, median and best of {PASSES} passes. (a) proved code; (b) Rust with bits, counters and a linear soundness test on");
-    println!("every call; (c) Rust with the plain plan, marking after each clearing, and no soundness test.\n");
-    println!("One edit, of {EDITS} over 128 steps        (a)           (b)           (c)      (a)/(b)     adds links clears");
-    let kinds = [
-        ("dense, with rings", true, true),
-        ("dense, without rings", true, false),
-        ("sparse, with rings", false, true),
-        ("sparse, without rings", false, false),
-    ];
-    let tables = kinds.map(|(name, dense, rings)| (name, edit_row(name, 1, dense, rings)));
-    println!("\nOn one table                           soundness (a), (b)               clearing (a), (b)        ratio   doubtful, freed");
-    for (name, table) in &tables {
-        single_row(&format!("after the edits, {name}"), table, None);
+    assert_eq!(telephone::check_edition(), Ok(()));
+    let kinds = kinds();
+    let tables: Vec<Table> = kinds.iter().map(|(_, edits)| agree(edits)).collect();
+    let (sound, unsound) = verdicts();
+    println!("(a) the proved library");
+    println!("(b) Rust with bits and counters, and a linear soundness test on every call");
+    println!("(c) Rust with the plain plan, which marks after each clearing; it has no bits, no counters and no soundness test");
+    println!("(d) the job of (b) in safe Rust written for speed");
+    println!("All four agree in each answer, and in the table or plan after each of {} edits; (a), (b) and (d) agree on", kinds.len() * EDITS);
+    println!("{sound} tables that are sound and {unsound} that are not. Nanoseconds of processor time, median and best of {PASSES} passes;");
+    println!("of ratios, the median over the passes and the ratio of the best.");
+
+    let programs = ["(a)", "(b)", "(c)", "(d)"];
+    head(&format!("One edit, of {EDITS} over 128 steps"), &programs);
+    for (name, edits) in &kinds {
+        edit_row(name, edits);
     }
-    single_row("fresh table", &telephone::fresh(128).table, None);
-    single_row("chain of 127, freed", &chain(false), Some((0, 0)));
-    single_row("chain of 127, taken back upward", &chain(true), Some((0, 0)));
-    single_row("chain of 127, taken back downward", &falling(false), Some((0, 0)));
-    single_row("dense chain, taken back upward", &dense_chain(), Some((0, 0)));
-    single_row("dense chain, taken back downward", &falling(true), Some((0, 0)));
-    println!("ratio: the proved clearing by the proved soundness test alone, medians\n");
-    println!("Deepest stack: {} bytes (key line whose clearing takes 127 steps back, table and reply included)", deepest());
-    println!("Table: {} bytes", std::mem::size_of::<Table>());
+
+    let freed = chain(1..128, Chain::Free);
+    let taken_back = [
+        ("upward", chain(1..128, Chain::Held)),
+        ("downward", chain((1..128).rev(), Chain::Held)),
+        ("in the worst order", chain(zigzag(), Chain::Held)),
+        ("upward, no exit empty", chain(1..128, Chain::Dense)),
+        ("downward, no exit empty", chain((1..128).rev(), Chain::Dense)),
+    ];
+    head("Soundness test of one table", &["(a)", "(b)", "(d)"]);
+    test_row("fresh, capacity 128", &fresh(128));
+    for ((name, _), table) in kinds.iter().zip(&tables) {
+        test_row(&format!("after the edits, {name}"), table);
+    }
+    let test = test_row("chain of 127 steps", &freed);
+    test_row("chain of 127 steps, no exit empty", &taken_back[3].1);
+
+    head("Copying a table and clearing an exit", &programs);
+    let clearing = clear_row("127 steps freed", &freed, (127, 127));
+    for (name, table) in &taken_back {
+        clear_row(&format!("127 taken back {name}"), table, (127, 0));
+    }
+    println!("The worst order is 1, 127, 2, 126 and so on. Freeing 127 steps takes (a) {:.2} times its soundness test.\n", clearing.median() / test.median());
+
+    keys::print();
+
+    let held = &taken_back[0].1;
+    let size = size_of::<Table>();
+    let clear = stack(&freed, |t| raw::clear(t, 0, 0)).max(stack(held, |t| raw::clear(t, 0, 0)));
+    let line = stack(held, |t| raw::key_line(t, b"H*30000A"));
+    println!("\nDeepest stack of (a) in bytes, with the caller's table of {size}: clearing {}, key line {}", clear + size, line + size);
+}
+
+#[cfg(test)]
+mod tests {
+    use super::*;
+
+    #[test]
+    fn programs_agree() {
+        for (_, edits) in kinds() {
+            agree(&edits);
+        }
+    }
+
+    #[test]
+    fn verdicts_agree() {
+        let (sound, unsound) = verdicts();
+        assert!(sound > 10_000 && unsound > 50_000, "{sound} sound, {unsound} not");
+    }
+
+    /// Every chain that is timed, cleared once by all four.
+    #[test]
+    fn chains_agree() {
+        let orders: [Vec<u16>; 3] =
+            [(1..128).collect(), (1..128).rev().collect(), zigzag().collect()];
+        for order in orders {
+            for how in [Chain::Free, Chain::Held, Chain::Dense] {
+                let table = chain(order.iter().copied(), how);
+                let edit = Command::Clear { step: 0, exit: 0 };
+                let (mut a, mut b, mut d) = (table.clone(), table.clone(), table.clone());
+                let answer = proved_edit(&mut a, edit);
+                assert_eq!(counted_edit(&mut b, edit), answer);
+                assert_eq!(tuned_edit(&mut d, edit), answer);
+                assert!(a == b && a == d);
+            }
+        }
+    }
 }

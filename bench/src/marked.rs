@@ -1,6 +1,8 @@
 //! (c) The plain plan in Rust, with no bits and no counters: after each clearing, what step 0 reaches is marked and the rest is taken out.
 //! It has no table that could be unsound, so it makes no soundness test; it cannot answer the doubtful count.
 
+use telephone::raw::Table;
+
 #[derive(Clone)]
 pub struct Plan {
     capacity: u16,
@@ -21,6 +23,26 @@ impl Plan {
             contents: [0; 128],
             targets: [[0; 4]; 128],
         }
+    }
+
+    /// The plan of a sound table.
+    pub fn of(table: &Table) -> Plan {
+        let mut plan = Plan { last: table.last, used: 0, ..Plan::fresh(table.capacity) };
+        for step in 0..128 {
+            plan.used |= u128::from(table.used[step]) << step;
+            plan.targets[step] = std::array::from_fn(|exit| table.targets[step * 4 + exit] as u8);
+        }
+        (plan.kinds, plan.contents) = (table.kinds, table.contents);
+        plan
+    }
+
+    /// Whether two plans are the same. What stands at steps out of use does not count.
+    pub fn agrees(&self, other: &Plan) -> bool {
+        let step = |plan: &Plan, i: usize| (plan.kinds[i], plan.contents[i], plan.targets[i]);
+        let numbers = |plan: &Plan| (plan.capacity, plan.last, plan.used);
+        let in_use = |i: &usize| self.used >> i & 1 == 1;
+        numbers(self) == numbers(other)
+            && (0..128).filter(in_use).all(|i| step(self, i) == step(other, i))
     }
 
     fn exit(&mut self, step: u16, exit: u16) -> Result<&mut u8, u16> {

@@ -1,37 +1,50 @@
 //! Images: written, loaded, damaged a byte at a time, cut, extended, with their records in any order; into buffers one byte short, exact and longer.
 
-use compare::{kept, lend};
+use compare::{kept, lend, with_buffer, Lent};
 use reference::calls::fresh;
 use reference::generate::Random;
 use reference::history::UNTOUCHED;
-use reference::image::{load, write, HEADER, RECORD};
+use reference::image::{length, load, write, HEADER, RECORD};
 use reference::table::Table;
+use telephone::raw;
+
+/// Loads an image over memory in which no table stands.
+fn loaded(bytes: &[u8]) -> (Table, raw::Reply) {
+    let mut lent = Lent::unmade();
+    let reply = raw::load_image(&mut lent.table, bytes);
+    assert!(lent.edges_stand(), "a byte beside the table was written");
+    (kept(&lent.table), reply)
+}
 
 /// Whether both programs answer a load alike; gives whether the image was accepted.
 fn loads_alike(bytes: &[u8]) -> bool {
-    let reply = telephone::load_image(bytes);
+    let (proved, reply) = loaded(bytes);
     let (table, answer) = load(bytes);
     assert_eq!((reply.refusal, reply.first, reply.second), (answer.refusal, 0, 0), "{bytes:?}");
-    assert!(kept(reply.table) == table, "another table of {bytes:?}");
+    assert!(proved == table, "another table of {bytes:?}");
     answer.refusal == 0
 }
 
 /// The image that the proved code writes, held to the second program's, with the buffer one byte short, exact and longer.
 fn image_of(table: &Table) -> Vec<u8> {
-    let length = HEADER + RECORD * usize::from(table.size());
-    for room in [0, length - 1, length, length + 1, length + 77] {
-        let (mut lent, mut second) = (vec![UNTOUCHED; room], vec![UNTOUCHED; room]);
-        let reply = telephone::write_image(lend(table), &mut lent);
+    let proved = lend(table);
+    let needed = HEADER + RECORD * usize::from(table.size());
+    let reply = raw::image_length(&proved);
+    assert_eq!((reply.refusal, reply.length), (0, length(table).first));
+    assert_eq!(usize::from(reply.length), needed);
+    for room in [0, needed - 1, needed, needed + 1, needed + 77] {
+        let (reply, lent) = with_buffer(room, |bytes| raw::write_image(&proved, bytes));
+        let mut second = vec![UNTOUCHED; room];
         let answer = write(table, &mut second);
         assert_eq!((reply.refusal, reply.length), (answer.refusal, answer.first));
-        assert_eq!(reply.refusal, if room < length { 11 } else { 0 });
+        assert_eq!(reply.refusal, if room < needed { 11 } else { 0 });
         assert!(lent == second, "lent bytes differ");
-        assert!(lent[if room < length { 0 } else { length }..]
-            .iter()
-            .all(|&byte| byte == UNTOUCHED));
+        let past = if room < needed { 0 } else { needed };
+        assert!(lent[past..].iter().all(|&byte| byte == UNTOUCHED));
     }
-    let mut image = vec![0; length];
-    assert_eq!(telephone::write_image(lend(table), &mut image).refusal, 0);
+    let mut image = vec![0; needed];
+    assert_eq!(raw::write_image(&proved, &mut image).refusal, 0);
+    assert!(kept(&proved) == *table, "writing changed the table");
     image
 }
 
@@ -46,10 +59,7 @@ fn images_written_and_loaded() {
     for table in tables(0..300) {
         let image = image_of(&table);
         assert!(loads_alike(&image));
-        assert!(
-            kept(telephone::load_image(&image).table) == table,
-            "the image loads as another table"
-        );
+        assert!(loaded(&image).0 == table, "the image loads as another table");
     }
 }
 
@@ -63,10 +73,7 @@ fn records_in_any_order() {
         random.shuffle(&mut records);
         let shuffled = [header, &records.concat()].concat();
         assert!(loads_alike(&shuffled));
-        assert!(
-            kept(telephone::load_image(&shuffled).table) == table,
-            "the order of records matters"
-        );
+        assert!(loaded(&shuffled).0 == table, "the order of records matters");
     }
 }
 

@@ -1,88 +1,132 @@
-//! The deepest calls keep to 47 kB of stack, the tables passed and handed back included.
+//! Every call keeps to 16 kB of stack, the caller's table counted. Each is measured by itself, on tables where it has the most to do.
 
+use compare::lend;
 use compare::stack::depth;
-use compare::{kept, lend};
 use reference::calls::{add, fresh, link};
 use reference::table::Table;
 use std::hint::black_box;
+use telephone::{raw, Exit, Kind};
 
-/// A third more than the deepest call takes.
-const LIMIT: usize = 47 * 1024;
+const LIMIT: usize = 16 * 1024;
+const TABLE: usize = size_of::<raw::Table>();
 
-/// A full table whose 127 steps stand in one chain, step i held by exit `exit` of the step before it.
-fn chain(exit: u16) -> Table {
+/// A table of 128 places with a chain of steps, step i held by exit `exit` of the step before it.
+fn chain(steps: u16, exit: u16) -> Table {
     let (mut table, _) = fresh(128);
-    for step in 0..127 {
+    for step in 0..steps {
         assert_eq!(add(&mut table, step, exit, 1, 0).refusal, 0);
     }
     table
 }
 
-/// The same, with a weak link from step 0 to step 1 that takes all steps back when the strong one is cleared.
+/// A full chain, with a weak link from step 0 to step 1 that takes all steps back when the strong one is cleared.
 fn held(exit: u16) -> Table {
-    let mut table = chain(exit);
+    let mut table = chain(127, exit);
     assert_eq!(link(&mut table, 0, exit, 0, (exit + 1) % 4).refusal, 0);
     table
 }
 
-/// The stack that a call takes on a table.
-fn measured<R>(name: &str, table: &Table, call: impl Fn(telephone::Table) -> R) -> usize {
-    let table = lend(table);
-    let mut reply = None;
-    let bytes = depth(|| reply = Some(call(table.clone())));
-    black_box(reply);
-    println!("{bytes:6} bytes of stack: {name}");
-    bytes
+/// The largest image.
+fn image_of(table: &Table) -> [u8; 2570] {
+    let mut image = [0; 2570];
+    let reply = raw::write_image(&lend(table), &mut image);
+    assert_eq!((reply.refusal, reply.length), (0, 2570));
+    image
+}
+
+/// A call by name, and the stack that it takes. It gives a number, which is checked. The table stands outside the stack that is measured; its
+/// bytes are added.
+fn taken(
+    name: &'static str,
+    table: &Table,
+    number: u16,
+    mut call: impl FnMut(&mut raw::Table) -> u16,
+) -> (&'static str, usize) {
+    let mut table = lend(table);
+    let mut given = None;
+    let bytes = depth(|| given = Some(call(black_box(&mut table))));
+    assert_eq!(given, Some(number), "{name}");
+    (name, bytes + TABLE)
+}
+
+/// Every call on chains along an exit.
+fn calls(exit: u16) -> Vec<(&'static str, usize)> {
+    let (chain, open, held) = (chain(127, exit), chain(126, exit), held(exit));
+    let mut unsound = chain.clone();
+    unsound.counts[255] += 1;
+    let image = image_of(&chain);
+    let (mut buffer, mut trace) = ([0; 2570], [0; 127]);
+    let results = [exit as u8; 127];
+    let adds = format!("H*1126{exit}1099A").into_bytes();
+    let links = format!("H*2000{exit}127{exit}A").into_bytes();
+    let clears = format!("H*3000{exit}A").into_bytes();
+    vec![
+        taken("edition", &chain, 2, |_| raw::edition()),
+        taken("fresh", &chain, 0, |t| raw::fresh(t, 128).refusal),
+        taken("fresh, refused", &chain, 2, |t| raw::fresh(t, 129).refusal),
+        taken("soundness test", &chain, 1, |t| raw::is_sound(t)),
+        taken("soundness test that fails", &unsound, 0, |t| raw::is_sound(t)),
+        taken("counts", &chain, 128, |t| raw::counts(t).first),
+        taken("image length", &chain, 2570, |t| raw::image_length(t).length),
+        taken("read", &chain, 1, |t| raw::read(t, 127).kind),
+        taken("add", &open, 127, |t| raw::add(t, 126, exit, 1, 0).first),
+        taken("add, refused as full", &chain, 8, |t| raw::add(t, 127, exit, 1, 0).refusal),
+        taken("link", &chain, 0, |t| raw::link(t, 0, exit, 127, exit).refusal),
+        taken("clear, 127 freed", &chain, 127, |t| raw::clear(t, 0, exit).second),
+        taken("clear, 127 taken back", &held, 127, |t| raw::clear(t, 0, exit).first),
+        taken("trial", &chain, 127, |t| raw::trial(t, &results, &mut trace).last),
+        taken("write image", &chain, 2570, |t| raw::write_image(t, &mut buffer).length),
+        taken("load image", &open, 0, |t| raw::load_image(t, &image).refusal),
+        taken("load image, refused", &open, 12, |t| raw::load_image(t, &image[1..]).refusal),
+        taken("key line that adds", &open, 127, |t| raw::key_line(t, &adds).first),
+        taken("key line that links", &chain, 0, |t| raw::key_line(t, &links).refusal),
+        taken("key line, 127 freed", &chain, 127, |t| raw::key_line(t, &clears).second),
+        taken("key line, 127 taken back", &held, 127, |t| raw::key_line(t, &clears).first),
+        taken("key line that counts", &chain, 128, |t| raw::key_line(t, b"H*4A").first),
+        taken("key line, refused", &chain, 9, |t| raw::key_line(t, b"H*5A").refusal),
+    ]
 }
 
 #[test]
-fn deepest_calls_keep_to_the_limit() {
-    let mut deepest = 0;
-    let mut image = vec![0; 2570];
-    assert_eq!(telephone::write_image(lend(&chain(0)), &mut image).refusal, 0);
-    for exit in 0..4 {
-        let (chain, held) = (chain(exit), held(exit));
-        let freed = telephone::clear(lend(&chain), 0, exit);
-        assert_eq!((freed.refusal, freed.first, freed.second), (0, 127, 127));
-        let taken = telephone::clear(lend(&held), 0, exit);
-        assert_eq!((taken.refusal, taken.first, taken.second), (0, 127, 0));
-        assert!(telephone::plan_is_sound(taken.table.clone()) == 1 && kept(taken.table) != held);
-        let line = format!("H*3000{exit}A");
-        let calls = [
-            measured("soundness of a chain of 127", &chain, |t| telephone::plan_is_sound(t)),
-            measured("a clearing that frees 127", &chain, |t| telephone::clear(t, 0, exit)),
-            measured("a repair that takes 127 back", &held, |t| telephone::clear(t, 0, exit)),
-            measured("the same by key line", &held, |t| telephone::key_line(t, line.as_bytes())),
-            measured("add, refused as full", &chain, |t| telephone::add(t, 127, 0, 1, 0)),
-            measured("link", &chain, |t| telephone::link(t, 0, exit, 127, exit)),
-            measured("read", &chain, |t| telephone::read(t, 127)),
-            measured("trial", &chain, |t| telephone::trial(t, &[3], &mut [0])),
-            measured("write image", &chain, |t| telephone::write_image(t, &mut [0; 2570])),
-            measured("load image", &chain, |_| telephone::load_image(&image)),
-        ];
-        deepest = deepest.max(calls.into_iter().max().unwrap());
+fn every_call_keeps_to_the_limit() {
+    assert_eq!(LIMIT, telephone::STACK_MAX);
+    let mut deepest = calls(0);
+    for exit in 1..4 {
+        for (most, (_, bytes)) in deepest.iter_mut().zip(calls(exit)) {
+            most.1 = most.1.max(bytes);
+        }
     }
-    println!("{deepest:6} bytes of stack at most");
-    assert!(deepest <= LIMIT, "{deepest} bytes of stack");
+    println!("bytes of stack: with the caller's table, without");
+    for (name, bytes) in &deepest {
+        println!("{bytes:6} {:6}  {name}", bytes - TABLE);
+    }
+    deepest.retain(|(_, bytes)| *bytes > LIMIT);
+    assert!(deepest.is_empty(), "more than {LIMIT} bytes: {deepest:?}");
 }
 
 /// The measure sees what a function takes: this one keeps 100 kB on its stack, and would fail the test above.
 #[test]
 fn measure_sees_a_deep_stack() {
     let bytes = depth(|| {
-        black_box([1u8; 100_000]);
+        let mut deep = [0u8; 100_000];
+        black_box(&mut deep)[0] = 1;
     });
     assert!((100_000..110_000).contains(&bytes), "{bytes} bytes");
     assert!(depth(|| ()) < 512);
 }
 
-/// The deepest call in a thread with that much for everything. An overflow ends the test program.
+/// The deepest call in a thread with twice the limit for everything: the table, the call and what Rust needs to start a thread. An overflow ends
+/// the test program.
 #[test]
 fn deepest_call_in_a_small_thread() {
-    let table = Box::new(lend(&held(0)));
-    let thread = std::thread::Builder::new().stack_size(LIMIT).spawn(move || {
-        let reply = Box::new(telephone::key_line((*table).clone(), b"H*30000A"));
-        (reply.refusal, reply.first, reply.second)
-    });
-    assert_eq!(thread.unwrap().join().unwrap(), (0, 127, 0));
+    let visit = || {
+        let mut table = telephone::Table::fresh(128)?;
+        for step in 0..127 {
+            table.add(step, Exit::Answered, Kind::Contact(0))?;
+        }
+        table.link(0, Exit::Answered, 0, Exit::Engaged)?;
+        table.key_line(b"H*30000A")
+    };
+    let thread = std::thread::Builder::new().stack_size(2 * LIMIT).spawn(visit);
+    assert_eq!(thread.unwrap().join().unwrap(), Ok((127, 0)));
 }

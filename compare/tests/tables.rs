@@ -1,13 +1,12 @@
-//! Single calls on chosen tables: the cases of document 01, every refusal's order on wild tables, trials with traces of each length, and the types
-//! of the Rust crate.
+//! Single calls on chosen tables: the cases of document 01, every refusal's order on wild tables, and trials with traces of each length.
 
-use compare::{kept, lend, Pair};
+use compare::{kept, lend, Lent, Pair};
 use reference::calls::{fresh, Command, Fault};
 use reference::generate::{key_text, Random};
 use reference::history::Call;
 use reference::sound::sound;
 use reference::table::Table;
-use telephone::{Ending, Plan, Refusal};
+use telephone::raw;
 
 fn add(holder: u16, exit: u16, kind: u16, content: u16) -> Call {
     Call::Edit(Command::Add { holder, exit, kind, content })
@@ -29,16 +28,22 @@ fn case(capacity: u16, calls: &[(Call, [usize; 3])]) -> Table {
         assert_eq!(usize::from(outcome.refusal), *refusal, "{call:?}");
         assert_eq!(outcome.numbers[..2], [*first, *second], "{call:?}");
     }
-    pair.proved
+    pair.second
+}
+
+#[test]
+fn edition_fits() {
+    assert_eq!(telephone::check_edition(), Ok(()));
 }
 
 #[test]
 fn fresh_agrees() {
     for capacity in (0..=300).chain([32767, 32768, 65408, 65535]) {
-        let reply = telephone::fresh(capacity);
+        let mut lent = Lent::unmade();
+        let reply = raw::fresh(&mut lent.table, capacity);
         let (table, answer) = fresh(capacity);
         assert_eq!((reply.refusal, reply.first, reply.second), (answer.refusal, 0, 0));
-        assert!(kept(reply.table) == table, "fresh {capacity}");
+        assert!(kept(&lent.table) == table && lent.edges_stand(), "fresh {capacity}");
     }
 }
 
@@ -87,6 +92,7 @@ fn examples_of_document_01() {
     let long = vec![b'H'; 1 << 20];
     case(128, &[(Call::KeyLine(long), [9, 0, 0]), (Call::KeyLine(Vec::new()), [9, 0, 0])]);
     case(4, &[(Call::Write { buffer: 29 }, [11, 0, 0]), (Call::Write { buffer: 30 }, [0, 30, 0])]);
+    case(4, &[(Call::ImageLength, [0, 30, 0]), (Call::Edit(Command::Count), [0, 1, 3])]);
     case(1, &[(add(0, 0, 1, 0), [8, 0, 0])]);
     case(
         4,
@@ -110,8 +116,13 @@ fn examples_of_document_01() {
 
 /// Each call once, with arguments in range and out of it, on one table.
 fn every_call(table: &Table, random: &mut Random) {
-    let mut calls =
-        vec![Call::Read { step: 0 }, Call::Write { buffer: 2600 }, Call::KeyLine(b"H*4A".to_vec())];
+    let mut calls = vec![
+        Call::Read { step: 0 },
+        Call::Write { buffer: 2600 },
+        Call::ImageLength,
+        Call::Edit(Command::Count),
+        Call::KeyLine(b"H*4A".to_vec()),
+    ];
     for _ in 0..3 {
         let mut number = || random.pick(&[0, 0, 1, 1, 2, 3, 4, 7, 127, 128, 300, 65535]);
         let [a, b, c, d] = [number(), number(), number(), number()];
@@ -142,7 +153,7 @@ fn wild_tables() {
         for _ in 0..1 + seed % 3 {
             random.damage(&mut table);
         }
-        assert_eq!(telephone::plan_is_sound(lend(&table)), u16::from(sound(&table)), "seed {seed}");
+        assert_eq!(raw::is_sound(&lend(&table)), u16::from(sound(&table)), "seed {seed}");
         *if sound(&table) { &mut stayed } else { &mut broke } += 1;
         every_call(&table, &mut random);
     }
@@ -153,7 +164,7 @@ fn wild_tables() {
         for field in words(&mut table) {
             *field = word;
         }
-        assert_eq!(telephone::plan_is_sound(lend(&table)), 0);
+        assert_eq!(raw::is_sound(&lend(&table)), 0);
         every_call(&table, &mut random);
     }
     for bound in [2, 3, 129, 65536] {
@@ -163,7 +174,7 @@ fn wild_tables() {
             for field in words(&mut table).skip(from) {
                 *field = random.below(bound) as u16;
             }
-            assert_eq!(telephone::plan_is_sound(lend(&table)), u16::from(sound(&table)));
+            assert_eq!(raw::is_sound(&lend(&table)), u16::from(sound(&table)));
             every_call(&table, &mut random);
         }
     }
@@ -186,7 +197,7 @@ fn soundness_agrees_word_by_word() {
             for value in [0, 1, 2, 127, 128, 65535] {
                 let mut changed = table.clone();
                 *words(&mut changed).nth(at).unwrap() = value;
-                let found = telephone::plan_is_sound(lend(&changed));
+                let found = raw::is_sound(&lend(&changed));
                 assert_eq!(
                     found,
                     u16::from(sound(&changed)),
@@ -231,41 +242,4 @@ fn trials_agree() {
         }
     }
     assert!(open > 50 && spent > 50, "{open} open, {spent} spent");
-}
-
-/// The Rust crate's types: a plan is sound, a refusal is an error and changes nothing.
-#[test]
-fn plans_in_rust() {
-    let mut plan = Plan::fresh(4).unwrap();
-    assert_eq!(Plan::fresh(129), Err(Refusal::BadCapacity));
-    assert_eq!(plan.add(0, 0, 1, 0), Ok(1));
-    let before = plan.clone();
-    assert_eq!(plan.add(0, 0, 1, 0), Err(Refusal::ExitFilled));
-    assert_eq!(plan.add(0, 1, 3, 601), Err(Refusal::BadKind));
-    assert_eq!(plan.link(0, 1, 1, 0), Err(Refusal::ExitEmpty));
-    assert_eq!(plan.clear(2, 0), Err(Refusal::NotInUse));
-    assert_eq!(plan.clear(0, 4), Err(Refusal::BadExit));
-    assert_eq!(plan.key_line(b"H*5A"), Err(Refusal::NotKeyLine));
-    assert_eq!(plan, before);
-    assert_eq!(plan.link(0, 0, 1, 3), Ok(()));
-    assert_eq!(plan.read(1).map(|step| (step.targets, step.counts)), Ok(([0, 0, 0, 1], [1, 1])));
-    let mut trace = [9; 4];
-    let trial = plan.trial(&[0, 3, 3], &mut trace).unwrap();
-    assert_eq!((trial.ending, trial.last, trial.moves, trace), (Ending::Spent, 1, 3, [1, 1, 1, 9]));
-    assert_eq!(plan.trial(&[9], &mut trace), Err(Refusal::BadResult));
-    assert_eq!(plan.trial(&[0; 5], &mut trace), Err(Refusal::TooShort));
-    let mut image = [0; telephone::IMAGE_MAX];
-    let length = plan.write_image(&mut image).unwrap();
-    assert_eq!(length, 50);
-    assert_eq!(Plan::load(&image[..length]), Ok(plan.clone()));
-    assert_eq!(Plan::load(&image), Err(Refusal::NotAccepted));
-    assert_eq!(Plan::from_table(plan.table().clone()), Ok(plan.clone()));
-    assert_eq!(plan.key_line(b"H*4A"), Ok((2, 2)));
-    let cleared = plan.clear(0, 0).unwrap();
-    assert_eq!((cleared.doubtful, cleared.freed), (1, 1));
-    let mut table = plan.into_table();
-    table.used[0] = 0;
-    assert_eq!(Plan::from_table(table), Err(Refusal::NotSound));
-    let mut full = Plan::fresh(1).unwrap();
-    assert_eq!(full.add(0, 0, 1, 0).map_err(Refusal::number), Err(8));
 }

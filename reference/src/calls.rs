@@ -43,7 +43,7 @@ pub struct TrialAnswer {
     pub moves: usize,
 }
 
-/// What a key line can ask for. The first three are calls of their own too.
+/// What a key line can ask for. Each is a call of its own too.
 #[derive(Clone, Copy, PartialEq, Eq, Debug)]
 pub enum Command {
     Add { holder: u16, exit: u16, kind: u16, content: u16 },
@@ -99,6 +99,15 @@ pub fn link(
 /// Clears an exit; answers the steps made doubtful and the steps freed.
 pub fn clear(table: &mut Table, step: u16, exit: u16) -> Answer {
     edit(table, Command::Clear { step, exit }, Fault::None)
+}
+
+/// The steps in use and the free ones.
+pub fn counts(table: &Table) -> Answer {
+    if sound(table) {
+        Answer { refusal: 0, first: table.size(), second: table.capacity - table.size() }
+    } else {
+        bare(1)
+    }
 }
 
 /// All fields of a step.
@@ -162,7 +171,7 @@ pub fn edit(table: &mut Table, command: Command, fault: Fault) -> Answer {
         Command::Clear { step, exit } => {
             clearing::clear_exit(table, place(step.into(), exit.into()), fault)
         }
-        Command::Count => (table.size(), table.capacity - table.size()),
+        Command::Count => return counts(table),
     };
     Answer { refusal: 0, first, second }
 }

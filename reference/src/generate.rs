@@ -193,10 +193,10 @@ impl Generator {
         line
     }
 
-    /// A read, a trial, a writing or a key line.
+    /// A read, a trial, a writing, a length, a count or a key line.
     fn other(&mut self, plan: &Plan) -> Call {
         let random = &mut self.random;
-        match random.below(8) {
+        match random.below(10) {
             0 => Call::Read { step: random.place(plan, true).0 },
             1 => {
                 let highest = if random.once_in(6) { 5 } else { 4 };
@@ -206,6 +206,8 @@ impl Generator {
                 Call::Trial { results, trace }
             }
             2 => Call::Write { buffer: random.around(HEADER + RECORD * plan.steps.len()) },
+            3 => Call::ImageLength,
+            4 => Call::Edit(Command::Count),
             _ => Call::KeyLine(self.key_line(plan)),
         }
     }

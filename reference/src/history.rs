@@ -2,18 +2,19 @@
 //! Renders "A history is a list" and demand 3's list of what has to agree.
 
 use crate::calls::{edit, read, trial, Answer, Command, Fault};
-use crate::image::write;
+use crate::image::{length, write};
 use crate::keys::key_line_with;
 use crate::table::Table;
 
-/// A call of a history. A lent trace or buffer stands in it as its length. A count comes only
-/// as a key line.
+/// A call of a history. A lent trace or buffer stands in it as its length. A count that is no key
+/// line, and an image's length, are calls that the interface adds to document 01's.
 #[derive(Clone, PartialEq, Eq, Debug)]
 pub enum Call {
     Edit(Command),
     Read { step: u16 },
     Trial { results: Vec<u8>, trace: usize },
     Write { buffer: usize },
+    ImageLength,
     KeyLine(Vec<u8>),
 }
 
@@ -37,6 +38,7 @@ pub fn run(table: &mut Table, call: &Call, fault: Fault) -> Outcome {
             let mut lent = vec![UNTOUCHED; *buffer];
             plain(write(table, &mut lent), lent)
         }
+        Call::ImageLength => plain(length(table), Vec::new()),
         Call::Trial { results, trace } => {
             let mut lent = vec![UNTOUCHED; *trace];
             let answer = trial(table, results, &mut lent);

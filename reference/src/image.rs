@@ -11,6 +11,15 @@ pub const HEADER: usize = 10;
 /// Bytes of a step record.
 pub const RECORD: usize = 20;
 
+/// The length of a table's image.
+pub fn length(table: &Table) -> Answer {
+    if sound(table) {
+        Answer { first: encode(table).len() as u16, ..Default::default() }
+    } else {
+        bare(1)
+    }
+}
+
 /// Writes a table's image into a lent buffer; answers its length.
 pub fn write(table: &Table, buffer: &mut [u8]) -> Answer {
     let image = encode(table);

@@ -77,10 +77,10 @@ impl Plan {
                 Ok([None, None])
             }
             Call::Write { buffer } => {
-                let length = HEADER + RECORD * self.steps.len();
-                refuse_if(*buffer < length, 11)?;
-                Ok([Some(length as u16), Some(0)])
+                refuse_if(*buffer < self.image_length(), 11)?;
+                Ok([Some(self.image_length() as u16), Some(0)])
             }
+            Call::ImageLength => Ok([Some(self.image_length() as u16), Some(0)]),
         }
     }
 
@@ -118,6 +118,10 @@ impl Plan {
                 Ok([Some(size), Some(self.capacity - size)])
             }
         }
+    }
+
+    fn image_length(&self) -> usize {
+        HEADER + RECORD * self.steps.len()
     }
 
     /// A step in use, or refusal 3.

@@ -129,8 +129,8 @@ fn every_fault_is_found() {
         Fault::HighestFirst,
     ];
     for fault in faults {
-        let found = (0..18).filter_map(|seed| first_difference(seed, 200, fault)).count();
-        assert!(found >= 3, "{fault:?} is found by {found} histories of 18");
+        let found = (0..54).filter_map(|seed| first_difference(seed, 200, fault)).count();
+        assert!(found >= 9, "{fault:?} is found by {found} histories of 54");
     }
-    assert_eq!((0..18).find_map(|seed| first_difference(seed, 200, Fault::None)), None);
+    assert_eq!((0..54).find_map(|seed| first_difference(seed, 200, Fault::None)), None);
 }

@@ -6,7 +6,7 @@ mod common;
 use common::image_of;
 use reference::calls::{add, clear, fresh, link, Answer};
 use reference::generate::Random;
-use reference::image::{load, write};
+use reference::image::{length, load, write};
 use reference::plan::{plan_of, Plan};
 use reference::table::Table;
 
@@ -191,6 +191,7 @@ fn round_trips() {
     for _ in 0..300 {
         let table = random.sound_table();
         let image = image_of(&table);
+        assert_eq!(usize::from(length(&table).first), image.len());
         let mut records: Vec<&[u8]> = image[10..].chunks(20).collect();
         random.shuffle(&mut records);
         let shuffled = [&image[..10], &records.concat()].concat();

@@ -1,8 +1,10 @@
 //! Each row of "Reasons for no" with its example, each call's order of refusals, and numbers
 //! that would wrap. A refused call changes neither table nor buffer.
 
-use reference::calls::{add, clear, fresh, link, read, trial, Answer, ReadAnswer, TrialAnswer};
-use reference::image::{load, write};
+use reference::calls::{
+    add, clear, counts, fresh, link, read, trial, Answer, ReadAnswer, TrialAnswer,
+};
+use reference::image::{length, load, write};
 use reference::keys::key_line;
 use reference::table::Table;
 
@@ -60,6 +62,7 @@ fn examples_of_the_table() {
     refuses(1, &unsound, |t| clear(t, 9, 9));
     refuses(1, &unsound, |t| key_line(t, b"H*5A"));
     refuses(1, &unsound, |t| key_line(t, b"H*4A"));
+    assert_eq!((counts(&unsound), length(&unsound)), (no(1), no(1)));
     read_refuses(1, &unsound, 9);
     trial_refuses(1, &unsound, &[4], 0);
     write_refuses(1, &unsound, 0);

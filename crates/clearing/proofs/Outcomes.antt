@@ -1,34 +1,31 @@
--- What the lists come to as the outcome of the call. Assumes nothing.
+-- What the table comes to as the outcome of the call: rules 2 to 4 from what each function says, rule 1, and the refusals. Assumes nothing.
 use mathlib.Core.Path.{_≡_, refl, sym, _∙_, ap, ap₂, subst}
-use mathlib.Core.Bool.{Bool, true, false, _&&_, not}
+use mathlib.Core.Bool.{Bool, true, false, _&&_, not, cond}
 use mathlib.Core.Logic.{⊎-elim}
 use mathlib.Core.List.{List}
-use Prim.Native.Nat.{ℕ, _+_, _*_, _≤_, _<_}
+use Prim.Native.Nat.{ℕ, _≤_, _<_}
 use native.Mathlib.Omega.{arith}
 use lib.ListN.{getD, List·getD-eq-default}
-use lib.Dec.{eqb, leb, ltb}
-use borrow.Author.Tests.{lt-ltb, le-ltb, le-leb, lt-leb, eq-eqb, ne-eqb}
+use lib.Dec.{eqb, ltb}
+use borrow.Author.Tests.{lt-ltb, le-ltb, lt-leb}
 use Rattle.finite.specs.Below.{one, tabulate}
 use Rattle.finite.specs.Reach.{marked, reach}
 use Rattle.finite.proofs.Bools.{and-left, or-right, clash, refute}
-use Rattle.finite.proofs.Below.{le-or-lt, length-tabulate, getD-tabulate}
+use Rattle.finite.proofs.Below.{le-or-lt, length-tabulate, getD-tabulate, count-pos, rounds-keep}
 use Rattle.finite.proofs.Select.{tabulate-entries}
-use Rattle.table.specs.declared.Table.{Table}
-use Rattle.table.specs.declared.Answer.the-variants.{Given, Refused}
-use Rattle.table.specs.declared.Outcome.{Outcome}
-use Rattle.table.specs.Table.{places, exits, counters, exitPlace, counterPlace, inUse, ownBit, targetOf, linkBit, counterOf, holds, strong, stronglyLinked}
-use Rattle.table.specs.Sound.{Sound, sound}
-use Rattle.table.specs.Answer.{first}
+use Rattle.table.specs.declared.Answer.the-variants.{Given}
+use Rattle.table.specs.Table.{Table, places, exits, inUse, ownBit, targetOf, linkBit, counterOf, holds, strong, stronglyLinked, withLinks}
+use Rattle.table.specs.Sound.{Sound}
+use Rattle.table.specs.Answer.{exitEmpty, first}
 use Rattle.table.specs.Calls.{relink}
-use Rattle.table.specs.Clear.{Repair, emptied, heldStrongly, stops, doubtful, repair, repairOf, unlinked, blanked, eachDoubtful, release, size, repaired, cleared, clearRefusal, clearCall}
-use Rattle.table.proofs.Links.{target-holds, target-empty, used-place, bit-strong}
-use Rattle.table.proofs.Formed.{Formed, sound-formed}
+use Rattle.table.specs.Clear.{Repair, emptied, heldStrongly, stops, doubtful, repair, repairOf, unlinked, blanked, eachDoubtful, release, size, repaired, cleared, clearRefusal}
+use Rattle.table.proofs.Links.{bit-strong}
+use Rattle.table.proofs.Formed.{Formed}
+use Rattle.table.proofs.Sound.{sound-test}
 use Rattle.table.proofs.Edits.{weak-bit}
-use Rattle.table.proofs.Calls.{unless-zero, unless-refused}
-use Rattle.withdraw.specs.Withdraw.{rebuilt, assembled, Emptied}
-use Rattle.repairing.specs.Repairing.{underRepair, isOne, asMarks, Held, Standing, Repairable}
-use Rattle.clearing.specs.Clearing.{handed, Clearable}
-use Rattle.repairing.proofs.Laws.{standing-held}
+use Rattle.table.proofs.Calls.{ClearFits}
+use Rattle.words.specs.Words.{Becomes}
+use Rattle.repairing.specs.Repairing.{underRepair, isOne, asMarks, Repairable}
 
 -- The marks that the search hands back are the definition's.
 module _ (u : Table) where
@@ -54,171 +51,123 @@ module _ (u : Table) where
       back true = refl
       back false = refl
 
-  pub found-marks : u .capacity ≤ places → asMarks (u .capacity) found ≡ doubtful u
+  found-marks : u .capacity ≤ places → asMarks (u .capacity) found ≡ doubtful u
   unfolding asMarks
   found-marks m =
       tabulate-entries (u .capacity) (isOne found) (doubtful u) false (unfold doubtful in length-tabulate (u .capacity) _)
       (λ i l. found-at i (omega arith))
 
-  pub found-able : (n : ℕ) (doubt : List ℕ) → n ≡ u .capacity → doubt ≡ found → Formed u →
-      Repairable n (u .own) (u .targets) (u .bits) (u .counts) doubt
+  pub found-able : (n : ℕ) (doubt : List ℕ) → n ≡ u .capacity → doubt ≡ found → Formed u → Repairable u n doubt
   found-able n doubt q z f =
       let m = f .most in
       record {
-        table = u;
         capacity = sym q;
         formed = f;
         doubted = λ i l h. doubtful-used i (sym (found-at i (omega arith)) ∙ subst (λ (d : List ℕ). isOne d i ≡ true) z h);
       }
 
--- Rules 2 to 4, from what each function says of its lists.
-module _ (u : Table) (n : ℕ) (q : n ≡ u .capacity) (most : u .capacity ≤ places)
-    (doubt₀ own bits counts doubt : List ℕ) (z : doubt₀ ≡ found u)
-    (mended : (t : Table) → t .capacity ≡ n →
-    underRepair t own (u .targets) bits counts doubt ≡ repair n (underRepair t (u .own) (u .targets) (u .bits) (u .counts) doubt₀))
+-- Where no step is marked, nothing is freed.
+release-none : (v : Table) (d : List Bool) → size d (v .capacity) ≡ 0 → v ≡ release v d
+unfolding release size
+release-none v d z = sym (ap (eachDoubtful d blanked) (each-none unlinked) ∙ each-none blanked)
   where
-    marks : asMarks (u .capacity) doubt₀ ≡ doubtful u
-    marks = ap (asMarks (u .capacity)) z ∙ found-marks u most
+    unmarked : (k : ℕ) → k < v .capacity → marked d k ≡ false
+    unmarked k l = refute (marked d k) (λ h. let p = count-pos (v .capacity) (marked d) k l h in omega arith)
 
-    begun : underRepair u (u .own) (u .targets) (u .bits) (u .counts) doubt₀ ≡ record { table = u; doubt = doubtful u }
-    begun = ap (λ (d : List Bool). record { table = u; doubt = d }) marks
+    each-none : (f : Table → ℕ → Table) → eachDoubtful d f v ≡ v
+    each-none f =
+        unfold eachDoubtful in
+        rounds-keep (λ (x : Table). x ≡ v) (v .capacity) (λ i x. cond (marked d i) (f x i) x) v (λ k l x p. rw (unmarked k l) p) refl
 
-    over : underRepair u own (u .targets) bits counts doubt ≡ repairOf u
-    unfolding repairOf
-    over = mended u (sym q) ∙ ap₂ repair q begun
+-- Rules 2 to 4, from what each function says: u is under repair and has become v, with the marks of `doubt` left.
+pub record Mended (u v : Table) (n : ℕ) (doubt₀ doubt : List ℕ) : Type 0 where
+  pub formed : Formed u
+  pub size : n ≡ u .capacity
+  pub begun : doubt₀ ≡ found u
+  pub same : underRepair v doubt ≡ repair n (underRepair u doubt₀)
+  pub capacity : v .capacity ≡ n
 
-    pub repaired-lists : (targets′ bits′ counts′ used kinds contents own″ counts″ : List ℕ) (doubts freed : ℕ) →
-        ((t : Table) (own : List ℕ) → t .capacity ≡ n →
-        assembled t own targets′ bits′ counts′ ≡ eachDoubtful (asMarks n doubt) unlinked (assembled t own (u .targets) bits counts)) →
-        ((t : Table) (targets bits : List ℕ) → t .capacity ≡ n →
-        rebuilt t used kinds contents own″ targets bits counts″ ≡
-        eachDoubtful (asMarks n doubt) blanked (rebuilt t (u .used) (u .kinds) (u .contents) own targets bits counts′)) →
-        doubts ≡ size (asMarks n doubt₀) n → freed ≡ size (asMarks n doubt) n →
-        handed (Given doubts freed) (rebuilt u used kinds contents own″ targets′ bits′ counts″) ≡ repaired u
-    unfolding repaired release
-    repaired-lists targets′ bits′ counts′ used kinds contents own″ counts″ doubts freed parted blank x y =
-        let d : asMarks n doubt ≡ repairOf u .doubt =
-        ap (λ (m : ℕ). asMarks m doubt) q ∙ ap (λ (r : Repair). r .doubt) over in
-        let x′ : doubts ≡ size (doubtful u) (u .capacity) =
-        x ∙ ap (λ (m : ℕ). size (asMarks m doubt₀) m) q ∙ ap (λ (l : List Bool). size l (u .capacity)) marks in
-        let y′ : freed ≡ size (repairOf u .doubt) (u .capacity) = y ∙ ap₂ size d q in
-        let v : rebuilt u used kinds contents own″ targets′ bits′ counts″ ≡
-        eachDoubtful (repairOf u .doubt) blanked (eachDoubtful (repairOf u .doubt) unlinked (repairOf u .table)) =
-        blank u targets′ bits′ (sym q)
-        ∙ ap (eachDoubtful (asMarks n doubt) blanked) (parted u own (sym q))
-        ∙ ap₂ (λ (l : List Bool) (w : Table). eachDoubtful l blanked (eachDoubtful l unlinked w)) d (ap (λ (r : Repair). r .table) over) in
-        λ i. record { answer = Given (x′ i) (y′ i); table = v i }
+module _ {u v : Table} {n : ℕ} {doubt₀ doubt : List ℕ} (m : Mended u v n doubt₀ doubt) where
+  marks : asMarks (u .capacity) doubt₀ ≡ doubtful u
+  marks = ap (asMarks (u .capacity)) (m .begun) ∙ found-marks u (m .formed .most)
 
--- Rule 1.
-module _ (t : Table) (i e : ℕ) (m : Clearable t i e) where
-  pub cleared-held : Held (t .targets) (t .bits) (t .counts) i e
-  cleared-held =
-      let x : Standing (t .own) (t .targets) (t .bits) (t .counts) i = record { table = t; formed = sound-formed (m .0); used = m .1 .used } in
-      standing-held x e (m .1 .exit)
+  over : underRepair v doubt ≡ repairOf u
+  unfolding repairOf
+  over = m .same ∙ ap₂ (λ (k : ℕ) (d : List Bool). repair k (record { table = u; doubt = d })) (m .size) marks
 
-  -- the target and the bit of the link, and the lists with the exit emptied
-  module _ (j b : ℕ) (x : j ≡ getD (t .targets) (i * exits + e) 0) (y : b ≡ getD (t .bits) (i * exits + e) 0)
-      (targets bits counts : List ℕ) (q : assembled t (t .own) targets bits counts ≡ relink t i e 0 0) where
-    abbrev out : Table
-    out = assembled t (t .own) targets bits counts
+  left : asMarks n doubt ≡ repairOf u .doubt
+  left = ap (λ (k : ℕ). asMarks k doubt) (sym (m .capacity)) ∙ ap (λ (r : Repair). r .doubt) over
 
-    out-emptied : out ≡ emptied t i e
-    unfolding emptied
-    out-emptied = q
+  pub repaired-answer : (doubts freed : ℕ) → doubts ≡ size (asMarks n doubt₀) n → freed ≡ size (asMarks n doubt) n →
+      Given doubts freed ≡ repaired u .answer
+  unfolding repaired
+  repaired-answer doubts freed x y =
+      let z : doubts ≡ size (doubtful u) (u .capacity) =
+      x ∙ ap (λ (k : ℕ). size (asMarks k doubt₀) k) (m .size) ∙ ap (λ (d : List Bool). size d (u .capacity)) marks in
+      ap₂ Given z (y ∙ ap₂ size left (m .size))
 
-    pub stops-weak : (b ≡ getD (t .own) j 0 → ⊥) → handed (Given 0 0) out ≡ cleared t i e
-    unfolding stops linkBit ownBit targetOf exitPlace
-    stops-weak d =
-        let w : strong t i e ≡ false = weak-bit t i e (λ z. d (y ∙ z ∙ sym (ap (λ (k : ℕ). getD (t .own) k 0) x))) in
-        let h : stops t i e ≡ true = rw w in
-        rw h (ap (handed (Given 0 0)) out-emptied)
+  pub repaired-table : release v (asMarks n doubt) ≡ repaired u .table
+  unfolding repaired
+  repaired-table = ap₂ release (ap (λ (r : Repair). r .table) over) left
 
-    module _ (o : b ≡ getD (t .own) j 0) where
-      held-left : heldStrongly (emptied t i e) (targetOf t i e) ≡ ltb 0 (getD counts (j * counters + b) 0)
-      unfolding heldStrongly counterOf counterPlace ownBit targetOf exitPlace
-      held-left =
-          subst
-          (λ (v : Table). ltb 0 (getD (v .counts) (getD (t .targets) (i * exits + e) 0 * counters + getD (v .own) (getD (t .targets) (i * exits + e) 0) 0) 0) ≡ ltb 0 (getD counts (j * counters + b) 0))
-          out-emptied
-          (rw (sym x, sym o) refl)
+  -- where no mark is left, nothing is to be freed
+  pub repaired-whole : size (asMarks n doubt) n ≡ 0 → v ≡ repaired u .table
+  repaired-whole z = release-none v (asMarks n doubt) (ap (size (asMarks n doubt)) (m .capacity) ∙ z) ∙ repaired-table
 
-      strong-here : strong t i e ≡ true
-      unfolding linkBit ownBit targetOf exitPlace
-      strong-here = bit-strong t i e (m .1 .filled) (sym y ∙ o ∙ ap (λ (k : ℕ). getD (t .own) k 0) x)
+-- Rule 1: exit e of step i held a link to j with bit b, and u is the table with the exit emptied.
+pub record TakenOut (t : Table) (i e : ℕ) (u : Table) (j b : ℕ) : Type 0 where
+  pub fits : ClearFits t i e
+  pub table : u ≡ relink t i e 0 0
+  pub target : j ≡ targetOf t i e
+  pub bit : b ≡ linkBit t i e
 
-      pub stops-held : (getD counts (j * counters + b) 0 ≡ 0 → ⊥) → handed (Given 0 0) out ≡ cleared t i e
-      unfolding stops
-      stops-held d =
-          let h : stops t i e ≡ true = or-right (not (strong t i e)) _ (held-left ∙ lt-ltb 0 _ (positive (getD counts (j * counters + b) 0) d)) in
-          rw h (ap (handed (Given 0 0)) out-emptied)
-        where
-          positive : (n : ℕ) → (n ≡ 0 → ⊥) → 0 < n
-          positive n f = omega arith
+module _ {t : Table} {i e : ℕ} {u : Table} {j b : ℕ} (r : TakenOut t i e u j b) where
+  own-same : ownBit u j ≡ ownBit t (targetOf t i e)
+  own-same = ap₂ ownBit (r .table) (r .target) ∙ (unfold relink withLinks ownBit in refl)
 
-      module _ (z : getD counts (j * counters + b) 0 ≡ 0) where
-        goes-on : stops t i e ≡ false
-        unfolding stops
-        goes-on =
-            let l : getD counts (j * counters + b) 0 ≤ 0 = omega arith in
-            let h : heldStrongly (emptied t i e) (targetOf t i e) ≡ false = held-left ∙ le-ltb 0 _ l in
-            rw (strong-here, h)
+  pub stops-weak : (b ≡ ownBit u j → ⊥) → stops t i e ≡ true
+  unfolding stops
+  stops-weak d = let w : strong t i e ≡ false = weak-bit t i e (λ z. d (r .bit ∙ z ∙ sym own-same)) in rw w
 
-        pub just-emptied : (start : ℕ) → start ≡ getD (t .targets) (i * exits + e) 0 → Emptied out start
-        unfolding targetOf exitPlace
-        just-emptied start k =
-            (t, i, e, m .0, m .1 .used, m .1 .exit, m .1 .filled, out-emptied, goes-on, k)
+  module _ (o : b ≡ ownBit u j) where
+    held-left : heldStrongly (emptied t i e) (targetOf t i e) ≡ ltb 0 (counterOf u j b)
+    unfolding heldStrongly emptied
+    held-left =
+        sym
+        (ap (λ (k : ℕ). ltb 0 (counterOf u j k)) o ∙
+        ap₂ (λ (v : Table) (k : ℕ). ltb 0 (counterOf v k (ownBit v k))) (r .table) (r .target))
 
-        pub went-on : repaired out ≡ cleared t i e
-        went-on = let h = goes-on in rw h (ap repaired out-emptied)
+    pub stops-held : (counterOf u j b ≡ 0 → ⊥) → stops t i e ≡ true
+    unfolding stops
+    stops-held d = or-right (not (strong t i e)) _ (held-left ∙ lt-ltb 0 _ (positive (counterOf u j b) d))
+      where
+        positive : (n : ℕ) → (n ≡ 0 → ⊥) → 0 < n
+        positive n f = omega arith
 
--- The refusals, in their order.
-module _ (t : Table) (i e : ℕ) where
-  abbrev refused : ℕ → Outcome
-  refused n = handed (Refused n) t
+    pub goes-on : counterOf u j b ≡ 0 → stops t i e ≡ false
+    unfolding stops
+    goes-on z =
+        let s : strong t i e ≡ true = bit-strong t i e (r .fits .filled) (sym (r .bit) ∙ o ∙ own-same) in
+        let h : heldStrongly (emptied t i e) (targetOf t i e) ≡ false = held-left ∙ le-ltb 0 (counterOf u j b) (omega arith) in
+        rw (s, h)
 
-  refuses : (n : ℕ) → clearRefusal t i e ≡ n → (n ≡ 0 → ⊥) → refused n ≡ clearCall t i e
-  unfolding clearCall
-  refuses n q d = sym (unless-refused (clearRefusal t i e) t _ (λ z. d (sym q ∙ z)) ∙ ap refused q)
+-- what a clearing comes to where rule 1 stops
+pub stopped : {w v : List ℕ} (t : Table) (i e : ℕ) → stops t i e ≡ true → Becomes w v (relink t i e 0 0) →
+    (Given 0 0 ≡ cleared t i e .answer) × Becomes w v (cleared t i e .table)
+unfolding emptied
+stopped t i e h b = rw h (refl, b)
 
-  pub refuses-unsound : sound t ≡ false → refused 1 ≡ clearCall t i e
+-- and where it goes on
+pub went-on : {u : Table} (t : Table) (i e : ℕ) → u ≡ relink t i e 0 0 → stops t i e ≡ false → repaired u ≡ cleared t i e
+unfolding emptied
+went-on t i e q h = rw h (ap repaired q)
+
+-- The last refusal, and none.
+module _ (t : Table) (i e : ℕ) (s : Sound t) (p : (inUse t i ≡ true) × (e < exits)) where
+  pub empty-stopped : holds t i e ≡ false → exitEmpty ≡ clearRefusal t i e
   unfolding clearRefusal first
-  refuses-unsound s = refuses 1 (rw s) (λ z. omega arith)
+  empty-stopped h = rw (sound-test t s, p .0, lt-leb exits e (p .1), h)
 
-  pub refuses-unused : sound t ≡ true → inUse t i ≡ false → refused 3 ≡ clearCall t i e
+  pub accepted : holds t i e ≡ true → 0 ≡ clearRefusal t i e
   unfolding clearRefusal first
-  refuses-unused s u = refuses 3 (rw (s, u)) (λ z. omega arith)
-
-  pub refuses-exit : sound t ≡ true → inUse t i ≡ true → exits ≤ e → refused 4 ≡ clearCall t i e
-  unfolding clearRefusal first
-  refuses-exit s u l = let x : leb exits e ≡ true = le-leb exits e l in refuses 4 (rw (s, u, x)) (λ z. omega arith)
-
-  pub refuses-empty : sound t ≡ true → inUse t i ≡ true → e < exits → holds t i e ≡ false → refused 6 ≡ clearCall t i e
-  unfolding clearRefusal first
-  refuses-empty s u l h = let x : leb exits e ≡ false = lt-leb exits e l in refuses 6 (rw (s, u, x, h)) (λ z. omega arith)
-
-  pub accepts : sound t ≡ true → inUse t i ≡ true → e < exits → holds t i e ≡ true →
-      cleared t i e ≡ clearCall t i e
-  unfolding clearCall clearRefusal first
-  accepts s u l h =
-      let x : leb exits e ≡ false = lt-leb exits e l in
-      let z : clearRefusal t i e ≡ 0 = rw (s, u, x, h) in
-      sym (unless-zero (clearRefusal t i e) t _ z)
-
-  pub code-used : getD (t .used) i 0 ≡ 1 → inUse t i ≡ true
-  unfolding inUse
-  code-used h = eq-eqb _ 1 h
-
-  pub code-unused : (getD (t .used) i 0 ≡ 1 → ⊥) → inUse t i ≡ false
-  unfolding inUse
-  code-unused h = ne-eqb _ 1 h
-
-  pub code-holds : (getD (t .targets) (i * exits + e) 0 ≡ 0 → ⊥) → holds t i e ≡ true
-  unfolding targetOf exitPlace
-  code-holds h = target-holds t i e h
-
-  pub code-empty : getD (t .targets) (i * exits + e) 0 ≡ 0 → holds t i e ≡ false
-  unfolding targetOf exitPlace
-  code-empty h = target-empty t i e h
-
-  pub unused-above : Sound t → places ≤ i → inUse t i ≡ false
-  unused-above s l = refute _ (λ u. let b = used-place (s .shape) i u in omega arith)
+  accepted h = rw (sound-test t s, p .0, lt-leb exits e (p .1), h)

@@ -1,2 +1,2 @@
--- What the contracts of the parts of the calls are written in.
+-- Definitions.
 pub mod Parts

@@ -17,12 +17,13 @@ use Rattle.table.specs.Clear.{emptied, heldStrongly, stops, doubtful, wanted, f
 use Rattle.image.specs.Image.{word, wordAt, words, recordSize, recordBytes, headerFieldsOf, bitsOf, stepFieldsOf, stepsBelow, image, imageLength, writeRefusal, writeCall, fieldAt, recordAt, capacityIn, lastIn, countIn, stepPlace, numberIn, kindIn, contentIn, bitsIn, targetIn, bitIn, recordOf, hasRecord, recordField, counted, imageTable, framed, accepted, loadCall}
 use Rattle.keyline.specs.Keys.{isDigit, isLine, decimal, decode, spokenCounts, perform, performLine, keyCall}
 use Rattle.history.specs.History.{firstTable}
-use Rattle.examples.specs.Examples.{told, fieldNumbers, triedNumbers, callDone, doneBy, takeOne, taken, takenBy, strength, usedBelow, seen, answerSize, lentTo, refusedBy, same, tableTests, doneTests, factsHold, passed, walk, tableF4, p1ToP7, p8, p9, imageF4, p10, digits, line, beginnings, noAlarm, notSoundReasons, reasons, Entry, Run, tableLeft, Shown, everyRun, examples, refusals}
+use Rattle.history.specs.Acts.{told, fieldNumbers, triedNumbers, callDone, doneBy, answerSize, lentTo, refusedBy}
+use Rattle.examples.specs.Examples.{imageP5, twoCandidates, ends, keyLines, Decodes, failing, tableP1, headed, unsound, failAsSaid, takeOne, taken, takenBy, strength, usedBelow, seen, same, sameTable, doneTests, factsHold, passed, walk, tableF4, p1ToP7, p8, p9, imageF4, p10, digits, line, beginnings, noAlarm, notSoundReasons, reasons, Entry, Run, tableLeft, Shown, everyRun, examples, refusals}
 use Rattle.examples.proofs.Laws.{run-shown, run-at}
 
 -- a name for the list of definitions below, which each run unfolds
 computes : Bool
-unfolding all any count find lowest rounds tabulateFrom tabulate grow reach reaches exitPlace counterPlace inUse kindOf contentOf ownBit targetOf linkBit counterOf holds strong leads linked stronglyLinked countsAt linksTo stepsInUse withLinks withSteps capacityFits contentFits kindFits eachUsed shapeTests blankTests ringless soundTests sound first refusalOf firstOf secondOf unless endingNumber triedRefusal endingOf lastOf movesOf freshTable freshCall lowered raised relink after numberGiven addRefusal withStep addTable addCall linkRefusal weakBit linkTable linkCall fieldsOf noFields readRefusal readCall tryFrom resultsFit trialRefusal trialCall emptied heldStrongly stops doubtful wanted flipped weakened restored repair repairOf unlinked blanked eachDoubtful release size repaired clearRefusal clearCall word wordAt words recordSize recordBytes headerFieldsOf bitsOf stepFieldsOf stepsBelow image imageLength writeRefusal writeCall fieldAt recordAt capacityIn lastIn countIn stepPlace numberIn kindIn contentIn bitsIn targetIn bitIn recordOf hasRecord recordField counted imageTable framed accepted loadCall isDigit isLine decimal decode spokenCounts perform performLine keyCall firstTable told fieldNumbers triedNumbers callDone doneBy takeOne taken takenBy strength usedBelow seen answerSize lentTo refusedBy same tableTests doneTests factsHold passed walk tableF4 p1ToP7 p8 p9 imageF4 p10 digits line beginnings noAlarm notSoundReasons reasons
+unfolding imageP5 twoCandidates ends failing tableP1 headed unsound failAsSaid all any count find lowest rounds tabulateFrom tabulate grow reach reaches exitPlace counterPlace inUse kindOf contentOf ownBit targetOf linkBit counterOf holds strong leads linked stronglyLinked countsAt linksTo stepsInUse withLinks withSteps capacityFits contentFits kindFits eachUsed shapeTests blankTests ringless soundTests sound first refusalOf firstOf secondOf unless endingNumber triedRefusal endingOf lastOf movesOf freshTable freshCall lowered raised relink after numberGiven addRefusal withStep addTable addCall linkRefusal weakBit linkTable linkCall fieldsOf noFields readRefusal readCall tryFrom resultsFit trialRefusal trialCall emptied heldStrongly stops doubtful wanted flipped weakened restored repair repairOf unlinked blanked eachDoubtful release size repaired clearRefusal clearCall word wordAt words recordSize recordBytes headerFieldsOf bitsOf stepFieldsOf stepsBelow image imageLength writeRefusal writeCall fieldAt recordAt capacityIn lastIn countIn stepPlace numberIn kindIn contentIn bitsIn targetIn bitIn recordOf hasRecord recordField counted imageTable framed accepted loadCall isDigit isLine decimal decode spokenCounts perform performLine keyCall firstTable told fieldNumbers triedNumbers callDone doneBy takeOne taken takenBy strength usedBelow seen answerSize lentTo refusedBy same sameTable doneTests factsHold passed walk tableF4 p1ToP7 p8 p9 imageF4 p10 digits line beginnings noAlarm notSoundReasons reasons
 computes = true
 
 -- one declaration for each run, since antt bounds the steps of one
@@ -41,6 +42,14 @@ p9-holds = refl
 p10-holds : walk tableF4 p10 ≡ true
 unfolding computes
 p10-holds = refl
+
+two-candidates-hold : walk tableF4 twoCandidates ≡ true
+unfolding computes
+two-candidates-hold = refl
+
+ends-hold : walk tableF4 ends ≡ true
+unfolding computes
+ends-hold = refl
 
 beginnings-hold : walk tableF4 beginnings ≡ true
 unfolding computes
@@ -61,12 +70,23 @@ examples-hold =
     (and-intro p8-holds
     (and-intro p9-holds
     (and-intro p10-holds
+    (and-intro two-candidates-hold
+    (and-intro ends-hold
     (and-intro beginnings-hold
     (and-intro not-sound-reasons-hold
-    (and-intro reasons-hold refl))))))
+    (and-intro reasons-hold refl))))))))
 
 pub examples-shown : (r : Run) → List·Memᴰ r (examples ++ refusals) → (before : List Entry) (x : Entry) (after : List Entry) →
     r .entries ≡ before ++ (x ∷ after) → Shown (tableLeft (r .table) before) x
 examples-shown r m before x after e =
     run-shown (r .table) before x after
     (subst (λ (xs : List Entry). walk (r .table) xs ≡ true) e (run-at (examples ++ refusals) examples-hold r m))
+
+pub lines-decoded : Decodes keyLines
+unfolding computes keyLines
+lines-decoded = (refl, (refl, (refl, (refl, (refl, tt)))))
+
+-- each clause of soundness is needed: some table fails it and as few others as can be
+pub unsound-fail : failAsSaid unsound ≡ true
+unfolding computes
+unsound-fail = refl

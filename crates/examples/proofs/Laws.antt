@@ -13,11 +13,12 @@ use lib.Dec.{eqb, ltb}
 use borrow.Author.Tests.{eqb-true}
 use Rattle.finite.proofs.Bools.{and-left, and-right, clash, passes-at}
 use Rattle.finite.specs.Below.{lowest, passes}
-use Rattle.table.specs.declared.Table.{Table}
+use Rattle.table.specs.Table.{Table}
 use Rattle.table.specs.Calls.{freshTable}
 use Rattle.table.specs.Clear.{Repair, wanted, repair}
 use Rattle.history.specs.History.{First, fresh, load, Call, add, link, clear, read, trial, write, keyLine, onlyRefusal, heardAs, ran, run, tableAfter, firstTable}
-use Rattle.examples.specs.Examples.{Act, begin, call, Done, told, callDone, doneBy, takeOne, taken, takeAll, Fact, _is_, seen, Entry, accepts, refuses, actOf, Run, tableLeft, refusedBy, Holds, Shown, same, tableTests, doneTests, factsHold, passed, walk, everyRun}
+use Rattle.history.specs.Acts.{Act, begin, call, Done, told, callDone, doneBy, refusedBy}
+use Rattle.examples.specs.Examples.{takeOne, taken, takeAll, Fact, _is_, seen, Entry, accepts, refuses, actOf, Run, tableLeft, Holds, Shown, same, sameTable, doneTests, factsHold, passed, walk, everyRun}
 
 same-true : (xs ys : List ℕ) → same xs ys ≡ true → xs ≡ ys
 unfolding same
@@ -27,10 +28,10 @@ same-true (x ∷ xs) [] p = clash p refl
 same-true (x ∷ xs) (y ∷ ys) p =
     ap₂ _∷_ (eqb-true x y (and-left (eqb x y) (same xs ys) p)) (same-true xs ys (and-right (eqb x y) (same xs ys) p))
 
-table-same : (t u : Table) → passes (tableTests t u) ≡ true → t ≡ u
-unfolding tableTests
+table-same : (t u : Table) → passes (sameTable t u) ≡ true → t ≡ u
+unfolding sameTable
 table-same t u p =
-    let at = passes-at (tableTests t u) p in
+    let at = passes-at (sameTable t u) p in
     λ i.
     record {
       capacity = eqb-true (t .capacity) (u .capacity) (at 0) i;

@@ -1,8 +1,6 @@
 -- The examples of document 01 in one table: P1 to P10 ("Edits on F4"), then each call refused for each of its reasons ("Reasons for no") and
 -- the calls that P1 to P10 do not make. The entries of a run are made one after the other, each on the table that the one before left.
 -- Assumes nothing.
---   Act                what an entry does: fresh or load begins a table, any other call is made on the table at hand
---   Done, doneBy       the answer of an act in the paper's numbers, the lent bytes as it leaves them, and the table handed back
 --   taken              the steps that a repair takes back, in their order
 --   Look, seen         what can be looked at after an act, and the numbers that it shows
 --   Fact               l is ns: the look l shows the numbers ns
@@ -11,67 +9,25 @@
 --   Shown              what an entry says of the table that it is made on
 --   passed, walk       the test of an entry and of entries in a row, which compute; `run-shown` of the proofs joins test and statement
 --   examples, refusals   the table
+--   keyLines, Decodes  key lines byte by byte, and what they are decoded to
+--   unsound, failAsSaid   a table made unsound for each clause of soundness, and the clauses that it fails
 use mathlib.Core.Path.{_≡_}
 use mathlib.Core.Bool.{Bool, true, false, _&&_, cond}
 use mathlib.Core.List.{List, [], _∷_, _++_, List·Memᴰ}
-use Prim.Native.Nat.{ℕ, zero, suc, _/_, _%_, _^_}
-use lib.ListN.{set, replicate}
+use Prim.Native.Nat.{ℕ, zero, suc, _+_, _/_, _%_, _^_}
+use lib.ListN.{set, take, replicate}
 use lib.Dec.{eqb, ltb}
 use Rattle.finite.specs.Below.{lowest, passes}
-use Rattle.table.specs.declared.Table.{Table}
-use Rattle.table.specs.declared.Outcome.{Outcome}
-use Rattle.table.specs.declared.Fields.{Fields}
-use Rattle.table.specs.declared.Tried.{Tried}
-use Rattle.table.specs.Table.{inUse, kindOf, contentOf, ownBit, targetOf, counterOf, holds, strong, withSteps}
-use Rattle.table.specs.Answer.{notSound, badCapacity, notInUse, badExit, exitFilled, exitEmpty, badKind, full, notKeyLine, badResult, tooShort, notAccepted, refusalOf, firstOf, secondOf, triedRefusal, endingOf, lastOf, movesOf}
-use Rattle.table.specs.Calls.{freshTable, freshCall, addCall, linkCall, readCall, trialCall}
-use Rattle.table.specs.Clear.{Repair, stops, emptied, doubtful, wanted, restored, clearCall}
-use Rattle.image.specs.Image.{writeCall, loadCall}
-use Rattle.keyline.specs.Keys.{held, star, pressed, digit, keyCall}
-use Rattle.history.specs.History.{First, fresh, load, Call, add, link, clear, read, trial, write, keyLine, firstTable}
-
-pub data Act : Type 0 where
-  begin : First → Act
-  call : Call → Act
-
--- the refusal or 0, the other numbers of the answer, what was lent, the table handed back
-pub record Done : Type 0 where
-  pub refusal : ℕ
-  pub numbers : List ℕ
-  pub lent : List ℕ
-  pub table : Table
-
--- the answer of a call that is lent nothing has two numbers
-unfoldable pub told : Outcome → Done
-told o = record { refusal = refusalOf (o .answer); numbers = firstOf (o .answer) ∷ secondOf (o .answer) ∷ []; lent = []; table = o .table }
-
--- "all its fields": kind, content, own bit, four targets, their four bits, two counters
-unfoldable pub fieldNumbers : Fields → List ℕ
-fieldNumbers f = f .kind ∷ f .content ∷ f .own ∷ (f .targets ++ f .bits ++ f .counts)
-
--- "answers which, the last step and the moves made": open is 0, spent is 1
-unfoldable pub triedNumbers : Tried → List ℕ
-triedNumbers a = endingOf a ∷ lastOf a ∷ movesOf a ∷ []
-
-unfoldable pub callDone : Table → Call → Done
-callDone t (add holder e kind content) = told (addCall t holder e kind content)
-callDone t (link source e second f) = told (linkCall t source e second f)
-callDone t (clear i e) = told (clearCall t i e)
-callDone t (read i) =
-    let r = readCall t i in
-    record { refusal = r .refusal; numbers = fieldNumbers (r .fields); lent = []; table = t }
-callDone t (trial results trace) =
-    let o = trialCall t results trace in
-    record { refusal = triedRefusal (o .answer); numbers = triedNumbers (o .answer); lent = o .trace; table = t }
-callDone t (write buffer) =
-    let o = writeCall t buffer in
-    record { refusal = refusalOf (o .answer); numbers = firstOf (o .answer) ∷ secondOf (o .answer) ∷ []; lent = o .buffer; table = t }
-callDone t (keyLine bs) = told (keyCall t bs)
-
-unfoldable pub doneBy : Table → Act → Done
-doneBy t (begin (fresh c)) = told (freshCall c)
-doneBy t (begin (load bs)) = told (loadCall bs)
-doneBy t (call c) = callDone t c
+use Rattle.table.specs.Table.{Table, inUse, kindOf, contentOf, ownBit, targetOf, counterOf, holds, strong, withLinks, withSteps}
+use Rattle.table.specs.Sound.{soundTests}
+use Rattle.table.specs.Calls.{freshTable, addCall}
+use Rattle.table.specs.Clear.{Repair, stops, emptied, doubtful, wanted, restored}
+use Rattle.keyline.specs.declared.Command.the-variants.{Add, Link, Clear, Count}
+use Rattle.keyline.specs.declared.Decoded.{Decoded}
+use Rattle.keyline.specs.declared.Decoded.the-variants.{Line, Nothing}
+use Rattle.keyline.specs.Keys.{decode}
+use Rattle.history.specs.History.{fresh, load, add, link, clear, read, trial, write, keyLine, firstTable}
+use Rattle.history.specs.Acts.{Act, begin, call, Done, doneBy, refusedBy}
 
 -- one round of rule 3 of clearing: step k is taken back and counted no longer doubtful
 unfoldable pub takeOne : Repair → ℕ → Repair
@@ -154,31 +110,6 @@ unfoldable pub tableLeft : Table → List Entry → Table
 tableLeft t [] = t
 tableLeft t (x ∷ xs) = tableLeft (doneBy t (actOf x) .table) xs
 
--- how many numbers the answer of a call has, and what the call is lent
-unfoldable pub answerSize : Call → ℕ
-answerSize (add holder e kind content) = 2
-answerSize (link source e second f) = 2
-answerSize (clear i e) = 2
-answerSize (read i) = 13
-answerSize (trial results trace) = 3
-answerSize (write buffer) = 2
-answerSize (keyLine bs) = 2
-
-unfoldable pub lentTo : Call → List ℕ
-lentTo (add holder e kind content) = []
-lentTo (link source e second f) = []
-lentTo (clear i e) = []
-lentTo (read i) = []
-lentTo (trial results trace) = trace
-lentTo (write buffer) = buffer
-lentTo (keyLine bs) = []
-
--- "A refusal answers its number with all other numbers zero, and changes no table or buffer. Refused fresh and load hand back a fresh table of
--- capacity 1."
-unfoldable pub refusedBy : ℕ → Table → Act → Done
-refusedBy n t (begin f) = record { refusal = n; numbers = replicate 2 0; lent = []; table = freshTable 1 }
-refusedBy n t (call c) = record { refusal = n; numbers = replicate (answerSize c) 0; lent = lentTo c; table = t }
-
 abbrev pub Holds : Table → Done → Fact → Type 0
 Holds t d (l is ns) = seen t d l ≡ ns
 
@@ -197,8 +128,8 @@ same [] (y ∷ ys) = false
 same (x ∷ xs) [] = false
 same (x ∷ xs) (y ∷ ys) = eqb x y && same xs ys
 
-unfoldable pub tableTests : Table → Table → List Bool
-tableTests t u =
+unfoldable pub sameTable : Table → Table → List Bool
+sameTable t u =
     eqb (t .capacity) (u .capacity) ∷
     eqb (t .last) (u .last) ∷
     same (t .used) (u .used) ∷
@@ -215,7 +146,7 @@ doneTests d r =
     eqb (d .refusal) (r .refusal) ∷
     same (d .numbers) (r .numbers) ∷
     same (d .lent) (r .lent) ∷
-    passes (tableTests (d .table) (r .table)) ∷
+    passes (sameTable (d .table) (r .table)) ∷
     []
 
 unfoldable pub factsHold : Table → Done → List Fact → Bool
@@ -240,6 +171,16 @@ everyRun (r ∷ rs) = walk (r .table) (r .entries) && everyRun rs
 -- "F4 is a fresh table of capacity 4."
 unfoldable pub tableF4 : Table
 tableF4 = firstTable (fresh 4)
+
+-- header: length 10, kind 1, capacity 4, last number 2, 3 steps; then the records of steps 0, 1, 2: length 20, kind 2, number, kind, content, bits,
+-- four targets. The bits are 2 (exit 1 of step 0), 16 (step 1), 4 + 16 (exit 2 of step 2, and step 2).
+unfoldable pub imageP5 : List ℕ
+imageP5 =
+    0x0A ∷ 0 ∷ 1 ∷ 0 ∷ 4 ∷ 0 ∷ 2 ∷ 0 ∷ 3 ∷ 0 ∷
+    0x14 ∷ 0 ∷ 2 ∷ 0 ∷ 0 ∷ 0 ∷ 0 ∷ 0 ∷ 0 ∷ 0 ∷ 2 ∷ 0 ∷ 0 ∷ 0 ∷ 2 ∷ 0 ∷ 0 ∷ 0 ∷ 0 ∷ 0 ∷
+    0x14 ∷ 0 ∷ 2 ∷ 0 ∷ 1 ∷ 0 ∷ 1 ∷ 0 ∷ 0 ∷ 0 ∷ 0x10 ∷ 0 ∷ 0 ∷ 0 ∷ 0 ∷ 0 ∷ 2 ∷ 0 ∷ 0 ∷ 0 ∷
+    0x14 ∷ 0 ∷ 2 ∷ 0 ∷ 2 ∷ 0 ∷ 1 ∷ 0 ∷ 1 ∷ 0 ∷ 0x14 ∷ 0 ∷ 0 ∷ 0 ∷ 0 ∷ 0 ∷ 1 ∷ 0 ∷ 0 ∷ 0 ∷
+    []
 
 -- "P1 to P7 run on from each other."
 unfoldable pub p1ToP7 : List Entry
@@ -278,6 +219,13 @@ p1ToP7 =
     exit 1 2 is (weakLink ∷ 2 ∷ []) ∷
     steps is (0 ∷ 1 ∷ 2 ∷ []) ∷
     []) ∷
+    -- the table that P5 leaves, as an image, and read: its links and bits in numbers
+    accepts (call (write (replicate 72 0xFF))) (answer is (70 ∷ 0 ∷ []) ∷ bytes is (imageP5 ++ (0xFF ∷ 0xFF ∷ [])) ∷ []) ∷
+    accepts (call (read 0)) (answer is (0 ∷ 0 ∷ 0 ∷ 0 ∷ 2 ∷ 0 ∷ 0 ∷ 0 ∷ 1 ∷ 0 ∷ 0 ∷ 0 ∷ 0 ∷ []) ∷ []) ∷
+    accepts (call (read 2)) (answer is (1 ∷ 1 ∷ 1 ∷ 0 ∷ 0 ∷ 1 ∷ 0 ∷ 0 ∷ 0 ∷ 1 ∷ 0 ∷ 1 ∷ 1 ∷ []) ∷ []) ∷
+    -- trials round its ring: spent after three moves, open after two
+    accepts (call (trial (1 ∷ 2 ∷ 2 ∷ []) (7 ∷ 7 ∷ 7 ∷ 7 ∷ []))) (answer is (1 ∷ 2 ∷ 3 ∷ []) ∷ bytes is (2 ∷ 1 ∷ 2 ∷ 7 ∷ []) ∷ []) ∷
+    accepts (call (trial (1 ∷ 2 ∷ 0 ∷ []) (7 ∷ 7 ∷ 7 ∷ 7 ∷ []))) (answer is (0 ∷ 1 ∷ 2 ∷ []) ∷ bytes is (2 ∷ 1 ∷ 7 ∷ 7 ∷ []) ∷ []) ∷
     -- P6 "clear 0, 1: counts 2, 2; only step 0 is left."
     accepts (call (clear 0 1))
     (answer is (2 ∷ 2 ∷ []) ∷ order 0 1 is [] ∷ own 1 is (0 ∷ []) ∷ own 2 is (0 ∷ []) ∷ steps is (0 ∷ []) ∷ []) ∷
@@ -315,21 +263,62 @@ p10 =
     accepts (begin (load imageF4)) (answer is (0 ∷ 0 ∷ []) ∷ sizes is (4 ∷ 0 ∷ []) ∷ steps is (0 ∷ []) ∷ what 0 is (0 ∷ 0 ∷ []) ∷ []) ∷
     []
 
+-- two steps that rule 3 could take at once: 2 and 3, each with a weak link from step 0 and from the other. The lower is taken first, so its link to the
+-- other ends strong; the other's link back is weak.
+unfoldable pub twoCandidates : List Entry
+twoCandidates =
+    accepts (call (add 0 0 1 0)) (answer is (1 ∷ 0 ∷ []) ∷ []) ∷
+    accepts (call (add 1 0 1 1)) (answer is (2 ∷ 0 ∷ []) ∷ []) ∷
+    accepts (call (add 1 1 1 2)) (answer is (3 ∷ 0 ∷ []) ∷ []) ∷
+    accepts (call (link 1 0 0 1)) [] ∷
+    accepts (call (link 1 1 0 2)) [] ∷
+    accepts (call (link 1 1 2 0)) [] ∷
+    accepts (call (link 1 0 3 0)) [] ∷
+    accepts (call (clear 0 0))
+    (answer is (3 ∷ 1 ∷ []) ∷
+    order 0 0 is (2 ∷ 3 ∷ []) ∷
+    own 2 is (1 ∷ []) ∷
+    own 3 is (1 ∷ []) ∷
+    exit 0 1 is (strongLink ∷ 2 ∷ []) ∷
+    exit 0 2 is (strongLink ∷ 3 ∷ []) ∷
+    exit 2 0 is (strongLink ∷ 3 ∷ []) ∷
+    exit 3 0 is (weakLink ∷ 2 ∷ []) ∷
+    counts 2 is (1 ∷ 1 ∷ []) ∷
+    counts 3 is (0 ∷ 2 ∷ []) ∷
+    steps is (0 ∷ 2 ∷ 3 ∷ []) ∷
+    []) ∷
+    []
+
+-- a copy of a weak link is weak too; and the ends of each range of contents
+unfoldable pub ends : List Entry
+ends =
+    accepts (call (add 0 0 1 99)) (what 1 is (1 ∷ 99 ∷ []) ∷ []) ∷
+    accepts (call (link 0 0 0 1)) (exit 0 1 is (weakLink ∷ 1 ∷ []) ∷ []) ∷
+    accepts (call (link 0 1 1 3)) (exit 1 3 is (weakLink ∷ 1 ∷ []) ∷ counts 1 is (1 ∷ 2 ∷ []) ∷ []) ∷
+    refuses (call (add 0 2 1 100)) 7 ∷
+    refuses (call (add 0 2 2 16)) 7 ∷
+    refuses (call (add 0 2 3 601)) 7 ∷
+    accepts (call (add 0 2 2 15)) (what 2 is (2 ∷ 15 ∷ []) ∷ []) ∷
+    accepts (call (add 0 3 3 600)) (what 3 is (3 ∷ 600 ∷ []) ∷ []) ∷
+    []
+
 unfoldable pub examples : List Run
 examples =
     record { table = tableF4; entries = p1ToP7 } ∷
     record { table = tableF4; entries = p8 } ∷
     record { table = tableF4; entries = p9 } ∷
     record { table = tableF4; entries = p10 } ∷
+    record { table = tableF4; entries = twoCandidates } ∷
+    record { table = tableF4; entries = ends } ∷
     []
 
--- the key line H, star, the w digits of n, A
+-- the key line H (72), star (42), the w digits of n (48 to 57), A (65)
 unfoldable pub digits : ℕ → ℕ → List ℕ
 digits zero n = []
-digits (suc w) n = digit (n / 10 ^ w % 10) ∷ digits w n
+digits (suc w) n = (48 + n / 10 ^ w % 10) ∷ digits w n
 
 unfoldable pub line : ℕ → ℕ → List ℕ
-line w n = held ∷ star ∷ (digits w n ++ (pressed ∷ []))
+line w n = 72 ∷ 42 ∷ (digits w n ++ (65 ∷ []))
 
 -- "Fresh gives only 2, load only 12."
 unfoldable pub beginnings : List Entry
@@ -337,15 +326,15 @@ beginnings =
     -- "Capacities 1 and 128 are accepted, 0 is refused."
     accepts (begin (fresh 1)) (sizes is (1 ∷ 0 ∷ []) ∷ steps is (0 ∷ []) ∷ []) ∷
     accepts (begin (fresh 128)) (sizes is (128 ∷ 0 ∷ []) ∷ []) ∷
-    refuses (begin (fresh 0)) badCapacity ∷
+    refuses (begin (fresh 0)) 2 ∷
     -- 2 "capacity not 1 to 128": "fresh 129"
-    refuses (begin (fresh 129)) badCapacity ∷
+    refuses (begin (fresh 129)) 2 ∷
     -- 12 "image not accepted": "no bytes"
-    refuses (begin (load [])) notAccepted ∷
+    refuses (begin (load [])) 12 ∷
     -- 8 "steps in use equal the capacity": "fresh 1, then add"; add and key line
     accepts (begin (fresh 1)) [] ∷
-    refuses (call (add 0 0 1 0)) full ∷
-    refuses (call (keyLine (line 9 100001000))) full ∷
+    refuses (call (add 0 0 1 0)) 8 ∷
+    refuses (call (keyLine (line 9 100001000))) 8 ∷
     []
 
 -- Where document 01 gives no example, most arguments below meet later conditions of the call's order too: such an entry shows which comes first.
@@ -357,66 +346,66 @@ noAlarm = let t = tableF4 in withSteps t (t .last) (set (t .used) 0 0) (t .kinds
 -- 1 "table not sound", from each call that can give it
 unfoldable pub notSoundReasons : List Entry
 notSoundReasons =
-    refuses (call (add 1 4 0 0)) notSound ∷
-    refuses (call (link 1 4 1 4)) notSound ∷
-    refuses (call (clear 1 4)) notSound ∷
-    refuses (call (read 1)) notSound ∷
-    refuses (call (trial (0 ∷ 4 ∷ []) (7 ∷ []))) notSound ∷
-    refuses (call (write (7 ∷ []))) notSound ∷
-    refuses (call (keyLine [])) notSound ∷
+    refuses (call (add 1 4 0 0)) 1 ∷
+    refuses (call (link 1 4 1 4)) 1 ∷
+    refuses (call (clear 1 4)) 1 ∷
+    refuses (call (read 1)) 1 ∷
+    refuses (call (trial (0 ∷ 4 ∷ []) (7 ∷ []))) 1 ∷
+    refuses (call (write (7 ∷ []))) 1 ∷
+    refuses (call (keyLine [])) 1 ∷
     []
 
 -- the reasons that F4 gives, and after P1 the others
 unfoldable pub reasons : List Entry
 reasons =
     -- add: 3, 4, 7 ("add 0, 0, 3, 0", "Wait 601 is refused.", and a kind below and above)
-    refuses (call (add 1 4 0 0)) notInUse ∷
-    refuses (call (add 0 4 0 0)) badExit ∷
-    refuses (call (add 0 0 3 0)) badKind ∷
-    refuses (call (add 0 0 3 601)) badKind ∷
-    refuses (call (add 0 0 0 0)) badKind ∷
-    refuses (call (add 0 0 4 1)) badKind ∷
+    refuses (call (add 1 4 0 0)) 3 ∷
+    refuses (call (add 0 4 0 0)) 4 ∷
+    refuses (call (add 0 0 3 0)) 7 ∷
+    refuses (call (add 0 0 3 601)) 7 ∷
+    refuses (call (add 0 0 0 0)) 7 ∷
+    refuses (call (add 0 0 4 1)) 7 ∷
     -- link: source 3, 4, 6
-    refuses (call (link 1 4 1 4)) notInUse ∷
-    refuses (call (link 0 4 1 4)) badExit ∷
-    refuses (call (link 0 0 1 4)) exitEmpty ∷
+    refuses (call (link 1 4 1 4)) 3 ∷
+    refuses (call (link 0 4 1 4)) 4 ∷
+    refuses (call (link 0 0 1 4)) 6 ∷
     -- clear: 3, 4 ("clear 0, 4"), 6 ("clear 0, 0")
-    refuses (call (clear 1 4)) notInUse ∷
-    refuses (call (clear 0 4)) badExit ∷
-    refuses (call (clear 0 0)) exitEmpty ∷
+    refuses (call (clear 1 4)) 3 ∷
+    refuses (call (clear 0 4)) 4 ∷
+    refuses (call (clear 0 0)) 6 ∷
     -- read: 3 ("read 1")
-    refuses (call (read 1)) notInUse ∷
+    refuses (call (read 1)) 3 ∷
     -- trial: 10 ("results 0, 4"), 11
-    refuses (call (trial (0 ∷ 4 ∷ []) (7 ∷ []))) badResult ∷
-    refuses (call (trial (0 ∷ 3 ∷ []) (7 ∷ []))) tooShort ∷
+    refuses (call (trial (0 ∷ 4 ∷ []) (7 ∷ []))) 10 ∷
+    refuses (call (trial (0 ∷ 3 ∷ []) (7 ∷ []))) 11 ∷
     -- write: 11 ("F4 written into 29 bytes")
-    refuses (call (write (replicate 29 7))) tooShort ∷
+    refuses (call (write (replicate 29 7))) 11 ∷
     -- key line: 9 ("H*5A"), then its call's: add 3, 4, 7, link source 3, 4, 6, clear 3, 4, 6
-    refuses (call (keyLine (line 1 5))) notKeyLine ∷
-    refuses (call (keyLine (line 9 100140000))) notInUse ∷
-    refuses (call (keyLine (line 9 100040000))) badExit ∷
-    refuses (call (keyLine (line 9 100003000))) badKind ∷
-    refuses (call (keyLine (line 9 200140014))) notInUse ∷
-    refuses (call (keyLine (line 9 200040014))) badExit ∷
-    refuses (call (keyLine (line 9 200000014))) exitEmpty ∷
-    refuses (call (keyLine (line 5 30014))) notInUse ∷
-    refuses (call (keyLine (line 5 30004))) badExit ∷
-    refuses (call (keyLine (line 5 30000))) exitEmpty ∷
+    refuses (call (keyLine (line 1 5))) 9 ∷
+    refuses (call (keyLine (line 9 100140000))) 3 ∷
+    refuses (call (keyLine (line 9 100040000))) 4 ∷
+    refuses (call (keyLine (line 9 100003000))) 7 ∷
+    refuses (call (keyLine (line 9 200140014))) 3 ∷
+    refuses (call (keyLine (line 9 200040014))) 4 ∷
+    refuses (call (keyLine (line 9 200000014))) 6 ∷
+    refuses (call (keyLine (line 5 30014))) 3 ∷
+    refuses (call (keyLine (line 5 30004))) 4 ∷
+    refuses (call (keyLine (line 5 30000))) 6 ∷
     -- accepted: H*4A speaks 1 in use and 3 free, and H*100001000A adds as P1 does
     accepts (call (keyLine (line 1 4))) (answer is (1 ∷ 3 ∷ []) ∷ []) ∷
     accepts (call (keyLine (line 9 100001000))) (answer is (1 ∷ 0 ∷ []) ∷ steps is (0 ∷ 1 ∷ []) ∷ []) ∷
     -- add: 5 ("add twice at 0, 0")
-    refuses (call (add 0 0 1 0)) exitFilled ∷
-    refuses (call (add 0 0 0 0)) exitFilled ∷
+    refuses (call (add 0 0 1 0)) 5 ∷
+    refuses (call (add 0 0 0 0)) 5 ∷
     -- link: second 3, 4, 5
-    refuses (call (link 0 0 2 4)) notInUse ∷
-    refuses (call (link 0 0 0 4)) badExit ∷
-    refuses (call (link 0 0 0 0)) exitFilled ∷
+    refuses (call (link 0 0 2 4)) 3 ∷
+    refuses (call (link 0 0 0 4)) 4 ∷
+    refuses (call (link 0 0 0 0)) 5 ∷
     -- key line: add 5, link second 3, 4, 5
-    refuses (call (keyLine (line 9 100000000))) exitFilled ∷
-    refuses (call (keyLine (line 9 200000024))) notInUse ∷
-    refuses (call (keyLine (line 9 200000004))) badExit ∷
-    refuses (call (keyLine (line 9 200000000))) exitFilled ∷
+    refuses (call (keyLine (line 9 100000000))) 5 ∷
+    refuses (call (keyLine (line 9 200000024))) 3 ∷
+    refuses (call (keyLine (line 9 200000004))) 4 ∷
+    refuses (call (keyLine (line 9 200000000))) 5 ∷
     -- accepted: read 1 has kind 1, content 0, own bit 0, no targets, no bits, counters 1 and 0
     accepts (call (read 1)) (answer is (1 ∷ 0 ∷ 0 ∷ (replicate 8 0 ++ (1 ∷ 0 ∷ []))) ∷ []) ∷
     -- accepted: a trial that is spent at step 1 after 1 move, and one that is open there; the trace past the move is untouched
@@ -430,3 +419,73 @@ refusals =
     record { table = noAlarm; entries = notSoundReasons } ∷
     record { table = tableF4; entries = reasons } ∷
     []
+
+-- key lines, byte by byte, and what they are decoded to: H*101231007A, H*201230123A, H*30123A, H*4A; H*5A is none
+unfoldable pub keyLines : List (List ℕ × Decoded)
+keyLines =
+    (72 ∷ 42 ∷ 49 ∷ 48 ∷ 49 ∷ 50 ∷ 51 ∷ 49 ∷ 48 ∷ 48 ∷ 55 ∷ 65 ∷ [], Line (Add 12 3 1 7)) ∷
+    (72 ∷ 42 ∷ 50 ∷ 48 ∷ 49 ∷ 50 ∷ 51 ∷ 48 ∷ 49 ∷ 50 ∷ 51 ∷ 65 ∷ [], Line (Link 12 3 12 3)) ∷
+    (72 ∷ 42 ∷ 51 ∷ 48 ∷ 49 ∷ 50 ∷ 51 ∷ 65 ∷ [], Line (Clear 12 3)) ∷
+    (72 ∷ 42 ∷ 52 ∷ 65 ∷ [], Line Count) ∷
+    (72 ∷ 42 ∷ 53 ∷ 65 ∷ [], Nothing) ∷
+    []
+
+abbrev pub Decodes : List (List ℕ × Decoded) → Type 0
+Decodes [] = Unit {0}
+Decodes (x ∷ xs) = (decode (x .0) ≡ x .1) × Decodes xs
+
+-- the numbers, from k on, of the tests that fail
+unfoldable pub failing : ℕ → List Bool → List ℕ
+failing k [] = []
+failing k (true ∷ bs) = failing (suc k) bs
+failing k (false ∷ bs) = k ∷ failing (suc k) bs
+
+-- F4 after P1
+unfoldable pub tableP1 : Table
+tableP1 = addCall tableF4 0 0 1 0 .table
+
+unfoldable pub headed : Table → ℕ → ℕ → Table
+headed t capacity last =
+    record {
+      capacity = capacity;
+      last = last;
+      used = t .used;
+      kinds = t .kinds;
+      contents = t .contents;
+      own = t .own;
+      targets = t .targets;
+      bits = t .bits;
+      counts = t .counts;
+    }
+
+-- a table made unsound for each clause of soundness, with the numbers of the clauses that it fails; `soundTests` has them in this order
+unfoldable pub unsound : List (Table × List ℕ)
+unsound =
+    let t = tableF4 in
+    let u = tableP1 in
+    -- 0: an array is a place short
+    (withSteps t (t .last) (take 127 (t .used)) (t .kinds) (t .contents) (t .own), 0 ∷ []) ∷
+    -- 1: the capacity is 129; 2: the last number given is the capacity
+    (headed t 129 0, 1 ∷ []) ∷
+    (headed t 4 4, 2 ∷ []) ∷
+    -- 3: a step at the capacity is in use (and so it is not reached)
+    (withSteps t (t .last) (set (t .used) 4 1) (set (t .kinds) 4 1) (t .contents) (t .own), 3 ∷ 13 ∷ []) ∷
+    -- 4: step 0 is not in use; 5: kind 4; 6: a step's bit is 2
+    (noAlarm, 4 ∷ []) ∷
+    (withSteps u (u .last) (u .used) (set (u .kinds) 1 4) (u .contents) (u .own), 5 ∷ []) ∷
+    (withSteps t (t .last) (t .used) (t .kinds) (t .contents) (set (t .own) 0 2), 6 ∷ []) ∷
+    -- 7: a link's bit is 2 (and so it is neither counted nor strong); 8: a link leads to a free step; 9: an empty exit has a bit
+    (withLinks u (u .targets) (set (u .bits) 0 2) (u .counts), 7 ∷ 11 ∷ 13 ∷ []) ∷
+    (withLinks t (set (t .targets) 0 2) (t .bits) (t .counts), 8 ∷ []) ∷
+    (withLinks t (t .targets) (set (t .bits) 0 1) (t .counts), 9 ∷ []) ∷
+    -- 10: a free step has a content; 11: counter 0 of step 1 is 2
+    (withSteps t (t .last) (t .used) (t .kinds) (set (t .contents) 1 1) (t .own), 10 ∷ []) ∷
+    (withLinks u (u .targets) (u .bits) (set (u .counts) 2 2), 11 ∷ []) ∷
+    -- 12: step 1 has a strong link to itself; 13: the one link to step 1 is weak
+    (withLinks u (set (u .targets) 4 1) (u .bits) (set (u .counts) 2 2), 12 ∷ []) ∷
+    (withLinks u (u .targets) (set (u .bits) 0 1) (set (set (u .counts) 2 0) 3 1), 13 ∷ []) ∷
+    []
+
+unfoldable pub failAsSaid : List (Table × List ℕ) → Bool
+failAsSaid [] = true
+failAsSaid (x ∷ xs) = same (failing 0 (soundTests (x .0))) (x .1) && failAsSaid xs

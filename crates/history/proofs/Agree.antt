@@ -13,12 +13,10 @@ use lib.Dec.{eqb, ltb}
 use borrow.Author.Tests.{eq-eqb, ne-eqb}
 use Rattle.finite.proofs.Bools.{test}
 use Rattle.finite.proofs.Below.{eq-or-ne}
-use Rattle.table.specs.declared.Table.{Table}
 use Rattle.table.specs.declared.Answer.the-variants.{Refused, Given}
-use Rattle.table.specs.declared.Outcome.{Outcome}
-use Rattle.table.specs.Table.{inUse, targetOf, holds, stepsInUse}
+use Rattle.table.specs.Table.{Table, inUse, targetOf, holds, stepsInUse}
 use Rattle.table.specs.Sound.{Sound}
-use Rattle.table.specs.Answer.{first, unless, refusalOf, firstOf, secondOf, triedRefusal}
+use Rattle.table.specs.Answer.{Outcome, first, unless, refusalOf, firstOf, secondOf, triedRefusal}
 use Rattle.table.specs.Calls.{addCall, linkCall, readCall, trialRefusal, tryFrom, trialCall}
 use Rattle.table.specs.Clear.{emptied, clearCall}
 use Rattle.table.specs.Plan.{planOf, planCount, planReadRefusal, planTrialRefusal}

@@ -1,25 +1,34 @@
--- Demand 2, call by call: what an accepted add, link and clear do on a sound table, and the spoken counts. Assumes nothing.
-use mathlib.Core.Path.{_≡_, refl, sym, _∙_, ap, ap₂}
+-- Demand 2, call by call: what an accepted add, link and clear do on a sound table, the spoken counts, and both ways of an image. Assumes nothing.
+use mathlib.Core.Path.{_≡_, refl, sym, _∙_, ap, ap₂, subst}
 use mathlib.Core.Bool.{true, _&&_, not}
 use mathlib.Core.Logic.{_↔_}
-use Prim.Native.Nat.{ℕ, _-_, _<_}
+use mathlib.Core.List.{List, _++_}
+use Prim.Native.Nat.{ℕ, _-_, _≤_, _<_}
+use native.Mathlib.Omega.{arith}
+use lib.ListN.{length, drop, length-append, length-drop}
+use lib.Seq.{take-at, drop-at}
+use borrow.Author.Tests.{eq-eqb, le-ltb}
 use Rattle.finite.specs.Reach.{Chain, reaches}
 use Rattle.finite.proofs.Bools.{and-intro, and-left, and-right, clash, refute, not-true-false}
 use Rattle.finite.proofs.Reach.{reach-sound, reach-complete}
-use Rattle.table.specs.declared.Table.{Table}
 use Rattle.table.specs.declared.Answer.the-variants.{Given}
-use Rattle.table.specs.Table.{inUse, linked, stronglyLinked, stepsInUse, withLinks}
+use Rattle.table.specs.Table.{Table, inUse, linked, stronglyLinked, stepsInUse, withLinks}
 use Rattle.table.specs.Sound.{Sound}
+use Rattle.table.specs.Answer.{first, unless}
 use Rattle.table.specs.Calls.{relink, addRefusal, addCall, linkRefusal, linkCall}
 use Rattle.table.specs.Clear.{emptied, cleared, clearRefusal, clearCall}
+use Rattle.table.proofs.Sound.{test-sound, sound-test}
 use Rattle.table.proofs.Links.{sound-wired, linked-below}
 use Rattle.table.proofs.Formed.{formed-wired}
 use Rattle.table.proofs.Spine.{strong-below}
 use Rattle.table.proofs.Plan.{plan-capacity, plan-count}
-use Rattle.table.proofs.Calls.{unless-zero, add-fits, link-fits, clear-fits, number-plan, add-sound, add-plan, link-sound, link-plan, clear-cleared, clear-plan}
+use Rattle.table.proofs.Calls.{unless-zero, clear-made, add-fits, link-fits, clear-fits, number-plan, add-sound, add-plan, link-sound, link-plan, clear-cleared, clear-plan}
 use Rattle.table.proofs.Clear.{formed-emptied, sound-reached}
+use Rattle.image.specs.Image.{image, imageLength, writeRefusal, writeCall, imageTable, accepted, loadCall, Bytes, SameRecords}
+use Rattle.image.proofs.Laws.{image-length, write-made, room-enough, load-encode, accepted-sound, accepted-rewritten}
 use Rattle.keyline.specs.Keys.{spokenCounts}
-use Rattle.history.specs.Demands.{AddDemand, LinkDemand, ClearDemand, CountDemand}
+use Rattle.keyline.proofs.Laws.{spoken-plan}
+use Rattle.history.specs.Demands.{AddDemand, LinkDemand, ClearDemand, CountDemand, WriteDemand, LoadDemand}
 
 pub add-demand : (t : Table) → Sound t → (holder e kind content : ℕ) → addRefusal t holder e kind content ≡ 0 →
     AddDemand t holder e kind content (addCall t holder e kind content)
@@ -47,7 +56,7 @@ reach-iff : (t : Table) → ((a b : ℕ) → linked t a b ≡ true → b < t .ca
 reach-iff t edge low k = ((λ r. reach-sound (linked t) (t .capacity) 0 k r), λ c. reach-complete (linked t) (t .capacity) edge low (c .1))
 
 pub clear-demand : (t : Table) → Sound t → (i e : ℕ) → clearRefusal t i e ≡ 0 → ClearDemand t i e (clearCall t i e)
-unfolding clearCall emptied relink withLinks
+unfolding emptied relink withLinks
 clear-demand t s i e z =
     let g = clear-fits t i e z in
     let r = clear-cleared s i e g in
@@ -57,7 +66,7 @@ clear-demand t s i e z =
     let w = formed-wired formed in
     let links = reach-iff u (λ a b l. linked-below w a b l) (formed .least) in
     let after = reach-iff (cleared t i e .table) (λ a b l. linked-below (sound-wired (c .sound)) a b l) (c .sound .least) in
-    rw (unless-zero _ t (cleared t i e) z)
+    rw (clear-made t i e z)
     (record {
       sound = c .sound;
       plan = clear-plan s i e g;
@@ -85,9 +94,30 @@ clear-demand t s i e z =
     emptied-count t i e = unfold stepsInUse emptied relink withLinks inUse in refl
 
 pub count-demand : (t : Table) → Sound t → CountDemand t (spokenCounts t)
-unfolding spokenCounts
-count-demand t s =
-    record {
-      same = refl;
-      spoken = ap₂ Given (sym (plan-count (sound-wired s))) (ap₂ _-_ (sym (plan-capacity t)) (sym (plan-count (sound-wired s))));
-    }
+count-demand t s = rw (spoken-plan t s) (record { same = refl; spoken = refl })
+
+pub write-demand : (t : Table) → Sound t → (buffer : List ℕ) → imageLength t ≤ length buffer → WriteDemand t buffer (writeCall t buffer)
+write-demand t s buffer l =
+    let n = image-length t in
+    rw (write-made t buffer (room-enough t s buffer l))
+    (record {
+      written = imageLength t;
+      answer = refl;
+      loads = ap loadCall (take-at (image t) _ (imageLength t) n) ∙ load-encode t s;
+      past = drop-at (image t) _ (imageLength t) n;
+      size = let a = length-append (image t) (drop (imageLength t) buffer) in let d = length-drop (imageLength t) buffer in omega arith;
+    })
+
+pub load-demand : (bs : List ℕ) → Bytes bs → accepted bs ≡ true → (buffer : List ℕ) → length bs ≤ length buffer →
+    LoadDemand bs (writeCall (loadCall bs .table) buffer)
+load-demand bs by a buffer l =
+    let t = imageTable bs in
+    let s = test-sound t (accepted-sound bs a) in
+    let r = accepted-rewritten bs by a in
+    let n : imageLength t ≡ length bs = sym (image-length t) ∙ sym (r .size) in
+    let e : loadCall bs .table ≡ t = (unfold loadCall unless first in rw a) in
+    rw (e, write-made t buffer (room-enough t s buffer (rw n l)))
+    (record {
+      answer = ap (λ (k : ℕ). Given k 0) n;
+      records = subst (SameRecords bs) (sym (take-at (image t) _ (length bs) (sym (r .size)))) r;
+    })

@@ -8,15 +8,13 @@ use native.Mathlib.Omega.{arith}
 use lib.Dec.{leb, eqb}
 use borrow.Author.Tests.{leb-true}
 use Rattle.finite.proofs.Bools.{and-left, and-right, test}
-use Rattle.table.specs.declared.Table.{Table}
-use Rattle.table.specs.declared.Outcome.{Outcome}
 use Rattle.table.specs.declared.Answer.the-variants.{Given, Refused}
-use Rattle.table.specs.Table.{places, counters, inUse, counterOf, linksTo, stepsInUse, StrongChain}
-use Rattle.table.specs.Sound.{Sound, capacityFits}
-use Rattle.table.specs.Answer.{badCapacity, notAccepted, first, unless, refusalOf}
+use Rattle.table.specs.Table.{Table, places, counters, inUse, counterOf, linksTo, stepsInUse, StrongChain}
+use Rattle.table.specs.Sound.{Sound, sound, capacityFits}
+use Rattle.table.specs.Answer.{Outcome, badCapacity, notAccepted, first, unless, refusalOf}
 use Rattle.table.specs.Calls.{freshTable, freshCall}
 use Rattle.table.specs.Plan.{Plan, planOf, freshPlan}
-use Rattle.table.proofs.Sound.{test-sound}
+use Rattle.table.proofs.Sound.{test-sound, sound-test}
 use Rattle.table.proofs.Formed.{sound-formed}
 use Rattle.table.proofs.Spine.{strong-chain-short}
 use Rattle.table.proofs.Edits.{sound-fresh}
@@ -114,6 +112,7 @@ demand-3 f cs =
     let b = begun f in
     let s = after-sound (firstTable f) (b .sound) cs in
     record {
+      sound = s;
       short = strong-chain-short s;
       reached = λ i u d. s .reached i u;
       plan = after-plan (firstTable f) (b .sound) cs ∙ ap (λ (p : Plan). planAfter p cs) (b .plan);
@@ -121,3 +120,29 @@ demand-3 f cs =
       heard = after-heard (firstTable f) (b .sound) cs ∙ ap (λ (p : Plan). drawnBy p cs) (b .plan);
       counts = sound-formed s .exact;
     }
+
+-- each part of it by itself
+module _ (f : First) (cs : List Call) where
+  abbrev left : Table
+  left = tableAfter (firstTable f) cs
+
+  pub history-sound : sound left ≡ true
+  history-sound = sound-test left (demand-3 f cs .sound)
+
+  pub history-short : (a b n : ℕ) → StrongChain left a b n → n < stepsInUse left
+  history-short = demand-3 f cs .short
+
+  pub history-reached : (i : ℕ) → inUse left i ≡ true → (i ≡ 0 → ⊥) → (n : ℕ) × StrongChain left 0 i n
+  history-reached = demand-3 f cs .reached
+
+  pub history-plan : planOf left ≡ planAfter (firstPlan f) cs
+  history-plan = demand-3 f cs .plan
+
+  pub history-begun : firstRefusal f ≡ planFirstRefusal f
+  history-begun = demand-3 f cs .begun
+
+  pub history-heard : heardBy (firstTable f) cs ≡ drawnBy (firstPlan f) cs
+  history-heard = demand-3 f cs .heard
+
+  pub history-counts : (i b : ℕ) → i < places → b < counters → counterOf left i b ≡ linksTo left i b
+  history-counts = demand-3 f cs .counts

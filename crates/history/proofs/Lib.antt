@@ -1,5 +1,5 @@
--- The laws of histories, and the claims.
+-- The laws of histories, and the demands; the crate `claims` restates what is claimed.
+pub mod Demand1
 pub mod Agree
 pub mod Demand2
 pub mod Demand3
-pub mod Claims

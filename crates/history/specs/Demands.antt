@@ -1,25 +1,45 @@
--- Demands 2 and 3 as statements over the definitions; `Claims` of the proofs proves them. Assumes nothing.
+-- Demands 1 to 3 as statements over the definitions; `Claims` of the proofs proves them. Assumes nothing.
+--   FirstHeld cs n      n is the number of the first condition that holds, or 0 where none does
+--   Demand1 t a         of a call made on the table t, or of fresh or load
 --   Demand3 f cs        of the history that begins with f and makes the calls cs
 --   AddDemand LinkDemand ClearDemand CountDemand   what an accepted call does on a sound table (demand 2)
+--   WriteDemand LoadDemand   both ways of an image, over the calls (demand 2)
 use mathlib.Core.Path.{_≡_}
-use mathlib.Core.Bool.{Bool, true}
+use mathlib.Core.Bool.{Bool, true, false}
 use mathlib.Core.Logic.{_↔_}
-use mathlib.Core.List.{List}
-use Prim.Native.Nat.{ℕ, _+_, _-_, _<_}
+use mathlib.Core.List.{List, [], _∷_, _++_}
+use Prim.Native.Nat.{ℕ, _+_, _-_, _≤_, _<_}
+use lib.ListN.{length, getD, take, drop}
 use Rattle.finite.specs.Below.{count}
 use Rattle.finite.specs.Reach.{Chain}
-use Rattle.table.specs.declared.Table.{Table}
 use Rattle.table.specs.declared.Answer.{Answer}
 use Rattle.table.specs.declared.Answer.the-variants.{Given}
-use Rattle.table.specs.declared.Outcome.{Outcome}
-use Rattle.table.specs.Table.{places, counters, inUse, counterOf, linked, linksTo, stepsInUse, StrongChain}
+use Rattle.table.specs.Answer.{Outcome}
+use Rattle.table.specs.Table.{Table, places, counters, inUse, targetOf, counterOf, holds, linked, linksTo, stepsInUse, StrongChain}
 use Rattle.table.specs.Sound.{Sound}
 use Rattle.table.specs.Clear.{emptied}
 use Rattle.table.specs.Plan.{Plan, planOf, planCount, planNumber, planAdd, planLink, planClear}
+use Rattle.image.specs.Image.{WriteOutcome, loadCall, SameRecords}
 use Rattle.history.specs.History.{First, Call, tableAfter, heardBy, planAfter, drawnBy, firstRefusal, planFirstRefusal, firstTable, firstPlan}
+use Rattle.history.specs.Acts.{Act, doneBy, refusedBy, conditionsOf}
+
+-- the number of a condition that holds, none before it does; or 0, and no condition holds
+pub data FirstHeld : List (Bool × ℕ) → ℕ → Type 0 where
+  none : {cs : List (Bool × ℕ)} → ((k : ℕ) → getD cs k (false, 0) .0 ≡ false) → FirstHeld cs 0
+  some : {cs : List (Bool × ℕ)} {n : ℕ} (k : ℕ) → getD cs k (false, 0) ≡ (true, n) → (n ≡ 0 → ⊥) → ((j : ℕ) → j < k → getD cs j (false, 0) .0 ≡ false) →
+      FirstHeld cs n
+
+-- Demand 1: whatever the table, the call and its arguments
+pub record Demand1 (t : Table) (a : Act) : Type 0 where
+  -- "a call is refused, by number, in the listed cases and in no other"
+  pub listed : FirstHeld (conditionsOf t a) (doneBy t a .refusal)
+  -- "a refused call gives back the table it was given and writes no byte of a lent buffer", and all its other numbers are zero
+  pub refused : (doneBy t a .refusal ≡ 0 → ⊥) → doneBy t a ≡ refusedBy (doneBy t a .refusal) t a
 
 -- Demand 3, one statement about the whole history. "After the list"
 pub record Demand3 (f : First) (cs : List Call) : Type 0 where
+  -- the table is sound
+  pub sound : Sound (tableAfter (firstTable f) cs)
   -- "every strong chain has fewer links than there are steps in use"
   pub short : (a b n : ℕ) → StrongChain (tableAfter (firstTable f) cs) a b n → n < stepsInUse (tableAfter (firstTable f) cs)
   -- "every step in use but step 0 ends a strong chain from step 0"
@@ -65,3 +85,17 @@ pub record ClearDemand (t : Table) (i e : ℕ) (o : Outcome) : Type 0 where
 pub record CountDemand (t : Table) (o : Outcome) : Type 0 where
   pub same : o .table ≡ t
   pub spoken : o .answer ≡ Given (planCount (planOf t)) (planOf t .capacity - planCount (planOf t))
+
+-- "A sound table written as an image loads as the same table": what write leaves in the lent buffer, cut at the length answered
+pub record WriteDemand (t : Table) (buffer : List ℕ) (o : WriteOutcome) : Type 0 where
+  pub written : ℕ
+  pub answer : o .answer ≡ Given written 0
+  pub loads : loadCall (take written (o .buffer)) ≡ record { answer = Given 0 0; table = t }
+  -- "as are those past a written image": untouched
+  pub past : drop written (o .buffer) ≡ drop written buffer
+  pub size : length (o .buffer) ≡ length buffer
+
+-- "and an accepted image is written with the same records": the image bs is loaded, and its table written into a buffer
+pub record LoadDemand (bs : List ℕ) (o : WriteOutcome) : Type 0 where
+  pub answer : o .answer ≡ Given (length bs) 0
+  pub records : SameRecords bs (take (length bs) (o .buffer))

@@ -10,10 +10,9 @@ use mathlib.Core.List.{List, [], _∷_}
 use Prim.Native.Nat.{ℕ, _-_}
 use lib.ListN.{length}
 use lib.Dec.{eqb, ltb}
-use Rattle.table.specs.declared.Table.{Table}
+use Rattle.table.specs.Table.{Table}
 use Rattle.table.specs.declared.Answer.{Answer}
-use Rattle.table.specs.declared.Outcome.{Outcome}
-use Rattle.table.specs.Answer.{badCapacity, tooShort, notKeyLine, notAccepted, first, refusalOf, firstOf, secondOf, triedRefusal}
+use Rattle.table.specs.Answer.{Outcome, badCapacity, tooShort, notKeyLine, notAccepted, first, refusalOf, firstOf, secondOf, triedRefusal}
 use Rattle.table.specs.Sound.{capacityFits}
 use Rattle.table.specs.Calls.{freshCall, addCall, linkCall, readCall, trialCall}
 use Rattle.table.specs.Clear.{clearCall}

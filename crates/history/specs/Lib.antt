@@ -1,3 +1,4 @@
--- Document 01, "A history", as definitions, and the statements of the demands.
+-- Document 01, "A history", as definitions, what a call and its refusal do in numbers, and the statements of the demands.
 pub mod History
+pub mod Acts
 pub mod Demands

@@ -7,8 +7,7 @@ use native.Mathlib.Omega.{arith}
 use lib.Dec.{ltb}
 use borrow.Author.Tests.{ltb-true, ltb-false}
 use Rattle.finite.proofs.Bools.{test}
-use Rattle.table.specs.declared.Table.{Table}
-use Rattle.table.specs.Table.{exits, ownBit, linkBit}
+use Rattle.table.specs.Table.{Table, exits, ownBit, linkBit}
 
 abbrev pub fiveBits : (ℕ → ℕ) → ℕ
 fiveBits d = d 0 + 2 * d 1 + 4 * d 2 + 8 * d 3 + 16 * d 4

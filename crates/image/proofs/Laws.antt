@@ -2,17 +2,18 @@
 -- accepted images are sound, draw the plan that their records say, and are written again with the same records. Assumes nothing.
 use mathlib.Core.Path.{_≡_}
 use mathlib.Core.Bool.{true}
-use mathlib.Core.List.{List}
-use Prim.Native.Nat.{ℕ, _<_}
-use lib.ListN.{length}
+use mathlib.Core.List.{List, _++_}
+use Prim.Native.Nat.{ℕ, _≤_, _<_}
+use lib.ListN.{length, drop}
+use borrow.Author.Tests.{eq-eqb, ne-eqb, le-ltb}
 use Rattle.finite.specs.Below.{count}
-use Rattle.table.specs.declared.Table.{Table}
-use Rattle.table.specs.declared.Answer.the-variants.{Given}
-use Rattle.table.specs.Table.{inUse}
+use Rattle.table.specs.declared.Answer.the-variants.{Refused, Given}
+use Rattle.table.specs.Table.{Table, inUse}
 use Rattle.table.specs.Sound.{Sound, sound}
+use Rattle.table.specs.Answer.{first}
 use Rattle.table.specs.Plan.{planOf}
 use Rattle.table.proofs.Sound.{sound-test}
-use Rattle.image.specs.Image.{image, imageLength, countIn, numberIn, imageTable, accepted, loadCall, imagePlan, SameRecords}
+use Rattle.image.specs.Image.{image, imageLength, writeRefusal, writeCall, countIn, numberIn, imageTable, accepted, loadCall, imagePlan, Bytes, SameRecords}
 use Rattle.image.proofs.Written
 use Rattle.image.proofs.Loaded
 use Rattle.image.proofs.RoundTrip
@@ -48,5 +49,20 @@ pub accepted-plan : (bs : List ℕ) → accepted bs ≡ true → planOf (imageTa
 accepted-plan bs a = Loaded.accepted-plan bs a
 
 -- an accepted image, loaded and written, differs at most in the order of its step records
-pub accepted-rewritten : (bs : List ℕ) → accepted bs ≡ true → SameRecords bs (image (imageTable bs))
-accepted-rewritten bs a = Rewritten.accepted-rewritten bs a
+pub accepted-rewritten : (bs : List ℕ) → Bytes bs → accepted bs ≡ true → SameRecords bs (image (imageTable bs))
+accepted-rewritten = Rewritten.accepted-rewritten
+
+-- what write leaves: nothing where it is refused, else the image and the bytes past it as they were
+pub write-refused : (t : Table) (buffer : List ℕ) → (writeRefusal t (length buffer) ≡ 0 → ⊥) →
+    writeCall t buffer ≡ record { answer = Refused (writeRefusal t (length buffer)); buffer = buffer }
+unfolding writeCall
+write-refused t buffer d = rw (ne-eqb (writeRefusal t (length buffer)) 0 d)
+
+pub write-made : (t : Table) (buffer : List ℕ) → writeRefusal t (length buffer) ≡ 0 →
+    writeCall t buffer ≡ record { answer = Given (imageLength t) 0; buffer = image t ++ drop (imageLength t) buffer }
+unfolding writeCall
+write-made t buffer z = rw (eq-eqb (writeRefusal t (length buffer)) 0 z)
+
+pub room-enough : (t : Table) → Sound t → (buffer : List ℕ) → imageLength t ≤ length buffer → writeRefusal t (length buffer) ≡ 0
+unfolding writeRefusal first
+room-enough t s buffer l = rw (sound-test t s, le-ltb (length buffer) (imageLength t) l)

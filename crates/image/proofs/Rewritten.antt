@@ -1,23 +1,125 @@
 -- An accepted image, loaded and written again, has the same records: the header's fields, and each step's record once. Assumes nothing.
 use mathlib.Core.Path.{_≡_, refl, sym, _∙_, ap, subst}
-use mathlib.Core.Bool.{true}
-use mathlib.Core.List.{List, [], _∷_}
-use Prim.Native.Nat.{ℕ, _<_}
+use mathlib.Core.Bool.{Bool, true, false, cond}
+use mathlib.Core.Logic.{⊎-elim}
+use mathlib.Core.List.{List, [], _∷_, _++_}
+use Prim.Native.Nat.{ℕ, zero, suc, _+_, _*_, _-_, _/_, _≤_, _<_}
 use native.Mathlib.Omega.{arith}
-use lib.ListN.{length, getD}
+use lib.ListN.{length, getD, length-append}
+use lib.Seq.{getD-append-add}
 use lib.Dec.{eqb}
-use borrow.Author.Tests.{eq-eqb}
+use borrow.Author.Tests.{eqb-true, eq-eqb}
+use Rattle.finite.proofs.Bools.{and-left, and-right}
 use Rattle.finite.specs.Below.{count, tabulate, tabulateFrom}
-use Rattle.finite.proofs.Below.{any-intro, count-ext, getD-tabulate}
+use Rattle.finite.proofs.Below.{any-intro, count-ext, getD-tabulate, eq-or-ne, le-or-lt}
 use Rattle.finite.proofs.Select.{isValue, count-values}
-use Rattle.table.specs.Table.{places, exits, inUse, targetOf, stepsInUse, withLinks}
+use Rattle.table.specs.Table.{Table, places, exits, inUse, targetOf, stepsInUse, withLinks}
 use Rattle.table.proofs.Links.{sound-wired, used-below}
-use Rattle.image.specs.Image.{stepFieldCount, bitsOf, stepFieldsOf, image, fieldAt, capacityIn, lastIn, countIn, stepPlace, numberIn, kindIn, contentIn, bitsIn, targetIn, bitIn, recordOf, hasRecord, recordField, counted, imageTable, accepted, SameFields, SameRecords}
+use Rattle.image.specs.Image.{stepFieldCount, bitsOf, stepFieldsOf, image, fieldAt, capacityIn, lastIn, countIn, stepPlace, numberIn, kindIn, contentIn, bitsIn, targetIn, bitIn, recordOf, hasRecord, recordField, counted, imageTable, accepted, Bytes, SameBytes, SameRecord, SameRecords, headerRecordKind, headerFieldCount, stepRecordKind, recordSize, recordBytes, recordAt, word, wordAt, words, headerFieldsOf, stepsBelow}
+use Rattle.image.proofs.Words.{length-record}
 use Rattle.image.proofs.Bits.{bits-ext, bits-sum, bitAt, bit-cases}
-use Rattle.image.proofs.Written.{image-capacity, image-last, image-count, image-size, image-field, image-index, image-distinct, index-below}
+use Rattle.image.proofs.Written.{image-header, image-records, image-capacity, image-last, image-count, image-size, image-field, image-index, image-distinct, index-below}
 use Rattle.image.proofs.Loaded.{has-record-any, record-below, record-number, said-record, table-used, table-kind, table-content, table-own, table-target, table-bit, test-accepted, accepted-distinct, accepted-capacity, accepted-table}
 
-module _ (bs : List ℕ) (a : accepted bs ≡ true) where
+-- the fields of record k of one image and of record l of another
+abbrev SameFields : List ℕ → ℕ → List ℕ → ℕ → Type 0
+SameFields bs k cs l = (i : ℕ) → i < stepFieldCount → fieldAt bs (stepPlace k) i ≡ fieldAt cs (stepPlace l) i
+
+-- the first byte of each word is a byte
+abbrev Even : List ℕ → Type 0
+Even bs = (i : ℕ) → getD bs (2 * i) 0 < 256
+
+even-words : (ns : List ℕ) → Even (words ns)
+unfolding words word
+even-words [] i = omega arith
+even-words (n ∷ ns) zero = omega arith
+even-words (n ∷ ns) (suc i) = let e : 2 * suc i ≡ suc (suc (2 * i)) = omega arith in rw e (even-words ns i)
+
+even-append : (xs ys : List ℕ) (m : ℕ) → length xs ≡ 2 * m → Even xs → Even ys → Even (xs ++ ys)
+even-append xs ys m l a b i =
+    ⊎-elim
+    (λ (h : length xs ≤ 2 * i).
+    let e : 2 * i ≡ length xs + 2 * (i - m) = omega arith in
+    rw (e, getD-append-add xs ys (2 * (i - m)) 0) (b (i - m)))
+    (λ (h : 2 * i < length xs). rw (getD-append-left xs ys (2 * i) h) (a i))
+    (le-or-lt (length xs) (2 * i))
+  where
+    getD-append-left : (xs ys : List ℕ) (k : ℕ) → k < length xs → getD (xs ++ ys) k 0 ≡ getD xs k 0
+    getD-append-left [] ys k l = absurd (omega arith)
+    getD-append-left (x ∷ xs) ys zero l = refl
+    getD-append-left (x ∷ xs) ys (suc k) l = getD-append-left xs ys k (omega arith)
+
+even-record : (kind : ℕ) (fields : List ℕ) → Even (recordBytes kind fields)
+unfolding recordBytes
+even-record kind fields = even-words (recordSize (length fields) ∷ kind ∷ fields)
+
+record-even : (kind : ℕ) (fields : List ℕ) → length (recordBytes kind fields) ≡ 2 * (length fields + 2)
+unfolding recordSize
+record-even kind fields = length-record kind fields
+
+even-steps : (t : Table) (n : ℕ) → (Even (stepsBelow t n)) × ((m : ℕ) × (length (stepsBelow t n) ≡ 2 * m))
+unfolding stepsBelow
+even-steps t zero = ((λ i. omega arith), (0, refl))
+even-steps t (suc n) =
+    let r = even-steps t n in
+    turn (inUse t n) (r .0) (r .1 .0) (r .1 .1)
+  where
+    turn : (b : Bool) → Even (stepsBelow t n) → (m : ℕ) → length (stepsBelow t n) ≡ 2 * m →
+        (Even (stepsBelow t n ++ cond b (recordBytes stepRecordKind (stepFieldsOf t n)) [])) ×
+        ((m : ℕ) × (length (stepsBelow t n ++ cond b (recordBytes stepRecordKind (stepFieldsOf t n)) []) ≡ 2 * m))
+    turn true e m l =
+        let r = record-even stepRecordKind (stepFieldsOf t n) in
+        let s = length-append (stepsBelow t n) (recordBytes stepRecordKind (stepFieldsOf t n)) in
+        (even-append (stepsBelow t n) _ m l e (even-record stepRecordKind (stepFieldsOf t n)), (m + (length (stepFieldsOf t n) + 2), omega arith))
+    turn false e m l =
+        let s = length-append (stepsBelow t n) [] in
+        (even-append (stepsBelow t n) [] m l e (λ i. omega arith), (m, omega arith))
+
+even-image : (t : Table) → Even (image t)
+unfolding image
+even-image t =
+    even-append (recordBytes headerRecordKind (headerFieldsOf t)) _ _ (record-even headerRecordKind (headerFieldsOf t)) (even-record headerRecordKind (headerFieldsOf t))
+    (even-steps t (t .capacity) .0)
+
+-- two bytes of a word that is the same
+word-bytes : (bs cs : List ℕ) (at to : ℕ) → getD bs at 0 < 256 → getD cs to 0 < 256 → wordAt bs at ≡ wordAt cs to →
+    (getD bs at 0 ≡ getD cs to 0) × (getD bs (at + 1) 0 ≡ getD cs (to + 1) 0)
+unfolding wordAt
+word-bytes bs cs at to b c e = (omega arith, omega arith)
+
+-- a record whose words are the same is the same byte for byte
+same-bytes : (bs cs : List ℕ) (at to m n : ℕ) → to ≡ 2 * m → Bytes bs → Even cs → ((i : ℕ) → i < n → wordAt bs (at + 2 * i) ≡ wordAt cs (to + 2 * i)) →
+    SameBytes bs at cs to (2 * n)
+same-bytes bs cs at to m n z b c w i l =
+    let q = i / 2 in
+    let r = word-bytes bs cs (at + 2 * q) (to + 2 * q) (b _) (let e : to + 2 * q ≡ 2 * (m + q) = omega arith in rw e (c (m + q))) (w q (omega arith)) in
+    ⊎-elim
+    (λ (z : i ≡ 2 * q). rw z (r .0))
+    (λ (d : i ≡ 2 * q → ⊥).
+    let x : at + i ≡ at + 2 * q + 1 = omega arith in
+    let y : to + i ≡ to + 2 * q + 1 = omega arith in
+    rw (x, y) (r .1))
+    (eq-or-ne i (2 * q))
+
+-- the words of a record: its length, its kind and its fields
+same-words : (bs cs : List ℕ) (at to kind n : ℕ) → recordAt bs at kind n ≡ true → recordAt cs to kind n ≡ true →
+    ((i : ℕ) → i < n → fieldAt bs at i ≡ fieldAt cs to i) → (i : ℕ) → i < n + 2 → wordAt bs (at + 2 * i) ≡ wordAt cs (to + 2 * i)
+unfolding recordAt fieldAt
+same-words bs cs at to kind n a b f zero l =
+    let x : at + 2 * 0 ≡ at = omega arith in
+    let y : to + 2 * 0 ≡ to = omega arith in
+    rw (x, y)
+    (eqb-true _ _ (and-left (eqb (wordAt bs at) (recordSize n)) _ a) ∙ sym (eqb-true _ _ (and-left (eqb (wordAt cs to) (recordSize n)) _ b)))
+same-words bs cs at to kind n a b f (suc zero) l =
+    let x : at + 2 * 1 ≡ at + 2 = omega arith in
+    let y : to + 2 * 1 ≡ to + 2 = omega arith in
+    rw (x, y)
+    (eqb-true _ _ (and-right (eqb (wordAt bs at) (recordSize n)) _ a) ∙ sym (eqb-true _ _ (and-right (eqb (wordAt cs to) (recordSize n)) _ b)))
+same-words bs cs at to kind n a b f (suc (suc i)) l =
+    let x : suc (suc i) ≡ i + 2 = omega arith in
+    rw x (f i (omega arith))
+
+module _ (bs : List ℕ) (by : Bytes bs) (a : accepted bs ≡ true) where
   -- record k is that of the step whose number it has
   number-below : (k : ℕ) → k < countIn bs → numberIn bs k < places
   number-below k h = test-accepted bs a .numbers k h
@@ -108,16 +210,31 @@ module _ (bs : List ℕ) (a : accepted bs ≡ true) where
   same-count : countIn bs ≡ countIn (image (imageTable bs))
   same-count = sym (image-count (imageTable bs) ∙ accepted-count)
 
+  same-record : (k l : ℕ) → k < countIn bs → l < countIn (image (imageTable bs)) → SameFields bs k (image (imageTable bs)) l → SameRecord bs k (image (imageTable bs)) l
+  unfolding stepPlace recordSize
+  same-record k l h m f =
+      same-bytes bs (image (imageTable bs)) (stepPlace k) (stepPlace l) (5 + 10 * l) 10 (omega arith) by (even-image (imageTable bs))
+      (same-words bs (image (imageTable bs)) (stepPlace k) (stepPlace l) stepRecordKind stepFieldCount (test-accepted bs a .records k h)
+      (image-records (imageTable bs) l m) f)
+
+  -- the three fields of the header
+  header-fields : (i : ℕ) → i < headerFieldCount → fieldAt bs 0 i ≡ fieldAt (image (imageTable bs)) 0 i
+  unfolding imageTable counted withLinks capacityIn lastIn countIn
+  header-fields zero l = sym (image-capacity (imageTable bs))
+  header-fields (suc zero) l = sym (image-last (imageTable bs))
+  header-fields (suc (suc zero)) l = same-count
+  header-fields (suc (suc (suc i))) l = absurd (omega arith)
+
   pub accepted-rewritten : SameRecords bs (image (imageTable bs))
-  unfolding imageTable counted withLinks
+  unfolding recordSize
   accepted-rewritten =
       record {
         size = test-accepted bs a .size ∙ ap stepPlace same-count ∙ sym (image-size (imageTable bs));
-        capacity = sym (image-capacity (imageTable bs));
-        last = sym (image-last (imageTable bs));
-        count = same-count;
-        there = fields-there;
-        back = fields-back;
+        header =
+            same-bytes bs (image (imageTable bs)) 0 0 0 5 refl by (even-image (imageTable bs))
+            (same-words bs (image (imageTable bs)) 0 0 headerRecordKind headerFieldCount (test-accepted bs a .header) (image-header (imageTable bs)) header-fields);
+        there = λ k h. let r = fields-there k h in (r .0, r .1, same-record k (r .0) h (r .1) (r .2));
+        back = λ l h. let r = fields-back l h in (r .0, r .1, same-record (r .0) l (r .1) h (r .2));
         once = accepted-distinct bs a;
         onceBack = image-distinct (imageTable bs);
       }

@@ -15,9 +15,8 @@ use Rattle.finite.specs.Below.{one, count, tabulate, tabulateFrom}
 use Rattle.finite.proofs.Bools.{test, same-test}
 use Rattle.finite.proofs.Below.{getD-tabulate}
 use Rattle.finite.proofs.Select.{lowest-only, tabulate-entries}
-use Rattle.table.specs.declared.Table.{Table}
 use Rattle.table.specs.declared.Answer.the-variants.{Given}
-use Rattle.table.specs.Table.{places, exits, counters, exitPlace, counterPlace, inUse, kindOf, contentOf, ownBit, targetOf, linkBit, counterOf, countsAt, linksTo, withLinks}
+use Rattle.table.specs.Table.{Table, places, exits, counters, exitPlace, counterPlace, inUse, kindOf, contentOf, ownBit, targetOf, linkBit, counterOf, countsAt, linksTo, withLinks}
 use Rattle.table.specs.Sound.{Blank, Sound, sound}
 use Rattle.table.specs.Answer.{first, unless}
 use Rattle.table.proofs.Links.{sound-wired, used-below}

@@ -13,8 +13,7 @@ use lib.ListN.{length, getD, length-append}
 use Rattle.finite.specs.Below.{one, count}
 use Rattle.finite.proofs.Below.{below-suc}
 use Rattle.finite.proofs.Select.{Selected, select, count-rises}
-use Rattle.table.specs.declared.Table.{Table}
-use Rattle.table.specs.Table.{inUse, stepsInUse}
+use Rattle.table.specs.Table.{Table, inUse, stepsInUse}
 use Rattle.image.specs.Image.{recordSize, recordBytes, headerRecordKind, headerFieldCount, stepRecordKind, stepFieldCount, headerFieldsOf, stepFieldsOf, stepsBelow, image, imageLength, fieldAt, recordAt, capacityIn, lastIn, countIn, stepPlace, numberIn}
 use Rattle.image.proofs.Words.{length-record, field-placed, record-placed}
 

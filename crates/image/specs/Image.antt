@@ -3,6 +3,7 @@
 --   recordBytes kind fields     a record: its length in bytes, its kind, its fields, each a word
 --   imageSize n                 the length in bytes of an image with n step records
 --   image t                     the written image: the header, then a record for each step in use, in ascending step number
+--   lengthCall t                the length of the image, asked for by itself
 --   writeCall t buffer          the call
 --   numberIn kindIn contentIn bitsIn targetIn   the fields of the k-th step record of an image
 --   recordOf bs i, recordField   the record of step i, and one of its fields
@@ -18,13 +19,11 @@ use Prim.Native.Nat.{ℕ, zero, suc, _+_, _*_, _/_, _%_, _^_, _<_}
 use lib.ListN.{length, getD, drop}
 use lib.Dec.{eqb, leb, ltb}
 use Rattle.finite.specs.Below.{all, one, lowest, tabulate, passes}
-use Rattle.table.specs.declared.Table.{Table}
 use Rattle.table.specs.declared.Answer.{Answer}
 use Rattle.table.specs.declared.Answer.the-variants.{Refused, Given}
-use Rattle.table.specs.declared.Outcome.{Outcome}
-use Rattle.table.specs.Table.{places, exits, counters, inUse, kindOf, contentOf, ownBit, targetOf, linkBit, linksTo, stepsInUse, withLinks}
+use Rattle.table.specs.Table.{Table, places, exits, counters, inUse, kindOf, contentOf, ownBit, targetOf, linkBit, linksTo, stepsInUse, withLinks}
 use Rattle.table.specs.Sound.{sound}
-use Rattle.table.specs.Answer.{tooShort, notAccepted, first, unless}
+use Rattle.table.specs.Answer.{Outcome, tooShort, notAccepted, first, unless}
 use Rattle.table.specs.Calls.{tableTests, freshTable}
 use Rattle.table.specs.Plan.{Plan}
 
@@ -87,13 +86,23 @@ imageSize n = recordSize headerFieldCount + recordSize stepFieldCount * n
 unfoldable pub imageLength : Table → ℕ
 imageLength t = imageSize (stepsInUse t)
 
+-- the length asked for by itself, which is the room that writing needs: refusal 1, else the length
+unfoldable pub lengthCall : Table → Answer
+lengthCall t =
+    let n = first (tableTests t) in
+    cond (eqb n 0) (Given (imageLength t) 0) (Refused n)
+
 -- the answer of write image, and the lent buffer as it is left
 pub record WriteOutcome : Type 0 where
   pub answer : Answer
   pub buffer : List ℕ
 
+abbrev pub writeConditions : Table → ℕ → List (Bool × ℕ)
+writeConditions t room =
+    tableTests t ++ ((ltb room (imageLength t), tooShort) ∷ [])
+
 unfoldable pub writeRefusal : Table → ℕ → ℕ
-writeRefusal t room = first (tableTests t ++ ((ltb room (imageLength t), tooShort) ∷ []))
+writeRefusal t room = first (writeConditions t room)
 
 -- "the answer is the image's length"; the bytes past the image are untouched
 unfoldable pub writeCall : Table → List ℕ → WriteOutcome
@@ -193,9 +202,12 @@ accepted bs =
     sound (imageTable bs) ∷
     [])
 
+abbrev pub loadConditions : List ℕ → List (Bool × ℕ)
+loadConditions bs = (not (accepted bs), notAccepted) ∷ []
+
 unfoldable pub loadCall : List ℕ → Outcome
 loadCall bs =
-    unless (first ((not (accepted bs), notAccepted) ∷ [])) (freshTable 1)
+    unless (first (loadConditions bs)) (freshTable 1)
     (record { answer = Given 0 0; table = imageTable bs })
 
 -- "or as the accepted image's records say": the plain plan that the records draw
@@ -217,9 +229,17 @@ imagePlan bs =
           none);
     }
 
--- record k of one image and record l of another have the same eight fields
-abbrev pub SameFields : List ℕ → ℕ → List ℕ → ℕ → Type 0
-SameFields bs k cs l = (i : ℕ) → i < stepFieldCount → fieldAt bs (stepPlace k) i ≡ fieldAt cs (stepPlace l) i
+-- every number of the list is a byte
+abbrev pub Bytes : List ℕ → Type 0
+Bytes bs = (i : ℕ) → getD bs i 0 < 256
+
+-- n bytes from a place of one list are those from a place of another
+abbrev pub SameBytes : List ℕ → ℕ → List ℕ → ℕ → ℕ → Type 0
+SameBytes bs at cs to n = (i : ℕ) → i < n → getD bs (at + i) 0 ≡ getD cs (to + i) 0
+
+-- step record k of one image is step record l of another, byte for byte
+abbrev pub SameRecord : List ℕ → ℕ → List ℕ → ℕ → Type 0
+SameRecord bs k cs l = SameBytes bs (stepPlace k) cs (stepPlace l) (recordSize stepFieldCount)
 
 -- no step has two records
 abbrev pub Once : List ℕ → Type 0
@@ -228,10 +248,8 @@ Once bs = (j k : ℕ) → j < countIn bs → k < countIn bs → numberIn bs j �
 -- two images that differ at most in the order of their step records
 pub record SameRecords (bs cs : List ℕ) : Type 0 where
   pub size : length bs ≡ length cs
-  pub capacity : capacityIn bs ≡ capacityIn cs
-  pub last : lastIn bs ≡ lastIn cs
-  pub count : countIn bs ≡ countIn cs
-  pub there : (k : ℕ) → k < countIn bs → (l : ℕ) × (l < countIn cs) × SameFields bs k cs l
-  pub back : (l : ℕ) → l < countIn cs → (k : ℕ) × (k < countIn bs) × SameFields bs k cs l
+  pub header : SameBytes bs 0 cs 0 (recordSize headerFieldCount)
+  pub there : (k : ℕ) → k < countIn bs → (l : ℕ) × (l < countIn cs) × SameRecord bs k cs l
+  pub back : (l : ℕ) → l < countIn cs → (k : ℕ) × (k < countIn bs) × SameRecord bs k cs l
   pub once : Once bs
   pub onceBack : Once cs

@@ -1,44 +1,15 @@
--- Laws that the proofs of this crate share. Assumes nothing.
---   usedBelow used n           how many of the first n steps are in use
---   used-..                    one more step, in use or not
+-- Numbers put into bytes. Assumes nothing.
 --   put-eq put-word put-more   numbers put from a place on, and behind others
 use mathlib.Core.Path.{_≡_, refl, _∙_, ap}
 use mathlib.Core.List.{List, [], _∷_, _++_}
 use Prim.Native.Nat.{ℕ, suc, _+_, _*_, _/_, _%_, _≤_}
 use native.Mathlib.Numerals.{add-one}
 use native.Mathlib.Omega.{arith}
-use lib.ListN.{length, getD, set, drop}
+use lib.ListN.{length, set, drop}
 use lib.Seq.{sets, sets-eq}
-use borrow.Author.Tests.{eq-eqb, ne-eqb}
-use Rattle.finite.specs.Below.{count}
-use Rattle.finite.proofs.Below.{count-le}
-use Rattle.finite.proofs.Select.{count-grows}
-use Rattle.finite.proofs.Loops.{count-hit, count-miss}
 use Rattle.image.specs.Image.{word, words}
 use Rattle.image.proofs.Words.{length-words}
-use Rattle.edits.specs.Parts.{usedAt}
 use Rattle.images.specs.Parts.{putWords}
-
-abbrev pub usedBelow : List ℕ → ℕ → ℕ
-usedBelow used n = count n (usedAt used)
-
-pub used-hit : (used : List ℕ) (n : ℕ) → getD used n 0 ≡ 1 → usedBelow used (n + 1) ≡ usedBelow used n + 1
-unfolding usedAt
-used-hit used n h = count-hit n _ (eq-eqb (getD used n 0) 1 h)
-
-pub used-miss : (used : List ℕ) (n : ℕ) → (getD used n 0 ≡ 1 → ⊥) → usedBelow used (n + 1) ≡ usedBelow used n
-unfolding usedAt
-used-miss used n h = count-miss n _ (ne-eqb (getD used n 0) 1 h)
-
-pub used-none : (used : List ℕ) → 0 ≡ usedBelow used 0
-unfolding count
-used-none used = refl
-
-pub used-le : (used : List ℕ) (n : ℕ) → usedBelow used n ≤ n
-used-le used n = count-le n _
-
-pub used-grows : (used : List ℕ) (m n : ℕ) → m ≤ n → usedBelow used m ≤ usedBelow used n
-used-grows used m n h = count-grows _ m n h
 
 -- numbers put at a place
 pub put-eq : (bs : List ℕ) (ns : List ℕ) → 2 * length ns ≤ length bs → putWords bs 0 ns ≡ words ns ++ drop (2 * length ns) bs

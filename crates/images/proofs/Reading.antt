@@ -47,10 +47,6 @@ module _ (bs : List ℕ) where
   unfolding readHeader capacityIn lastIn fieldAt
   header-found f = rw (header-fits f)
 
-  pub header-capacity : HeaderFits bs → capacityIn bs ≤ 128
-  unfolding capacityIn fieldAt
-  header-capacity f = f .capacity
-
   pub header-unfit : (HeaderFits bs → ⊥) → readHeader bs ≡ Unfit
   unfolding readHeader
   header-unfit f = rw (refute (eqb (length bs) (stepPlace (countIn bs)) && (recordAt bs 0 1 3 && leb (capacityIn bs) 128)) (λ t. f (fits-header t)))
@@ -89,8 +85,9 @@ module _ (bs : List ℕ) where
   step-found f = rw (step-fits f)
 
   -- the same of a record with the fields that were read
-  pub step-built : (r : StepRecord) → StepFits bs 0 → r .number ≡ wordAt bs 4 → r .kind ≡ wordAt bs 6 → r .content ≡ wordAt bs 8 → r .bits ≡ wordAt bs 10 →
-      r .first ≡ wordAt bs 12 → r .second ≡ wordAt bs 14 → r .third ≡ wordAt bs 16 → r .fourth ≡ wordAt bs 18 → Step r ≡ readStep bs
+  pub step-built : (r : StepRecord) → StepFits bs 0 → r .number ≡ wordAt bs 4 → r .kind ≡ wordAt bs 6 → r .content ≡ wordAt bs 8 →
+      r .bits ≡ wordAt bs 10 → r .first ≡ wordAt bs 12 → r .second ≡ wordAt bs 14 → r .third ≡ wordAt bs 16 → r .fourth ≡ wordAt bs 18 →
+      Step r ≡ readStep bs
   unfolding stepRead fieldAt
   step-built r f number kind content bits first second third fourth =
       (λ k.

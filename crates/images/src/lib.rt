@@ -1,22 +1,16 @@
 // The calls write image and load image (document 01, "Image"). What is said of them is in the crate image, and of the functions inside in specs/.
 ghost use mathlib.Core.Path.{_≡_};
+ghost use mathlib.Core.Bool.{true};
 ghost use mathlib.Core.List.{[], _∷_, _++_};
-ghost use Prim.Native.Nat.{ℕ, _+_, _*_, _/_, _%_, _<_, _≤_};
-ghost use lib.ListN.{length, getD, drop};
-ghost use lib.Seq.{sets};
-ghost use Rattle.image.specs.Image.{writeCall, loadCall, recordBytes, headerRecordKind, stepRecordKind, wordAt, counted};
-ghost use Rattle.images.specs.Parts.{putWords, recordFields, RecordFrom, BitsSmall, readStep, readHeader, linkTable, blankTable, refusedLoad};
+ghost use Prim.Native.Nat.{ℕ, _+_, _*_, _<_, _≤_};
+ghost use lib.ListN.{length, getD, drop, replicate};
+ghost use Rattle.table.specs.Table.{places, counters, inUse};
+ghost use Rattle.table.specs.Sound.{sound};
+ghost use Rattle.image.specs.Image.{lengthCall, writeCall, loadCall, recordBytes, headerRecordKind, stepRecordKind, stepFieldsOf, wordAt, counted, imageTable, accepted};
+ghost use Rattle.words.specs.Words.{tableOf, wordsOf, Becomes};
+ghost use Rattle.images.specs.Parts.{putWords, recordFields, readStep, readHeader, withRecord};
 use table::Answer;
-use table::Outcome;
-use table::Table;
-
-// The numbers of the refusals.
-// The table is not sound.
-const NOT_SOUND: u16 = 1;
-// The lent buffer is shorter than the image.
-const TOO_SHORT: u16 = 11;
-// The bytes are no image that is accepted.
-const NOT_ACCEPTED: u16 = 12;
+use words::WORDS;
 
 // The length in bytes and the kind of the header record, and of a step record.
 const HEADER_SIZE: u16 = 10;
@@ -93,61 +87,71 @@ fn put_step(part: &mut [u8], r: StepRecord)
 
 // The five bits of a step as one number: a sum of 1, 2, 4, 8 for the exits in order and 16 for the step.
 fn pack(first: u16, second: u16, third: u16, fourth: u16, own: u16) -> u16
-    requires { ⌜ (first < 2) × ((second < 2) × ((third < 2) × ((fourth < 2) × (own < 2)))) ⌝ }
+    requires { ⌜ (first < 2) × (second < 2) × (third < 2) × (fourth < 2) × (own < 2) ⌝ }
     ensures { λ r. ⌜ r ≡ first + 2 * second + 4 * third + 8 * fourth + 16 * own ⌝ }
 {
     first + 2 * second + 4 * third + 8 * fourth + 16 * own
 }
 
-// The record of step i, from the arrays of its table.
-fn step_record<'a>(
-    kinds: &'a [u16; 128],
-    contents: &'a [u16; 128],
-    own: &'a [u16; 128],
-    targets: &'a [u16; 512],
-    bits: &'a [u16; 512],
-    i: usize,
-) -> StepRecord
-    requires { ⌜ i < 128 ⌝ }
-    requires { ⌜ BitsSmall (now own) (now bits) i ⌝ }
-    ensures { λ r. ⌜ RecordFrom (now (kinds .entry)) (now (contents .entry)) (now (own .entry)) (now (targets .entry)) (now (bits .entry)) i r ⌝ }
+// The record of step i, which is in use, of a sound table.
+fn step_record(t: &[u16; WORDS], i: usize) -> StepRecord
+    requires { ⌜ (i < places) × (sound (tableOf (now t)) ≡ true) × (inUse (tableOf (now t)) i ≡ true) ⌝ }
+    ensures { λ r. ⌜ recordFields r ≡ stepFieldsOf (tableOf (now (t .entry))) i ⌝ }
 {
-    let p = i * 4;
-    let sum = pack(bits[p], bits[p + 1], bits[p + 2], bits[p + 3], own[i]);
+    let sum = pack(
+        words::bit_at(t, i, 0),
+        words::bit_at(t, i, 1),
+        words::bit_at(t, i, 2),
+        words::bit_at(t, i, 3),
+        words::own_at(t, i),
+    );
     StepRecord {
         number: i as u16,
-        kind: kinds[i],
-        content: contents[i],
+        kind: words::kind_at(t, i),
+        content: words::content_at(t, i),
         bits: sum,
-        first: targets[p],
-        second: targets[p + 1],
-        third: targets[p + 2],
-        fourth: targets[p + 3],
+        first: words::target_at(t, i, 0),
+        second: words::target_at(t, i, 1),
+        third: words::target_at(t, i, 2),
+        fourth: words::target_at(t, i, 3),
     }
 }
 
-// Writes the image of a sound table to the start of the buffer, and gives back its length. A refused call writes nothing.
-pub fn write_image(t: Table, buffer: &mut [u8]) -> Answer
-    ensures answer { λ r. ⌜ r ≡ writeCall t (now (buffer .entry)) .answer ⌝ }
-    ensures written { λ r. ⌜ now (buffer .exit) ≡ writeCall t (now (buffer .entry)) .buffer ⌝ }
+// The length of the image that write image would write, which is the room that it needs.
+pub fn image_length(t: &[u16; WORDS]) -> Answer
+    ensures { λ r. ⌜ r ≡ lengthCall (tableOf (now (t .entry))) ⌝ }
 {
-    if !soundness::is_sound(t) {
-        return Answer::Refused(NOT_SOUND);
+    let refusal = soundness::table_refusal(t);
+    if refusal != 0 {
+        return Answer::Refused(refusal);
     }
-    let capacity = t.capacity;
-    let steps = edits::count_used(&t.used, capacity);
+    let steps = edits::count_used(t);
+    Answer::Given(HEADER_SIZE + STEP_SIZE * steps, 0)
+}
+
+// Writes the image of a sound table to the start of the buffer, and gives back its length. A refused call writes nothing.
+pub fn write_image(t: &[u16; WORDS], buffer: &mut [u8]) -> Answer
+    ensures answer { λ r. ⌜ r ≡ writeCall (tableOf (now (t .entry))) (now (buffer .entry)) .answer ⌝ }
+    ensures written { λ r. ⌜ now (buffer .exit) ≡ writeCall (tableOf (now (t .entry))) (now (buffer .entry)) .buffer ⌝ }
+{
+    let refusal = soundness::table_refusal(t);
+    if refusal != 0 {
+        return Answer::Refused(refusal);
+    }
+    let steps = edits::count_used(t);
     let size = HEADER_SIZE + STEP_SIZE * steps;
-    if buffer.len() < size as usize {
-        return Answer::Refused(TOO_SHORT);
+    if buffer.len() < words::wide(size) {
+        return Answer::Refused(words::TOO_SHORT);
     }
-    put_header(buffer, capacity, t.last, steps);
-    let n = capacity as usize;
+    let capacity = words::capacity(t);
+    put_header(buffer, capacity, words::last(t), steps);
+    let n = words::wide(capacity);
     let mut at: usize = 10;
     let mut i: usize = 0;
     // The header and the records of the steps in use below i stand before the place at; the rest is as it was.
     while i < n {
-        if t.used[i] == 1 {
-            let r = step_record(&t.kinds, &t.contents, &t.own, &t.targets, &t.bits, i);
+        if words::in_use(t, i) {
+            let r = step_record(t, i);
             put_step(&mut buffer[at..], r);
             at += 20;
         }
@@ -228,111 +232,73 @@ fn read_step(part: &[u8]) -> Read
     })
 }
 
-// Stores one number for each of the four exits of step i.
-fn put_exits(array: &mut [u16; 512], i: usize, first: u16, second: u16, third: u16, fourth: u16)
-    requires { ⌜ i < 128 ⌝ }
-    ensures { λ _. ⌜ now (array .exit) ≡ sets (now (array .entry)) (i * 4) (first ∷ second ∷ third ∷ fourth ∷ []) ⌝ }
+// The step of a record is in use, with the record's fields; no counter changes.
+fn put_record(t: &mut [u16; WORDS], r: StepRecord)
+    requires { ⌜ r .number < places ⌝ }
+    ensures { λ _. ⌜ Becomes (now (t .entry)) (now (t .exit)) (withRecord (tableOf (now (t .entry))) r) ⌝ }
 {
-    let p = i * 4;
-    array[p] = first;
-    array[p + 1] = second;
-    array[p + 2] = third;
-    array[p + 3] = fourth;
+    let i = words::wide(r.number);
+    let bits = r.bits;
+    words::put_step(t, i, r.kind, r.content, bits / 16 % 2);
+    words::put_link(t, i, 0, r.first, bits % 2);
+    words::put_link(t, i, 1, r.second, bits / 2 % 2);
+    words::put_link(t, i, 2, r.third, bits / 4 % 2);
+    words::put_link(t, i, 3, r.fourth, bits / 8 % 2);
 }
 
-// Stores the bit of each of the four exits of step i, taken out of the sum of its bits.
-fn put_bits(array: &mut [u16; 512], i: usize, bits: u16)
-    requires { ⌜ i < 128 ⌝ }
-    ensures { λ _. ⌜ now (array .exit) ≡ sets (now (array .entry)) (i * 4) (bits % 2 ∷ bits / 2 % 2 ∷ bits / 4 % 2 ∷ bits / 8 % 2 ∷ []) ⌝ }
+// Works out the counters of every step, all zero so far, from the links out of the steps below the capacity. A target that no table has is
+// passed over: the table is not sound then.
+fn count_links(t: &mut [u16; WORDS])
+    requires { ⌜ (tableOf (now t) .capacity ≤ places) × ((p : ℕ) → getD (tableOf (now t) .bits) p 0 < counters) ×
+        (tableOf (now t) .counts ≡ replicate (places * counters) 0) ⌝ }
+    ensures { λ _. ⌜ Becomes (now (t .entry)) (now (t .exit)) (counted (tableOf (now (t .entry)))) ⌝ }
 {
-    put_exits(array, i, bits % 2, bits / 2 % 2, bits / 4 % 2, bits / 8 % 2);
-}
-
-// The counters of every step, from the links out of the steps below the capacity. A target that no table has is passed over: the table is not
-// sound then.
-fn count_links<'a>(targets: &'a [u16; 512], bits: &'a [u16; 512], capacity: u16) -> [u16; 256]
-    requires { ⌜ capacity ≤ 128 ⌝ }
-    requires { ⌜ ((p : ℕ) → getD (now bits) p 0 < 2) ⌝ }
-    ensures { λ r. ⌜ r ≡ counted (linkTable capacity (now (targets .entry)) (now (bits .entry))) .counts ⌝ }
-{
-    let n = capacity as usize * 4;
-    let mut counts = [0u16; 256];
+    let n = words::wide(words::capacity(t)) * words::EXITS;
     let mut p: usize = 0;
     // The links in the exits before the place p are counted.
     while p < n {
-        let target = targets[p];
-        let bit = bits[p];
-        if 0 < target {
-            if target < 128 {
-                let q = target as usize * 2 + bit as usize;
-                counts[q] += 1;
-            }
+        let target = words::target_in(t, p);
+        if words::wide(target) < words::PLACES {
+            let bit = words::bit_in(t, p);
+            words::raise(t, target, bit);
         }
         p += 1;
     }
-    counts
 }
 
-// A table with no step in use and all fields zero or empty.
-fn blank(capacity: u16, last: u16) -> Table
-    ensures { λ r. ⌜ r ≡ blankTable capacity last ⌝ }
-{
-    Table {
-        capacity,
-        last,
-        used: [0u16; 128],
-        kinds: [0u16; 128],
-        contents: [0u16; 128],
-        own: [0u16; 128],
-        targets: [0u16; 512],
-        bits: [0u16; 512],
-        counts: [0u16; 256],
-    }
-}
-
-// A refused load hands back a fresh table of capacity 1.
-fn refused() -> Outcome
-    ensures { λ r. ⌜ r ≡ refusedLoad ⌝ }
-{
-    Outcome {
-        answer: Answer::Refused(NOT_ACCEPTED),
-        table: edits::fresh_table(1),
-    }
-}
-
-// The table that the records of an image say, where the image is accepted.
-pub fn load_image(bytes: &[u8]) -> Outcome
-    ensures { λ r. ⌜ r ≡ loadCall (now (bytes .entry)) ⌝ }
+// Whether the image is accepted. Where it is, the table becomes the one that its records say.
+fn take_image(t: &mut [u16; WORDS], bytes: &[u8]) -> bool
+    ensures answer { λ r. ⌜ r ≡ accepted (now (bytes .entry)) ⌝ }
+    ensures table { λ r. ⌜ (r ≡ true → now (t .exit) ≡ wordsOf (imageTable (now (bytes .entry)))) ⌝ }
 {
     let Header::Fits(capacity, last) = read_header(bytes) else {
-        return refused();
+        return false;
     };
-    let mut t = blank(capacity, last);
+    words::erase(t, capacity, last);
     let mut at: usize = 10;
     // The records before the place at are those of different steps, and the table has their fields; all other steps are blank.
     while at < bytes.len() {
         let Read::Step(r) = read_step(&bytes[at..]) else {
-            return refused();
+            return false;
         };
-        let i = r.number as usize;
-        if t.used[i] != 0 {
-            return refused();
+        if words::used_at(t, words::wide(r.number)) != 0 {
+            return false;
         }
-        t.used[i] = 1;
-        t.kinds[i] = r.kind;
-        t.contents[i] = r.content;
-        t.own[i] = r.bits / 16 % 2;
-        put_exits(&mut t.targets, i, r.first, r.second, r.third, r.fourth);
-        put_bits(&mut t.bits, i, r.bits);
+        put_record(t, r);
         at += 20;
     }
-    let counts = count_links(&t.targets, &t.bits, capacity);
-    t.counts = counts;
-    if !soundness::is_sound(t) {
-        return refused();
+    count_links(t);
+    soundness::is_sound(t)
+}
+
+// The table that the records of an image say, where the image is accepted; else a fresh table of capacity 1.
+pub fn load_image(t: &mut [u16; WORDS], bytes: &[u8]) -> Answer
+    ensures answer { λ r. ⌜ r ≡ loadCall (now (bytes .entry)) .answer ⌝ }
+    ensures table { λ r. ⌜ now (t .exit) ≡ wordsOf (loadCall (now (bytes .entry)) .table) ⌝ }
+{
+    if !take_image(t, bytes) {
+        edits::fresh_table(t, 1);
+        return Answer::Refused(words::NOT_ACCEPTED);
     }
-    Outcome {
-        answer: Answer::Given(0, 0),
-        table: t,
-    }
+    Answer::Given(0, 0)
 }

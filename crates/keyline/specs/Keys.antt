@@ -3,24 +3,24 @@
 --   decimal bs k w       the number that w digits spell from place k
 --   decode bs            the command of a key line
 --   callDigit            the digit after the star
+--   keyConditions        the conditions of its refusals with their numbers, in their order
+--   countsCall t         the counts alone: what H*4A answers
 --   perform, keyCall     the call that a command makes, and the call of a key line
-use mathlib.Core.Bool.{Bool, _&&_, not, cond}
-use mathlib.Core.List.{List, [], _∷_}
+use mathlib.Core.Bool.{Bool, true, _&&_, not, cond}
+use mathlib.Core.List.{List, [], _∷_, _++_}
 use Prim.Native.Nat.{ℕ, zero, suc, _+_, _*_, _-_}
 use lib.ListN.{length, getD}
 use lib.Dec.{eqb, leb}
 use Rattle.finite.specs.Below.{all, passes}
-use Rattle.table.specs.declared.Table.{Table}
 use Rattle.table.specs.declared.Answer.the-variants.{Refused, Given}
-use Rattle.table.specs.declared.Outcome.{Outcome}
 use Rattle.keyline.specs.declared.Command.{Command}
 use Rattle.keyline.specs.declared.Command.the-variants.{Add, Link, Clear, Count}
 use Rattle.keyline.specs.declared.Decoded.{Decoded}
 use Rattle.keyline.specs.declared.Decoded.the-variants.{Line, Nothing}
-use Rattle.table.specs.Table.{stepsInUse}
-use Rattle.table.specs.Answer.{notKeyLine, first, unless}
-use Rattle.table.specs.Calls.{tableTests, addCall, linkCall}
-use Rattle.table.specs.Clear.{clearCall}
+use Rattle.table.specs.Table.{Table, stepsInUse}
+use Rattle.table.specs.Answer.{Outcome, notKeyLine, first, unless}
+use Rattle.table.specs.Calls.{tableTests, addConditions, addCall, linkConditions, linkCall}
+use Rattle.table.specs.Clear.{clearConditions, clearCall}
 
 -- "Keys are ASCII: H alarm held, A alarm pressed, *, digits."
 abbrev pub held : ℕ
@@ -72,6 +72,10 @@ callDigit Count = 4
 unfoldable pub spokenCounts : Table → Outcome
 spokenCounts t = record { answer = Given (stepsInUse t) (t .capacity - stepsInUse t); table = t }
 
+-- the same without a key line: refusal 1, else the counts
+unfoldable pub countsCall : Table → Outcome
+countsCall t = unless (first (tableTests t)) t (spokenCounts t)
+
 unfoldable pub perform : Table → Command → Outcome
 perform t (Add holder e kind content) = addCall t holder e kind content
 perform t (Link source e second f) = linkCall t source e second f
@@ -79,6 +83,19 @@ perform t (Clear i e) = clearCall t i e
 perform t Count = spokenCounts t
 
 -- "key line 1, 9, then its call's"
+unfoldable pub callConditions : Table → Command → List (Bool × ℕ)
+callConditions t (Add holder e kind content) = addConditions t holder e kind content
+callConditions t (Link source e second f) = linkConditions t source e second f
+callConditions t (Clear i e) = clearConditions t i e
+callConditions t Count = []
+
+unfoldable pub lineConditions : Table → Decoded → List (Bool × ℕ)
+lineConditions t Nothing = (true, notKeyLine) ∷ []
+lineConditions t (Line c) = callConditions t c
+
+unfoldable pub keyConditions : Table → List ℕ → List (Bool × ℕ)
+keyConditions t bs = tableTests t ++ lineConditions t (decode bs)
+
 unfoldable pub performLine : Table → Decoded → Outcome
 performLine t Nothing = record { answer = Refused notKeyLine; table = t }
 performLine t (Line c) = perform t c

@@ -1,8 +1,11 @@
 -- Laws of key lines: digits and the numbers that they spell, the tests of a line, the decoder's cases and the calls. Assumes nothing.
 --   spelt bs from i     the byte i places after `from` is a digit
 --   lineTests           the tests of `isLine`, as a list
-use mathlib.Core.Path.{_≡_, refl}
+--   key-add key-link key-clear key-count   the call of a key line is the call that it names
+--   key-shape           the arrays of a table keep their lengths
+use mathlib.Core.Path.{_≡_, refl, sym}
 use mathlib.Core.Bool.{Bool, true, false, _&&_}
+use mathlib.Core.Logic.{⊎-elim}
 use mathlib.Core.List.{List, [], _∷_}
 use Prim.Native.Nat.{ℕ, zero, suc, _+_, _*_, _-_, _^_, _≤_, _<_}
 use native.Mathlib.Nat.{pow-le-pow-right}
@@ -10,18 +13,22 @@ use native.Mathlib.Numerals.{add-one}
 use native.Mathlib.Omega.{arith}
 use lib.ListN.{length, getD}
 use lib.Dec.{eqb, leb}
-use borrow.Author.Tests.{leb-true, eqb-true, eq-eqb}
+use borrow.Author.Tests.{leb-true, eqb-true, eq-eqb, ne-eqb}
 use Rattle.finite.specs.Below.{all}
-use Rattle.finite.proofs.Bools.{and-left, and-right, clash, refute, passes-at}
+use Rattle.finite.proofs.Bools.{and-left, and-right, clash, refute, passes-at, test}
 use Rattle.finite.proofs.Below.{all-at}
-use Rattle.table.specs.declared.Table.{Table}
-use Rattle.table.specs.declared.Answer.the-variants.{Refused}
-use Rattle.table.specs.Sound.{sound}
-use Rattle.table.specs.Answer.{notSound, first, unless}
+use Rattle.table.specs.declared.Answer.the-variants.{Refused, Given}
+use Rattle.table.specs.Table.{Table, stepsInUse}
+use Rattle.table.specs.Sound.{Shape, Sound, sound}
+use Rattle.table.specs.Answer.{Outcome, notSound, notKeyLine, first, unless}
+use Rattle.table.specs.Calls.{tableTests, addRefusal, addCall, linkRefusal, linkCall}
+use Rattle.table.specs.Clear.{clearRefusal, clearCall}
+use Rattle.table.proofs.Sound.{test-sound}
+use Rattle.table.proofs.Calls.{add-fits, link-fits, clear-fits, add-sound, link-sound, clear-cleared}
 use Rattle.keyline.specs.declared.Command.the-variants.{Add, Link, Clear, Count}
 use Rattle.keyline.specs.declared.Decoded.{Decoded}
 use Rattle.keyline.specs.declared.Decoded.the-variants.{Line, Nothing}
-use Rattle.keyline.specs.Keys.{held, star, pressed, digit, isDigit, isLine, decimal, decode, performLine, keyCall}
+use Rattle.keyline.specs.Keys.{held, star, pressed, digit, isDigit, isLine, decimal, decode, spokenCounts, countsCall, perform, performLine, keyCall}
 
 pub digit-low : (x : ℕ) → isDigit x ≡ true → digit 0 ≤ x
 unfolding isDigit
@@ -127,12 +134,108 @@ module _ (bs : List ℕ) where
         unfolding decode
         decode-nothing h = rw (no-add, no-link, no-clear, h)
 
--- the call of a key line: refusal 1, else what the decoder's answer says
-module _ (t : Table) (bs : List ℕ) where
-  pub key-unsound : sound t ≡ false → record { answer = Refused notSound; table = t } ≡ keyCall t bs
-  unfolding keyCall unless first
-  key-unsound h = rw h
+-- a call on a table that is not sound is refused 1 with the table as it is
+abbrev unsound : Table → Outcome
+unsound t = record { answer = Refused notSound; table = t }
 
-  pub key-sound : sound t ≡ true → {d : Decoded} → d ≡ decode bs → performLine t d ≡ keyCall t bs
-  unfolding keyCall unless first
-  key-sound h q = rw (h, q)
+module _ (t : Table) (h : sound t ≡ false) where
+  pub add-unsound : (holder e kind content : ℕ) → addCall t holder e kind content ≡ unsound t
+  unfolding addCall addRefusal unless first
+  add-unsound holder e kind content = rw h
+
+  pub link-unsound : (source e second f : ℕ) → linkCall t source e second f ≡ unsound t
+  unfolding linkCall linkRefusal unless first
+  link-unsound source e second f = rw h
+
+  pub clear-unsound : (i e : ℕ) → clearCall t i e ≡ unsound t
+  unfolding clearCall clearRefusal unless first
+  clear-unsound i e = rw h
+
+-- so a call that tests the table is not changed by a test before it
+tested-once : (t : Table) (o : Outcome) → (sound t ≡ false → o ≡ unsound t) → o ≡ unless (first (tableTests t)) t o
+unfolding unless first
+tested-once t o f =
+    ⊎-elim (λ (h : sound t ≡ true). rw h)
+    (λ (h : sound t ≡ false). rw h (f h))
+    (test (sound t))
+
+-- where nothing but the answer is told, the table is that of before
+table-kept : (n : ℕ) (t : Table) (o : Outcome) → o .table ≡ t → unless n t o .table ≡ t
+unfolding unless
+table-kept n t o q =
+    ⊎-elim (λ (h : eqb n 0 ≡ true). rw h q) (λ (h : eqb n 0 ≡ false). rw h) (test (eqb n 0))
+
+-- the call of a line that is no key line: 1, else 9
+module _ (t : Table) (bs : List ℕ) (q : Nothing ≡ decode bs) where
+  pub nothing-unsound : (first (tableTests t) ≡ 0 → ⊥) → Refused (first (tableTests t)) ≡ keyCall t bs .answer
+  unfolding keyCall unless
+  nothing-unsound d = rw (ne-eqb (first (tableTests t)) 0 d)
+
+  pub nothing-sound : first (tableTests t) ≡ 0 → Refused notKeyLine ≡ keyCall t bs .answer
+  unfolding keyCall performLine unless
+  nothing-sound z = rw (sym q, eq-eqb (first (tableTests t)) 0 z)
+
+  pub nothing-table : keyCall t bs .table ≡ t
+  unfolding keyCall performLine
+  nothing-table = rw (sym q) (table-kept (first (tableTests t)) t (record { answer = Refused notKeyLine; table = t }) refl)
+
+-- the call of a key line is the call that it names, which tests the table itself
+module _ (t : Table) (bs : List ℕ) where
+  pub key-add : (holder e kind content : ℕ) → Line (Add holder e kind content) ≡ decode bs → addCall t holder e kind content ≡ keyCall t bs
+  unfolding keyCall performLine perform
+  key-add holder e kind content q = rw (sym q) (tested-once t _ (λ h. add-unsound t h holder e kind content))
+
+  pub key-link : (source e second f : ℕ) → Line (Link source e second f) ≡ decode bs → linkCall t source e second f ≡ keyCall t bs
+  unfolding keyCall performLine perform
+  key-link source e second f q = rw (sym q) (tested-once t _ (λ h. link-unsound t h source e second f))
+
+  pub key-clear : (i e : ℕ) → Line (Clear i e) ≡ decode bs → clearCall t i e ≡ keyCall t bs
+  unfolding keyCall performLine perform
+  key-clear i e q = rw (sym q) (tested-once t _ (λ h. clear-unsound t h i e))
+
+  pub key-count : Line Count ≡ decode bs → countsCall t ≡ keyCall t bs
+  unfolding keyCall performLine perform countsCall
+  key-count q = rw (sym q)
+
+pub counts-table : (t : Table) → countsCall t .table ≡ t
+unfolding countsCall spokenCounts
+counts-table t = table-kept (first (tableTests t)) t (spokenCounts t) refl
+
+-- the counts of a table: 1, else the steps in use and the free ones
+module _ (t : Table) where
+  pub counts-unsound : (first (tableTests t) ≡ 0 → ⊥) → Refused (first (tableTests t)) ≡ countsCall t .answer
+  unfolding countsCall unless
+  counts-unsound d = rw (ne-eqb (first (tableTests t)) 0 d)
+
+  pub counts-sound : first (tableTests t) ≡ 0 → Given (stepsInUse t) (t .capacity - stepsInUse t) ≡ countsCall t .answer
+  unfolding countsCall spokenCounts unless
+  counts-sound z = rw (eq-eqb (first (tableTests t)) 0 z)
+
+  -- the steps in use of a table that passes the test are below its capacity, which is in range
+  pub passes-sound : first (tableTests t) ≡ 0 → sound t ≡ true
+  unfolding first
+  passes-sound z =
+      ⊎-elim (λ (h : sound t ≡ true). h) (λ (h : sound t ≡ false). absurd (omega (arith, rw h at z))) (test (sound t))
+
+-- the arrays of a table keep their lengths, whatever the line says
+shape-unless : (n : ℕ) (t : Table) (o : Outcome) → Shape t → (n ≡ 0 → Shape (o .table)) → Shape (unless n t o .table)
+unfolding unless
+shape-unless n t o s f =
+    ⊎-elim (λ (h : eqb n 0 ≡ true). rw h (f (eqb-true n 0 h))) (λ (h : eqb n 0 ≡ false). rw h s) (test (eqb n 0))
+
+shape-performed : (t : Table) → Sound t → (d : Decoded) → Shape (performLine t d .table)
+unfolding performLine perform addCall linkCall clearCall spokenCounts
+shape-performed t s Nothing = s .shape
+shape-performed t s (Line (Add holder e kind content)) =
+    shape-unless (addRefusal t holder e kind content) t _ (s .shape)
+    (λ z. add-sound s holder e kind content (add-fits t holder e kind content z) .shape)
+shape-performed t s (Line (Link source e second f)) =
+    shape-unless (linkRefusal t source e second f) t _ (s .shape) (λ z. link-sound s source e second f (link-fits t source e second f z) .shape)
+shape-performed t s (Line (Clear i e)) =
+    shape-unless (clearRefusal t i e) t _ (s .shape) (λ z. clear-cleared s i e (clear-fits t i e z) .3 .sound .shape)
+shape-performed t s (Line Count) = s .shape
+
+pub key-shape : (t : Table) (bs : List ℕ) → Shape t → Shape (keyCall t bs .table)
+unfolding keyCall
+key-shape t bs s =
+    shape-unless (first (tableTests t)) t _ s (λ z. shape-performed t (test-sound t (passes-sound t z)) (decode bs))

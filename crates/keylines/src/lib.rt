@@ -4,18 +4,13 @@ ghost use mathlib.Core.Bool.{true};
 ghost use Prim.Native.Nat.{ℕ, _+_, _-_, _≤_, _<_};
 ghost use lib.ListN.{length, getD};
 ghost use Rattle.finite.specs.Below.{all};
-ghost use Rattle.table.specs.Sound.{sound};
-ghost use Rattle.keyline.specs.Keys.{digit, isDigit, isLine, decimal, decode, spokenCounts, keyCall};
+ghost use Rattle.words.specs.Words.{tableOf, wordsOf};
+ghost use Rattle.keyline.specs.Keys.{digit, isDigit, isLine, decimal, decode, countsCall, keyCall};
 use keyline::Command;
 use keyline::Decoded;
 use table::Answer;
-use table::Outcome;
-use table::Table;
-
-// The table is not sound.
-const NOT_SOUND: u16 = 1;
-// The line is not a key line.
-const NOT_KEY_LINE: u16 = 9;
+use words::NOT_KEY_LINE;
+use words::WORDS;
 
 // H in ASCII: the alarm is held.
 const HELD: u8 = 72;
@@ -143,39 +138,36 @@ pub fn decode(line: &[u8]) -> Decoded
     Decoded::Nothing
 }
 
-// The spoken counts of a sound table, which is handed back as it is: steps in use, and free ones.
-fn spoken_counts(t: Table) -> Outcome
-    requires { ⌜ sound t ≡ true ⌝ }
-    ensures { λ r. ⌜ r ≡ spokenCounts t ⌝ }
+// The spoken counts: steps in use, and free ones. A table that is not sound gets refusal 1.
+pub fn counts(t: &[u16; WORDS]) -> Answer
+    ensures { λ r. ⌜ r ≡ countsCall (tableOf (now (t .entry))) .answer ⌝ }
 {
-    let capacity = t.capacity;
-    let n = edits::count_used(&t.used, capacity);
-    Outcome {
-        answer: Answer::Given(n, capacity - n),
-        table: t,
+    let refusal = soundness::table_refusal(t);
+    if refusal != 0 {
+        return Answer::Refused(refusal);
     }
+    let n = edits::count_used(t);
+    Answer::Given(n, words::capacity(t) - n)
 }
 
-// The call of a key line: the answer and the table of the call that it makes, or refusal 9.
-pub fn key_line(t: Table, line: &[u8]) -> Outcome
-    ensures { λ r. ⌜ r ≡ keyCall t (now (line .entry)) ⌝ }
+// The call of a key line: the answer and the table of the call that it makes, or refusal 9. The line is decoded first; each call tests the table
+// itself, so that it is tested once.
+pub fn key_line(t: &mut [u16; WORDS], line: &[u8]) -> Answer
+    ensures answer { λ r. ⌜ r ≡ keyCall (tableOf (now (t .entry))) (now (line .entry)) .answer ⌝ }
+    ensures table { λ r. ⌜ now (t .exit) ≡ wordsOf (keyCall (tableOf (now (t .entry))) (now (line .entry)) .table) ⌝ }
 {
-    if !soundness::is_sound(t) {
-        return Outcome {
-            answer: Answer::Refused(NOT_SOUND),
-            table: t,
-        };
-    }
+    words::sized(t);
     let Decoded::Line(command) = decode(line) else {
-        return Outcome {
-            answer: Answer::Refused(NOT_KEY_LINE),
-            table: t,
-        };
+        let refusal = soundness::table_refusal(t);
+        if refusal != 0 {
+            return Answer::Refused(refusal);
+        }
+        return Answer::Refused(NOT_KEY_LINE);
     };
     match command {
         Command::Add(holder, exit, kind, content) => edits::add(t, holder, exit, kind, content),
         Command::Link(source, exit, second, other) => edits::link(t, source, exit, second, other),
         Command::Clear(step, exit) => clearing::clear(t, step, exit),
-        Command::Count => spoken_counts(t),
+        Command::Count => counts(t),
     }
 }

@@ -6,12 +6,20 @@ ghost use lib.ListN.{length};
 ghost use Rattle.session.specs.Session.{keptMost};
 use libc::STDIN_FILENO;
 use libc::STDOUT_FILENO;
-use session::Session;
+use session::KEPT;
+use words::WORDS;
 
-// The session after a block of input, and whether more input may come.
+// What comes after a block of input: more of it, its end, or nothing, since it could not be read or an answer could not be written.
+const MORE: u8 = 0;
+
+const ENDED: u8 = 1;
+
+const FAILED: u8 = 2;
+
+// After a block of input: how many bytes of the line begun are kept, and what comes next.
 struct Turn {
-    session: Session,
-    more: bool,
+    kept: usize,
+    next: u8,
 }
 
 // Room for the answers of a block: eighteen bytes for each of its 4,096.
@@ -21,48 +29,66 @@ fn room() -> [u8; 73728]
     [0; 73728]
 }
 
-// Reads a block once, and writes the answers of the lines ended in it before it answers. A read that fails counts as the end of input.
-fn answer_block(s: Session) -> Turn
-    requires { ⌜ s .kept ≤ keptMost ⌝ }
-    ensures { λ r. ⌜ r .session .kept ≤ keptMost ⌝ }
+// Writes answers to standard output. Where that fails, it says so on standard error, and the answer is false.
+fn put(answers: &[u8]) -> bool {
+    if io::write_all(STDOUT_FILENO, answers) {
+        return true;
+    }
+    os::fail(b"keys: the answers could not be written");
+    false
+}
+
+// Reads a block once, and writes the answers of the lines ended in it before it answers. A read that fails is said on standard error.
+fn answer_block(t: &mut [u16; WORDS], line: &mut [u8; KEPT], kept: usize) -> Turn
+    requires { ⌜ kept ≤ keptMost ⌝ }
+    ensures { λ r. ⌜ r .kept ≤ keptMost ⌝ }
 {
     let mut block = io::buffer();
     let got = libc::read(STDIN_FILENO, &mut block);
+    if got < 0 {
+        os::fail(b"keys: the input could not be read");
+        return Turn { kept, next: FAILED };
+    }
     let n = io::count(got, &block);
     if n == 0 {
-        return Turn {
-            session: s,
-            more: false,
-        };
+        return Turn { kept, next: ENDED };
     }
     let mut out = room();
-    let fed = session::feed(s, &block[..n], &mut out);
+    let fed = session::feed(t, line, kept, &block[..n], &mut out);
     let end = fed.end;
-    let session = fed.session;
-    let more = io::write_all(STDOUT_FILENO, &out[..end]);
-    Turn { session, more }
+    let next = if put(&out[..end]) { MORE } else { FAILED };
+    Turn {
+        kept: fed.kept,
+        next,
+    }
 }
 
 // Answers the line begun where the input ends.
-fn answer_last(s: Session)
-    requires { ⌜ s .kept ≤ keptMost ⌝ }
+fn answer_last(t: &mut [u16; WORDS], line: &[u8; KEPT], kept: usize)
+    requires { ⌜ kept ≤ keptMost ⌝ }
 {
     let mut out = room();
-    let end = session::finish(s, &mut out);
-    io::write_all(STDOUT_FILENO, &out[..end]);
+    let end = session::finish(t, line, kept, &mut out);
+    put(&out[..end]);
 }
 
-// A proved loop has to end, and nothing says that the input does. So the loop counts its turns down, from a number that no run uses up.
+// The table and the line begun stand here, and are lent to all else. A proved loop has to end, and nothing says that the input does. So the loop
+// counts its turns down, from a number that no run uses up.
 fn main() {
-    let mut s = session::start();
-    let mut more = true;
+    let mut t = [0u16; WORDS];
+    let mut line = [0u8; KEPT];
+    let mut kept: usize = 0;
+    session::start(&mut t);
+    let mut next = MORE;
     let mut turns = u64::MAX;
     // Each time round: at most 13 bytes of the line begun are kept.
-    while turns > 0 && more {
-        let turn = answer_block(s);
-        s = turn.session;
-        more = turn.more;
+    while turns > 0 && next == MORE {
+        let turn = answer_block(&mut t, &mut line, kept);
+        kept = turn.kept;
+        next = turn.next;
         turns -= 1;
     }
-    answer_last(s);
+    if next == ENDED {
+        answer_last(&mut t, &line, kept);
+    }
 }

@@ -1,9 +1,9 @@
--- Rules 3 and 4 on lists: the candidates, the lowest of them taken back, and the freeing. Assumes nothing.
---   Candidates ..   the list `wanted` has the candidates, and none is below `low`
---   Progress ..     the repair begun with the first lists comes to the same as the rest of it on the present ones
+-- Rules 3 and 4 step by step: the candidates, the lowest of them taken back, and the freeing. Assumes nothing.
+--   Candidates ..   the list `wants` has the candidates, and none is below `low`
+--   Progress ..     the repair begun with the first table comes to the same as the rest of it on the present one
 use mathlib.Core.Path.{_≡_, refl, sym, _∙_, ap, ap₂, subst}
 use mathlib.Core.Bool.{Bool, true, false, _&&_, _||_, not, cond}
-use mathlib.Core.Logic.{inl, ⊎-elim}
+use mathlib.Core.Logic.{⊎-elim}
 use mathlib.Core.List.{List}
 use Prim.Native.Nat.{ℕ, zero, suc, _+_, _-_, _≤_, _<_}
 use native.Mathlib.Numerals.{add-one}
@@ -13,21 +13,18 @@ use lib.Seq.{getD-set-same, getD-set-other}
 use lib.Dec.{ltb}
 use borrow.Author.Tests.{eqb-true, lt-ltb}
 use Rattle.finite.specs.Below.{any, one, count, lowest}
-use Rattle.finite.proofs.Bools.{and-intro, and-left, and-right, or-left, or-right, or-elim, clash, test, same-test, not-true-false}
+use Rattle.finite.proofs.Bools.{and-intro, and-left, and-right, or-left, or-right, or-elim, clash, same-test, not-true-false}
 use Rattle.finite.proofs.Below.{le-or-lt, eq-or-ne, any-at, any-intro, any-ext, any-false, count-change, count-le, lowest-passes, rounds-keep, tabulate-set}
 use Rattle.finite.proofs.Select.{lowest-any, lowest-most}
-use Rattle.table.specs.declared.Table.{Table}
-use Rattle.table.specs.Table.{places, exits, inUse, targetOf, holds, leads, linked}
+use Rattle.table.specs.Table.{Table, places, exits, inUse, linked, withLinks}
 use Rattle.table.specs.Calls.{relink}
 use Rattle.table.specs.Clear.{Repair, wanted, restored, repair, unlinked}
-use Rattle.table.proofs.Links.{empty-target}
-use Rattle.table.proofs.Relink.{relink-used}
-use Rattle.table.proofs.Formed.{Formed, formed-place, formed-relink}
+use Rattle.table.proofs.Alike.{alike-linked, alike-used}
 use Rattle.table.proofs.Restore.{taken}
 use Rattle.table.proofs.Repair.{taking}
-use Rattle.withdraw.specs.Withdraw.{assembled}
-use Rattle.repairing.specs.Repairing.{underRepair, isOne, asMarks, leadsAt, leadsWithin, leadsTo, wantedIn, Standing, Repairable, InRange, Added}
-use Rattle.repairing.proofs.Laws.{is-one, marks-at}
+use Rattle.words.specs.Words.{tableOf, Becomes}
+use Rattle.repairing.specs.Repairing.{underRepair, isOne, asMarks, wantedIn, Standing, Repairable, Added}
+use Rattle.repairing.proofs.Laws.{is-one, marks-at, standing-emptied}
 
 -- a place where 1 stands is a place of the list
 one-below : (l : List ℕ) (k : ℕ) → getD l k 0 ≡ 1 → k < length l
@@ -60,9 +57,9 @@ module _ (l : List ℕ) (k : ℕ) (here : getD l k 0 ≡ 1) where
       omega arith
 
 -- The candidates, gathered step by step.
-pub wanted-start : (targets doubt : List ℕ) (i : ℕ) → one (wantedIn 0 targets doubt i) ≡ 0
+pub wanted-start : (links : ℕ → ℕ → Bool) (doubt : List ℕ) (i : ℕ) → one (wantedIn 0 links doubt i) ≡ 0
 unfolding wantedIn any
-wanted-start targets doubt i = none (isOne doubt i)
+wanted-start links doubt i = none (isOne doubt i)
   where
     none : (b : Bool) → one (b && false) ≡ 0
     none true = refl
@@ -77,17 +74,17 @@ joined false true true = refl
 joined false true false = refl
 joined false false a = refl
 
-module _ (targets doubt before after : List ℕ) (k low mark : ℕ) (h : (i : ℕ) → getD before i 0 ≡ one (wantedIn k targets doubt i)) where
-  pub wanted-go : isOne doubt k ≡ false → Added (leadsTo targets k) doubt before after low mark →
-      (i : ℕ) → getD after i 0 ≡ one (wantedIn (k + 1) targets doubt i)
+module _ (links : ℕ → ℕ → Bool) (doubt before after : List ℕ) (k low mark : ℕ) (h : (i : ℕ) → getD before i 0 ≡ one (wantedIn k links doubt i)) where
+  pub wanted-go : isOne doubt k ≡ false → Added (links k) doubt before after low mark →
+      (i : ℕ) → getD after i 0 ≡ one (wantedIn (k + 1) links doubt i)
   unfolding wantedIn any
   wanted-go m a i =
-      a .marks i ∙ ap (cond (leadsTo targets k i && isOne doubt i) 1) (h i)
-      ∙ rw (add-one k, m) (joined (leadsTo targets k i) (isOne doubt i) (any k (λ f. not (isOne doubt f) && leadsTo targets f i)))
+      a .marks i ∙ ap (cond (links k i && isOne doubt i) 1) (h i)
+      ∙ rw (add-one k, m) (joined (links k i) (isOne doubt i) (any k (λ f. not (isOne doubt f) && links f i)))
 
-  pub wanted-stay : isOne doubt k ≡ true → (i : ℕ) → getD before i 0 ≡ one (wantedIn (k + 1) targets doubt i)
+  pub wanted-stay : isOne doubt k ≡ true → (i : ℕ) → getD before i 0 ≡ one (wantedIn (k + 1) links doubt i)
   unfolding wantedIn any
-  wanted-stay m i = h i ∙ rw (add-one k, m) (alone (isOne doubt i) (any k (λ f. not (isOne doubt f) && leadsTo targets f i)))
+  wanted-stay m i = h i ∙ rw (add-one k, m) (alone (isOne doubt i) (any k (λ f. not (isOne doubt f) && links f i)))
     where
       alone : (d a : Bool) → one (d && a) ≡ one (d && (a || false))
       alone true true = refl
@@ -95,80 +92,53 @@ module _ (targets doubt before after : List ℕ) (k low mark : ℕ) (h : (i : �
       alone false a = refl
 
 -- A table in order with marks.
-module _ {n : ℕ} {own targets bits counts doubt : List ℕ} (r : Repairable n own targets bits counts doubt) where
-  abbrev body : Table
-  body = assembled (r .table) own targets bits counts
-
+module _ {t : Table} {n : ℕ} {doubt : List ℕ} (r : Repairable t n doubt) where
   pub able-most : n ≤ places
   able-most = let x = r .formed .most in let y = r .capacity in omega arith
 
-  pub able-standing : (k : ℕ) → k < n → getD doubt k 0 ≡ 1 → Standing own targets bits counts k
-  able-standing k l h = record { table = r .table; formed = r .formed; used = r .doubted k l (is-one doubt k h) }
+  pub able-standing : (k : ℕ) → k < n → getD doubt k 0 ≡ 1 → Standing t k
+  able-standing k l h = record { formed = r .formed; used = r .doubted k l (is-one doubt k h) }
 
-  used-body : (k : ℕ) → k < n → getD doubt k 0 ≡ 1 → inUse body k ≡ true
-  unfolding inUse
-  used-body k l h = r .doubted k l (is-one doubt k h)
-
-  target-in : (k e : ℕ) → k < n → e < exits → targetOf body k e < places
-  target-in k e l le =
-      ⊎-elim
-      (λ u.
-      ⊎-elim (λ h. formed-place (r .formed) _ (r .formed .targets k e u le h))
-      (λ h. let z = empty-target body k e h in omega arith)
-      (test (holds body k e)))
-      (λ f. let z = r .formed .free k (omega (arith, able-most)) f .targets e le in omega arith)
-      (test (inUse body k))
-
-  pub able-range : InRange n targets
-  unfolding targetOf
-  able-range = target-in
-
-  formed-unlinked : (k : ℕ) → inUse body k ≡ true → Formed (unlinked body k)
-  unfolding unlinked
-  formed-unlinked k u =
-      rounds-keep (λ (v : Table). Formed v × (inUse v k ≡ true)) exits (λ e v. relink v k e 0 0) body
-      (λ e l v p. (formed-relink v (p .0) k e 0 0 (p .1) l (inl (refl, refl)), relink-used v k e 0 0 k ∙ p .1))
-      (r .formed, u)
+  pub able-unlinked : (k : ℕ) → k < n → getD doubt k 0 ≡ 1 → Repairable (unlinked t k) n doubt
+  unfolding unlinked relink withLinks inUse
+  able-unlinked k l h =
+      rounds-keep (λ (v : Table). Repairable v n doubt × Standing v k) exits (λ e v. relink v k e 0 0) t
+      (λ e le v p. let s = standing-emptied (p .1) e le in (unlink-able v k e (p .0) s, s))
+      (r, able-standing k l h)
       .0
+    where
+      unlink-able : (v : Table) (k e : ℕ) → Repairable v n doubt → Standing (relink v k e 0 0) k → Repairable (relink v k e 0 0) n doubt
+      unlink-able v k e p s = record { capacity = p .capacity; formed = s .formed; doubted = p .doubted }
 
-  pub able-unlinked : (k : ℕ) → k < n → getD doubt k 0 ≡ 1 → (targets′ bits′ counts′ : List ℕ) →
-      assembled (r .table) own targets′ bits′ counts′ ≡ unlinked body k → Repairable n own targets′ bits′ counts′ doubt
-  able-unlinked k l h targets′ bits′ counts′ q =
-      record {
-        table = r .table;
-        capacity = r .capacity;
-        formed = subst Formed (sym q) (formed-unlinked k (used-body k l h));
-        doubted = r .doubted;
-      }
+  module _ (k : ℕ) (l : k < n) (h : getD doubt k 0 ≡ 1) where
+    restored-linked : linked (restored t k) ≡ linked t
+    restored-linked = λ i a b. alike-linked (taken t (r .formed) k (able-standing k l h .used) .alike) a b i
 
-  pub able-restored : (k : ℕ) → k < n → getD doubt k 0 ≡ 1 → (own′ bits′ counts′ : List ℕ) →
-      assembled (r .table) own′ targets bits′ counts′ ≡ restored body k → Repairable n own′ targets bits′ counts′ (set doubt k 0)
-  able-restored k l h own′ bits′ counts′ q =
-      record {
-        table = r .table;
-        capacity = r .capacity;
-        formed = subst Formed (sym q) (taken body (r .formed) k (used-body k l h) .formed);
-        doubted =
-            λ i b m.
-            ⊎-elim (λ (e : i ≡ k). clash (rw e at m) (unmarked-here doubt k h))
-            (λ d. r .doubted i b (sym (unmarked-other doubt k h i d) ∙ m))
-            (eq-or-ne i k);
-      }
+    pub able-restored : Repairable (restored t k) n (set doubt k 0)
+    able-restored =
+        let u = taken t (r .formed) k (able-standing k l h .used) in
+        record {
+          capacity = u .alike .capacity ∙ r .capacity;
+          formed = u .formed;
+          doubted =
+              λ i b m.
+              ⊎-elim (λ (e : i ≡ k). clash (rw e at m) (unmarked-here doubt k h))
+              (λ d. alike-used (u .alike) i ∙ r .doubted i b (sym (unmarked-other doubt k h i d) ∙ m))
+              (eq-or-ne i k);
+        }
 
--- The definition's wanted steps are those of the lists.
-module _ (t : Table) (own targets bits counts doubt : List ℕ) where
-  linked-leads : (k i : ℕ) → linked (assembled t own targets bits counts) k i ≡ leadsTo targets k i
-  unfolding linked leads holds targetOf leadsWithin leadsAt
-  linked-leads k i = refl
+-- the words now stand for a table in order with these marks
+pub able-after : {u v : List ℕ} {t : Table} {n : ℕ} {doubt : List ℕ} → Becomes u v t → Repairable t n doubt → Repairable (tableOf v) n doubt
+able-after {n = n} {doubt} b r = subst (λ (x : Table). Repairable x n doubt) (sym (b .table)) r
 
-  pub wanted-in : (n : ℕ) → t .capacity ≡ n → (i : ℕ) → i < n →
-      wanted (underRepair t own targets bits counts doubt) i ≡ wantedIn n targets doubt i
-  unfolding wanted wantedIn
-  wanted-in n c i l =
-      ap₂ _&&_ (marks-at (t .capacity) doubt i (omega arith))
-      (any-ext (t .capacity) _ _
-      (λ k h. ap₂ (λ (a b : Bool). not a && b) (marks-at (t .capacity) doubt k h) (linked-leads k i))
-      ∙ ap (λ (m : ℕ). any m (λ k. not (isOne doubt k) && leadsTo targets k i)) c)
+-- The definition's wanted steps are those of the list.
+wanted-in : (t : Table) (doubt : List ℕ) (n : ℕ) → t .capacity ≡ n → (i : ℕ) → i < n →
+    wanted (underRepair t doubt) i ≡ wantedIn n (linked t) doubt i
+unfolding wanted wantedIn
+wanted-in t doubt n c i l =
+    ap₂ _&&_ (marks-at (t .capacity) doubt i (omega arith))
+    (any-ext (t .capacity) _ _ (λ k h. ap (λ (a : Bool). not a && linked t k i) (marks-at (t .capacity) doubt k h))
+    ∙ ap (λ (m : ℕ). any m (λ k. not (isOne doubt k) && linked t k i)) c)
 
 -- Which step the definition takes, and when it stops.
 lowest-is : (n : ℕ) (p : ℕ → Bool) (k : ℕ) → k < n → p k ≡ true → ((i : ℕ) → i < k → p i ≡ false) → lowest n p ≡ k
@@ -194,12 +164,12 @@ repair-rests (suc f) r h =
     rw (q, repair)
 
 -- step k has a link to i and is not marked
-abbrev fromKept : List ℕ → List ℕ → ℕ → ℕ → Bool
-fromKept targets doubt i k = not (isOne doubt k) && leadsTo targets k i
+abbrev fromKept : (ℕ → ℕ → Bool) → List ℕ → ℕ → ℕ → Bool
+fromKept links doubt i k = not (isOne doubt k) && links k i
 
-pub record Candidates (n : ℕ) (targets doubt wants : List ℕ) (low : ℕ) : Type 0 where
+pub record Candidates (n : ℕ) (links : ℕ → ℕ → Bool) (doubt wants : List ℕ) (low : ℕ) : Type 0 where
   pub size : length wants ≡ places
-  pub marks : (i : ℕ) → i < n → getD wants i 0 ≡ one (wantedIn n targets doubt i)
+  pub marks : (i : ℕ) → i < n → getD wants i 0 ≡ one (wantedIn n links doubt i)
   pub none : (i : ℕ) → i < low → getD wants i 0 ≡ 0
 
 one-is : (b : Bool) → one b ≡ 1 → b ≡ true
@@ -210,30 +180,32 @@ one-isnt : (b : Bool) → one b ≡ 0 → b ≡ false
 one-isnt true h = absurd (omega arith)
 one-isnt false h = refl
 
-pub candidates-begin : (n : ℕ) (targets doubt wants : List ℕ) → length wants ≡ places →
-    ((i : ℕ) → getD wants i 0 ≡ one (wantedIn n targets doubt i)) → Candidates n targets doubt wants 0
-candidates-begin n targets doubt wants e h = record { size = e; marks = λ i l. h i; none = λ i l. absurd (omega arith) }
+pub candidates-begin : (n : ℕ) (links : ℕ → ℕ → Bool) (doubt wants : List ℕ) → length wants ≡ places →
+    ((i : ℕ) → getD wants i 0 ≡ one (wantedIn n links doubt i)) → Candidates n links doubt wants 0
+candidates-begin n links doubt wants e h = record { size = e; marks = λ i l. h i; none = λ i l. absurd (omega arith) }
 
-module _ {n : ℕ} {targets doubt wants : List ℕ} {low : ℕ} (c : Candidates n targets doubt wants low) where
-  pub candidates-skip : low < n → (getD wants low 0 ≡ 1 → ⊥) → Candidates n targets doubt wants (low + 1)
+module _ {n : ℕ} {links : ℕ → ℕ → Bool} {doubt wants : List ℕ} {low : ℕ} (c : Candidates n links doubt wants low) where
+  pub candidates-skip : low < n → (getD wants low 0 ≡ 1 → ⊥) → Candidates n links doubt wants (low + 1)
   candidates-skip l d =
       record {
         size = c .size;
         marks = c .marks;
         none =
             λ i h.
-            ⊎-elim (λ (q : i ≡ low). rw q (not-candidate (wantedIn n targets doubt low) (c .marks low l))) (λ e. c .none i (omega arith)) (eq-or-ne i low);
+            ⊎-elim (λ (q : i ≡ low). rw q (not-candidate (wantedIn n links doubt low) (c .marks low l)))
+            (λ e. c .none i (omega arith))
+            (eq-or-ne i low);
       }
     where
       not-candidate : (b : Bool) → getD wants low 0 ≡ one b → getD wants low 0 ≡ 0
       not-candidate true q = absurd (d q)
       not-candidate false q = q
 
-  wanted-none : (i : ℕ) → i < n → i < low → wantedIn n targets doubt i ≡ false
+  wanted-none : (i : ℕ) → i < n → i < low → wantedIn n links doubt i ≡ false
   wanted-none i l h = one-isnt _ (sym (c .marks i l) ∙ c .none i h)
 
   module _ (l : low < n) (h : getD wants low 0 ≡ 1) where
-    wanted-low : wantedIn n targets doubt low ≡ true
+    wanted-low : wantedIn n links doubt low ≡ true
     wanted-low = one-is _ (sym (c .marks low l) ∙ h)
 
     pub candidate-doubtful : getD doubt low 0 ≡ 1
@@ -241,19 +213,19 @@ module _ {n : ℕ} {targets doubt wants : List ℕ} {low : ℕ} (c : Candidates 
     candidate-doubtful = is-one-true doubt low (and-left (isOne doubt low) _ wanted-low)
 
     -- one step more is not doubtful
-    more : (i : ℕ) → any n (fromKept targets (set doubt low 0) i) ≡ (any n (fromKept targets doubt i) || leadsTo targets low i)
+    more : (i : ℕ) → any n (fromKept links (set doubt low 0) i) ≡ (any n (fromKept links doubt i) || links low i)
     more i =
-        let was = fromKept targets doubt i in
-        let is = fromKept targets (set doubt low 0) i in
+        let was = fromKept links doubt i in
+        let is = fromKept links (set doubt low 0) i in
         let other = unmarked-other doubt low candidate-doubtful in
-        same-test (any n is) (any n was || leadsTo targets low i)
+        same-test (any n is) (any n was || links low i)
         (λ x.
         let r = any-at n is x in
         ⊎-elim
-        (λ e. or-right (any n was) (leadsTo targets low i) (subst (λ (a : ℕ). leadsTo targets a i ≡ true) e (and-right (not (isOne (set doubt low 0) (r .0))) _ (r .2))))
+        (λ e. or-right (any n was) (links low i) (subst (λ (a : ℕ). links a i ≡ true) e (and-right (not (isOne (set doubt low 0) (r .0))) _ (r .2))))
         (λ d.
-        or-left (any n was) (leadsTo targets low i)
-        (any-intro n was (r .0) (r .1) (subst (λ (b : Bool). (not b && leadsTo targets (r .0) i) ≡ true) (other (r .0) d) (r .2))))
+        or-left (any n was) (links low i)
+        (any-intro n was (r .0) (r .1) (subst (λ (b : Bool). (not b && links (r .0) i) ≡ true) (other (r .0) d) (r .2))))
         (eq-or-ne (r .0) low))
         (λ x.
         ⊎-elim
@@ -262,14 +234,14 @@ module _ {n : ℕ} {targets doubt wants : List ℕ} {low : ℕ} (c : Candidates 
         let d : r .0 ≡ low → ⊥ =
         λ e.
         clash (is-one doubt low candidate-doubtful)
-        (subst (λ (a : ℕ). isOne doubt a ≡ false) e (not-true-false _ (and-left (not (isOne doubt (r .0))) (leadsTo targets (r .0) i) (r .2)))) in
-        any-intro n is (r .0) (r .1) (subst (λ (b : Bool). (not b && leadsTo targets (r .0) i) ≡ true) (sym (other (r .0) d)) (r .2)))
+        (subst (λ (a : ℕ). isOne doubt a ≡ false) e (not-true-false _ (and-left (not (isOne doubt (r .0))) (links (r .0) i) (r .2)))) in
+        any-intro n is (r .0) (r .1) (subst (λ (b : Bool). (not b && links (r .0) i) ≡ true) (sym (other (r .0) d)) (r .2)))
         (λ y. any-intro n is low l (and-intro (ap not (unmarked-here doubt low candidate-doubtful)) y))
-        (or-elim (any n was) (leadsTo targets low i) x))
+        (or-elim (any n was) (links low i) x))
 
-    pub candidates-next : (after : List ℕ) (mark : ℕ) →
-        Added (leadsTo targets low) (set doubt low 0) (set wants low 0) after (low + 1) mark →
-        Candidates n targets (set doubt low 0) after mark
+    candidates-next : (after : List ℕ) (mark : ℕ) →
+        Added (links low) (set doubt low 0) (set wants low 0) after (low + 1) mark →
+        Candidates n links (set doubt low 0) after mark
     unfolding wantedIn
     candidates-next after mark a =
         record {
@@ -287,73 +259,81 @@ module _ {n : ℕ} {targets doubt wants : List ℕ} {low : ℕ} (c : Candidates 
         and-false true = refl
         and-false false = refl
 
-        at-low : (i : ℕ) → i ≡ low → getD after i 0 ≡ one (isOne (set doubt low 0) i && any n (fromKept targets (set doubt low 0) i))
+        at-low : (i : ℕ) → i ≡ low → getD after i 0 ≡ one (isOne (set doubt low 0) i && any n (fromKept links (set doubt low 0) i))
         at-low i q =
             let here : isOne (set doubt low 0) i ≡ false = rw q (unmarked-here doubt low candidate-doubtful) in
-            let z : (leadsTo targets low i && isOne (set doubt low 0) i) ≡ false = rw here (and-false (leadsTo targets low i)) in
+            let z : (links low i && isOne (set doubt low 0) i) ≡ false = rw here (and-false (links low i)) in
             let y : getD (set wants low 0) i 0 ≡ 0 = rw q (getD-set-same wants low 0 0 (one-below wants low h)) in
             a .marks i ∙ rw (z, here) y
 
         elsewhere : (i : ℕ) → i < n → (i ≡ low → ⊥) →
-            getD after i 0 ≡ one (isOne (set doubt low 0) i && any n (fromKept targets (set doubt low 0) i))
+            getD after i 0 ≡ one (isOne (set doubt low 0) i && any n (fromKept links (set doubt low 0) i))
         elsewhere i b d =
             let same = unmarked-other doubt low candidate-doubtful i d in
-            let y : getD (set wants low 0) i 0 ≡ one (isOne doubt i && any n (fromKept targets doubt i)) =
+            let y : getD (set wants low 0) i 0 ≡ one (isOne doubt i && any n (fromKept links doubt i)) =
             getD-set-other wants low i 0 0 d ∙ c .marks i b in
-            a .marks i ∙ rw (same, y, more i) (joined (leadsTo targets low i) (isOne doubt i) (any n (fromKept targets doubt i)))
+            a .marks i ∙ rw (same, y, more i) (joined (links low i) (isOne doubt i) (any n (fromKept links doubt i)))
 
-pub record Progress (n : ℕ) (targets own₀ bits₀ counts₀ doubt₀ own bits counts doubt : List ℕ) : Type 0 where
+pub record Progress (n : ℕ) (t₀ : Table) (doubt₀ : List ℕ) (t : Table) (doubt : List ℕ) : Type 0 where
   pub fuel : ℕ
   pub enough : count n (isOne doubt) ≤ fuel
-  pub same : (t : Table) → t .capacity ≡ n →
-      repair fuel (underRepair t own targets bits counts doubt) ≡ repair n (underRepair t own₀ targets bits₀ counts₀ doubt₀)
-  pub able : Repairable n own targets bits counts doubt
+  pub same : repair fuel (underRepair t doubt) ≡ repair n (underRepair t₀ doubt₀)
+  pub able : Repairable t n doubt
 
-pub progress-begins : {n : ℕ} {targets own bits counts doubt : List ℕ} → Repairable n own targets bits counts doubt →
-    Progress n targets own bits counts doubt own bits counts doubt
-progress-begins {n} {doubt = doubt} r = record { fuel = n; enough = count-le n (isOne doubt); same = λ t c. refl; able = r }
+pub progress-begins : {t : Table} {n : ℕ} {doubt : List ℕ} → Repairable t n doubt → Progress n t doubt t doubt
+progress-begins {n = n} {doubt} r = record { fuel = n; enough = count-le n (isOne doubt); same = refl; able = r }
 
-module _ {n : ℕ} {targets own₀ bits₀ counts₀ doubt₀ own bits counts doubt wants : List ℕ} {low : ℕ}
-    (p : Progress n targets own₀ bits₀ counts₀ doubt₀ own bits counts doubt) (c : Candidates n targets doubt wants low) where
-  -- the lowest candidate is the step that the definition takes
-  takes : (l : low < n) (h : getD wants low 0 ≡ 1) (f : ℕ) (t : Table) → t .capacity ≡ n →
-      repair (suc f) (underRepair t own targets bits counts doubt) ≡ repair f (taking (underRepair t own targets bits counts doubt) low)
-  takes l h f t q =
-      let r = underRepair t own targets bits counts doubt in
-      let same : (i : ℕ) → i < n → wanted r i ≡ wantedIn n targets doubt i = wanted-in t own targets bits counts doubt n q in
-      repair-takes f r low
-      (lowest-is (t .capacity) (wanted r) low (omega arith) (same low l ∙ wanted-low c l h)
-      (λ i b. same i (omega arith) ∙ wanted-none c i (omega arith) b))
-      (omega arith)
+module _ {n : ℕ} {t₀ t : Table} {doubt₀ doubt wants : List ℕ} {low : ℕ}
+    (p : Progress n t₀ doubt₀ t doubt) (c : Candidates n (linked t) doubt wants low) where
+  same-wanted : (i : ℕ) → i < n → wanted (underRepair t doubt) i ≡ wantedIn n (linked t) doubt i
+  same-wanted = wanted-in t doubt n (p .able .capacity)
 
-  pub progress-next : low < n → getD wants low 0 ≡ 1 → (own′ bits′ counts′ : List ℕ) →
-      ((t : Table) → assembled t own′ targets bits′ counts′ ≡ restored (assembled t own targets bits counts) low) →
-      Progress n targets own₀ bits₀ counts₀ doubt₀ own′ bits′ counts′ (set doubt low 0)
-  progress-next l h own′ bits′ counts′ q =
-      let here = candidate-doubtful c l h in
-      let fall = marks-fall doubt low here n l in
-      let enough = p .enough in
-      record {
-        fuel = p .fuel - 1;
-        enough = omega arith;
-        same =
-            λ t e.
-            let s : p .fuel ≡ suc (p .fuel - 1) = omega arith in
-            let m : asMarks (t .capacity) (set doubt low 0) ≡ set (asMarks (t .capacity) doubt) low false =
-            marks-set doubt low here (t .capacity) (omega arith) in
-            let r : underRepair t own′ targets bits′ counts′ (set doubt low 0) ≡ taking (underRepair t own targets bits counts doubt) low =
-            ap₂ (λ (v : Table) (d : List Bool). record { table = v; doubt = d }) (q t) m in
-            ap (repair (p .fuel - 1)) r
-            ∙ sym (takes l h (p .fuel - 1) t e)
-            ∙ ap (λ (f : ℕ). repair f (underRepair t own targets bits counts doubt)) (sym s)
-            ∙ p .same t e;
-        able = able-restored (p .able) low l here own′ bits′ counts′ (q (p .able .table));
-      }
+  module _ (l : low < n) (h : getD wants low 0 ≡ 1) where
+    -- the lowest candidate is the step that the definition takes
+    takes : (f : ℕ) → repair (suc f) (underRepair t doubt) ≡ repair f (taking (underRepair t doubt) low)
+    takes f =
+        let q = p .able .capacity in
+        repair-takes f (underRepair t doubt) low
+        (lowest-is (t .capacity) (wanted (underRepair t doubt)) low (omega arith) (same-wanted low l ∙ wanted-low c l h)
+        (λ i b. same-wanted i (omega arith) ∙ wanted-none c i (omega arith) b))
+        (omega arith)
 
-  pub progress-done : n ≤ low → (t : Table) → t .capacity ≡ n →
-      underRepair t own targets bits counts doubt ≡ repair n (underRepair t own₀ targets bits₀ counts₀ doubt₀)
-  progress-done l t q =
-      sym
-      (repair-rests (p .fuel) (underRepair t own targets bits counts doubt)
-      (λ i b. wanted-in t own targets bits counts doubt n q i (omega arith) ∙ wanted-none c i (omega arith) (omega arith)))
-      ∙ p .same t q
+    progress-taken : Progress n t₀ doubt₀ (restored t low) (set doubt low 0)
+    progress-taken =
+        let here = candidate-doubtful c l h in
+        let fall = marks-fall doubt low here n l in
+        let enough = p .enough in
+        let s : p .fuel ≡ suc (p .fuel - 1) = omega arith in
+        let r = able-restored (p .able) low l here in
+        let m : asMarks (restored t low .capacity) (set doubt low 0) ≡ set (asMarks (t .capacity) doubt) low false =
+        ap (λ (k : ℕ). asMarks k (set doubt low 0)) (r .capacity ∙ sym (p .able .capacity))
+        ∙ marks-set doubt low here (t .capacity) (let q = p .able .capacity in omega arith) in
+        record {
+          fuel = p .fuel - 1;
+          enough = omega arith;
+          same =
+              ap (λ (d : List Bool). repair (p .fuel - 1) (record { table = restored t low; doubt = d })) m
+              ∙ sym (takes (p .fuel - 1))
+              ∙ ap (λ (f : ℕ). repair f (underRepair t doubt)) (sym s)
+              ∙ p .same;
+          able = r;
+        }
+
+    -- the table with the step taken back, and the candidates that its links make
+    pub turn : (t′ : Table) → t′ ≡ restored t low → (after : List ℕ) (mark : ℕ) →
+        Added (linked t′ low) (set doubt low 0) (set wants low 0) after (low + 1) mark →
+        Progress n t₀ doubt₀ t′ (set doubt low 0) × Candidates n (linked t′) (set doubt low 0) after mark
+    turn t′ q after mark a =
+        let here = candidate-doubtful c l h in
+        let same : linked t′ ≡ linked t = ap linked q ∙ restored-linked (p .able) low l here in (
+          subst (λ (v : Table). Progress n t₀ doubt₀ v (set doubt low 0)) (sym q) progress-taken,
+          subst (λ (links : ℕ → ℕ → Bool). Candidates n links (set doubt low 0) after mark) (sym same)
+              (candidates-next c l h after mark
+              (subst (λ (links : ℕ → ℕ → Bool). Added (links low) (set doubt low 0) (set wants low 0) after (low + 1) mark) same a)),
+        )
+
+  pub progress-done : n ≤ low → underRepair t doubt ≡ repair n (underRepair t₀ doubt₀)
+  progress-done l =
+      let q = p .able .capacity in
+      sym (repair-rests (p .fuel) (underRepair t doubt) (λ i b. same-wanted i (omega arith) ∙ wanted-none c i (omega arith) (omega arith)))
+      ∙ p .same

@@ -16,9 +16,14 @@ use lib.Dec.{ltb}
 use borrow.Author.Tests.{lt-ltb, le-ltb, ltb-false, eq-eqb, ne-eqb}
 use Rattle.finite.proofs.Bools.{test}
 use Rattle.finite.proofs.Below.{le-or-lt}
-use Rattle.table.specs.declared.Table.{Table}
+use Rattle.table.specs.Table.{Table, places}
+use Rattle.table.specs.Calls.{freshTable}
+use Rattle.table.proofs.Edits.{sound-fresh}
+use Rattle.words.specs.Words.{words, tableOf, wordsOf}
+use Rattle.words.proofs.Laws.{table-words, shape-table}
 use Rattle.keyline.specs.Keys.{digit, keyCall}
-use Rattle.session.specs.Session.{lineEnd, keptMost, digits, spelled, printed, State, keep, push, lineOutput, pushOutput, feed, fedOutput, finishOutput}
+use Rattle.keylines.proofs.Laws.{key-shape}
+use Rattle.session.specs.Session.{lineEnd, keptMost, digits, spelled, printed, State, keep, push, lineOutput, pushOutput, feed, fedOutput, finishOutput, firstState, stateOf}
 use Rattle.session.proofs.Output.{feed-append, fed-output-append, push-end, push-end-output, push-other, push-other-output}
 
 pub sets-append : (l : List ℕ) (i : ℕ) (a b : List ℕ) → sets l i (a ++ b) ≡ sets (sets l i a) (i + length a) b
@@ -73,7 +78,7 @@ spelled-five n l =
     spelled-place 10000 4 (spelled-place 1000 3 (spelled-place 100 2 (spelled-place 10 1 (λ x h. rw (spelled-small x h) (omega arith))))) n (omega arith)
 
 -- a byte is kept at the end of those kept, where fewer than 13 are
-module _ (line : List ℕ) (kept b : ℕ) (size : length line ≡ 16) where
+module _ (line : List ℕ) (kept b : ℕ) (size : length line ≡ keptMost) where
   pub keep-short : kept < keptMost → take (kept + 1) (set line kept b) ≡ keep (take kept line) b
   unfolding keep
   keep-short l =
@@ -90,7 +95,7 @@ module _ (line : List ℕ) (kept b : ℕ) (size : length line ≡ 16) where
 pub record Fedto (s : State) (block out₀ : List ℕ) (table : Table) (line : List ℕ) (kept : ℕ) (out : List ℕ) (end i : ℕ) : Type 0 where
   pub within : i ≤ length block
   pub most : kept ≤ keptMost
-  pub size : length line ≡ 16
+  pub size : length line ≡ keptMost
   pub room : length out ≡ length out₀
   pub small : end ≤ 18 * i
   pub state : _≡_ {A = State} (record { table = table; kept = take kept line }) (feed s (take i block))
@@ -108,7 +113,7 @@ module _ (s : State) (block : List ℕ) (i : ℕ) (l : i < length block) where
       rw (add-one i, take-suc block i 0 l, fed-output-append s (take i block) (getD block i 0 ∷ []), append-nil (pushOutput (feed s (take i block)) (getD block i 0)))
 
 -- nothing is fed yet
-pub fed-none : (block out line : List ℕ) (table : Table) (kept : ℕ) → kept ≤ keptMost → length line ≡ 16 →
+pub fed-none : (block out line : List ℕ) (table : Table) (kept : ℕ) → kept ≤ keptMost → length line ≡ keptMost →
     Fedto (record { table = table; kept = take kept line }) block out table line kept out 0 0
 unfolding feed fedOutput
 fed-none block out line table kept m z =
@@ -151,7 +156,7 @@ module _ {s : State} {block out₀ : List ℕ} {table : Table} {line : List ℕ}
 
   -- the byte is kept, or is past the bytes that are kept
   pub fed-byte : (getD block i 0 ≡ lineEnd → ⊥) → {line′ : List ℕ} {kept′ : ℕ} →
-      ((kept′ ≤ keptMost) × (length line′ ≡ 16)) × (take kept′ line′ ≡ keep (take kept line) (getD block i 0)) → Fedto s block out₀ table line′ kept′ out end (i + 1)
+      ((kept′ ≤ keptMost) × (length line′ ≡ keptMost)) × (take kept′ line′ ≡ keep (take kept line) (getD block i 0)) → Fedto s block out₀ table line′ kept′ out end (i + 1)
   unfolding here
   fed-byte q {line′} {kept′} k =
       let e : push here (getD block i 0) ≡ record { table = table; kept = keep (take kept line) (getD block i 0) } = push-other here (getD block i 0) (ne-eqb (getD block i 0) lineEnd q) in
@@ -200,9 +205,20 @@ module _ (table : Table) (line : List ℕ) (kept : ℕ) where
   unfolding finishOutput
   finish-none q = rw q
 
-  pub finish-begun : (kept ≡ 0 → ⊥) → kept ≤ keptMost → length line ≡ 16 →
+  pub finish-begun : (kept ≡ 0 → ⊥) → kept ≤ keptMost → length line ≡ keptMost →
       finishOutput (record { table = table; kept = take kept line }) ≡ printed (keyCall table (take kept line) .answer)
   unfolding finishOutput lineOutput
   finish-begun n m z =
       let e : length (take kept line) ≡ kept = length-take-le kept line (omega arith) in
       rw (ne-eqb (length (take kept line)) 0 (λ q. n (sym e ∙ q)))
+
+-- the words that a key line leaves are those of the table that its call hands back
+pub line-table : (w v bs : List ℕ) → length w ≡ words → v ≡ wordsOf (keyCall (tableOf w) bs .table) → tableOf v ≡ keyCall (tableOf w) bs .table
+line-table w v bs l e = ap tableOf e ∙ table-words _ (key-shape _ bs (shape-table w l))
+
+-- and those of a fresh table are its words
+pub first-table : (w : List ℕ) → w ≡ wordsOf (freshTable places) → (line : List ℕ) → stateOf w line 0 ≡ firstState
+unfolding stateOf firstState
+first-table w e line =
+    let f : tableOf w ≡ freshTable places = ap tableOf e ∙ table-words _ (sound-fresh places (omega arith) (omega arith) .shape) in
+    ap (λ (t : Table). record { table = t; kept = [] }) f

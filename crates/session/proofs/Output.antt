@@ -15,9 +15,8 @@ use lib.Dec.{eqb}
 use borrow.Author.Tests.{lt-ltb, le-ltb, ne-eqb}
 use Rattle.finite.proofs.Bools.{test}
 use Rattle.finite.proofs.Below.{le-or-lt}
-use Rattle.table.specs.declared.Table.{Table}
-use Rattle.table.specs.declared.Outcome.{Outcome}
-use Rattle.table.specs.Table.{places}
+use Rattle.table.specs.Answer.{Outcome}
+use Rattle.table.specs.Table.{Table, places}
 use Rattle.table.specs.Calls.{freshTable}
 use Rattle.keyline.specs.declared.Decoded.the-variants.{Nothing}
 use Rattle.keyline.specs.Keys.{isLine, decode, keyCall}

@@ -10,19 +10,18 @@
 --   feed s bs, fedOutput s bs      the state after the bytes bs, and what is written for them
 --   finishOutput s    what is written at the end of input
 --   blocksOutput s bs   what is written for the blocks bs and the end of input
---   firstState, stateOf   the state at the start, and that of a session
+--   firstState, stateOf   the state at the start, and that of the words and the bytes kept
 use mathlib.Core.Bool.{cond}
 use mathlib.Core.List.{List, [], _∷_, _++_}
 use Prim.Native.Nat.{ℕ, zero, suc, _/_, _%_}
 use lib.ListN.{length, take}
 use lib.Dec.{eqb, ltb}
-use Rattle.table.specs.declared.Table.{Table}
 use Rattle.table.specs.declared.Answer.{Answer}
-use Rattle.table.specs.Table.{places}
+use Rattle.table.specs.Table.{Table, places}
 use Rattle.table.specs.Answer.{refusalOf, firstOf, secondOf}
 use Rattle.table.specs.Calls.{freshTable}
+use Rattle.words.specs.Words.{tableOf}
 use Rattle.keyline.specs.Keys.{digit, keyCall}
-use Rattle.session.specs.declared.Session.{Session}
 
 abbrev pub lineEnd : ℕ
 lineEnd = 10
@@ -107,6 +106,6 @@ blocksOutput s (b ∷ bs) = fedOutput s b ++ blocksOutput (feed s b) bs
 unfoldable pub firstState : State
 firstState = record { table = freshTable places; kept = [] }
 
--- the state that a session stands for
-unfoldable pub stateOf : Session → State
-stateOf s = record { table = s .table; kept = take (s .kept) (s .line) }
+-- the state that the words of a table, and `kept` bytes of a line begun, stand for
+unfoldable pub stateOf : List ℕ → List ℕ → ℕ → State
+stateOf w line kept = record { table = tableOf w; kept = take kept line }

@@ -1,13 +1,14 @@
 // A session of the program `keys`: bytes go in by blocks, and a line of answer comes out for each line (document 01, "Keys").
 ghost use mathlib.Core.Path.{_≡_};
-ghost use mathlib.Core.List.{[], _∷_};
-ghost use Prim.Native.Nat.{_+_, _*_, _≤_, _<_};
+ghost use mathlib.Core.List.{List, [], _∷_};
+ghost use Prim.Native.Nat.{ℕ, _+_, _*_, _≤_, _<_};
 ghost use lib.ListN.{length, take};
 ghost use lib.Seq.{sets};
+ghost use Rattle.words.specs.Words.{tableOf};
 ghost use Rattle.keyline.specs.Keys.{digit, keyCall};
 ghost use Rattle.session.specs.Session.{keptMost, spelled, numberThen, threeNumbers, printed, keep, feed, fedOutput, finishOutput, firstState, stateOf};
 use table::Answer;
-use table::Table;
+use words::WORDS;
 
 // The byte that ends a line.
 const LINE_END: u8 = 10;
@@ -16,26 +17,13 @@ const BLANK: u8 = 32;
 // The first digit in ASCII.
 const ZERO: u8 = 48;
 // The bytes that are kept of a line: one more than the longest key line has.
-const KEPT: usize = 13;
+pub const KEPT: usize = 13;
 // The capacity of the table.
 const CAPACITY: u16 = 128;
 
-// What stands between two bytes of the input: the table, and of the line begun the first bytes, `kept` of them.
-pub struct Session {
-    pub table: Table,
-    pub line: [u8; 16],
-    pub kept: usize,
-}
-
-// The table after a line, and where its answer ends in the output.
-struct Told {
-    table: Table,
-    end: usize,
-}
-
-// The session after a block, and how many bytes of output were written for it.
+// After a block: how many bytes of the line begun are kept, and how many bytes of output were written.
 pub struct Fed {
-    pub session: Session,
+    pub kept: usize,
     pub end: usize,
 }
 
@@ -98,25 +86,30 @@ fn put_answer(out: &mut [u8], at: usize, answer: Answer) -> usize
     }
 }
 
-// The call of a line: the table handed back, and where the line that answers ends in the output.
-fn end_line(t: Table, line: &[u8], out: &mut [u8], at: usize) -> Told
+// The call of a line; the place after the line that answers, which is put into the output.
+fn end_line(t: &mut [u16; WORDS], line: &[u8], out: &mut [u8], at: usize) -> usize
     requires { ⌜ at + 18 ≤ length (now out) ⌝ }
-    ensures table { λ r. ⌜ r .table ≡ keyCall t (now (line .entry)) .table ⌝ }
-    ensures place { λ r. ⌜ r .end ≡ at + length (printed (keyCall t (now (line .entry)) .answer)) ⌝ }
-    ensures text { λ r. ⌜ now (out .exit) ≡ sets (now (out .entry)) at (printed (keyCall t (now (line .entry)) .answer)) ⌝ }
-    ensures room { λ r. ⌜ r .end ≤ at + 18 ⌝ }
+    ensures table { λ r. ⌜ tableOf (now (t .exit)) ≡ keyCall (tableOf (now (t .entry))) (now (line .entry)) .table ⌝ }
+    ensures place { λ r. ⌜ r ≡ at + length (printed (keyCall (tableOf (now (t .entry))) (now (line .entry)) .answer)) ⌝ }
+    ensures text { λ r. ⌜ now (out .exit) ≡ sets (now (out .entry)) at (printed (keyCall (tableOf (now (t .entry))) (now (line .entry)) .answer)) ⌝ }
+    ensures room { λ r. ⌜ r ≤ at + 18 ⌝ }
 {
-    let outcome = keylines::key_line(t, line);
-    let answer = outcome.answer;
-    let table = outcome.table;
-    let end = put_answer(out, at, answer);
-    Told { table, end }
+    words::sized(t);
+    let answer = keylines::key_line(t, line);
+    put_answer(out, at, answer)
+}
+
+// Says how many bytes of a line have a place; no machine code comes of it.
+fn sized(line: &[u8; KEPT])
+    ensures { λ r. ⌜ length (now (line .entry)) ≡ keptMost ⌝ }
+{
+    let _all = &line[..];
 }
 
 // Keeps a byte of the line begun, where fewer than 13 are kept, and answers how many are.
-fn keep_byte(line: &mut [u8; 16], kept: usize, byte: u8) -> usize
-    requires { ⌜ (kept ≤ keptMost) × (length (now line) ≡ 16) ⌝ }
-    ensures { λ r. ⌜ ((r ≤ keptMost) × (length (now (line .exit)) ≡ 16)) × (take r (now (line .exit)) ≡ keep (take kept (now (line .entry))) byte) ⌝ }
+fn keep_byte(line: &mut [u8; KEPT], kept: usize, byte: u8) -> usize
+    requires { ⌜ (kept ≤ keptMost) × (length (now line) ≡ keptMost) ⌝ }
+    ensures { λ r. ⌜ ((r ≤ keptMost) × (length (now (line .exit)) ≡ keptMost)) × (take r (now (line .exit)) ≡ keep (take kept (now (line .entry))) byte) ⌝ }
 {
     if kept < KEPT {
         line[kept] = byte;
@@ -125,61 +118,58 @@ fn keep_byte(line: &mut [u8; 16], kept: usize, byte: u8) -> usize
     kept
 }
 
-// The session that `keys` begins with.
-pub fn start() -> Session
-    ensures { λ r. ⌜ (r .kept ≤ keptMost) × (stateOf r ≡ firstState) ⌝ }
+// The table that `keys` begins with; no line is begun.
+pub fn start(t: &mut [u16; WORDS])
+    ensures { λ _. ⌜ ((line : List ℕ) → stateOf (now (t .exit)) line 0 ≡ firstState) ⌝ }
 {
-    let table = edits::fresh_table(CAPACITY);
-    Session {
-        table,
-        line: [0; 16],
-        kept: 0,
-    }
+    edits::fresh_table(t, CAPACITY);
 }
 
-// The session after a block of input, with the lines that answer the lines ended in it put at the start of the output.
-pub fn feed(s: Session, block: &[u8], out: &mut [u8]) -> Fed
-    requires { ⌜ (s .kept ≤ keptMost) × (18 * length (now block) ≤ length (now out)) ⌝ }
-    ensures kept { λ r. ⌜ r .session .kept ≤ keptMost ⌝ }
-    ensures state { λ r. ⌜ stateOf (r .session) ≡ feed (stateOf s) (now (block .entry)) ⌝ }
-    ensures place { λ r. ⌜ r .end ≡ length (fedOutput (stateOf s) (now (block .entry))) ⌝ }
-    ensures text { λ r. ⌜ now (out .exit) ≡ sets (now (out .entry)) 0 (fedOutput (stateOf s) (now (block .entry))) ⌝ }
+// A block of input, with `kept` bytes of the line begun: the lines ended in it are called on the table, and the lines that answer them put at the
+// start of the output.
+pub fn feed(
+    t: &mut [u16; WORDS],
+    line: &mut [u8; KEPT],
+    kept: usize,
+    block: &[u8],
+    out: &mut [u8],
+) -> Fed
+    requires { ⌜ (kept ≤ keptMost) × (18 * length (now block) ≤ length (now out)) ⌝ }
+    ensures kept { λ r. ⌜ r .kept ≤ keptMost ⌝ }
+    ensures state { λ r. ⌜ stateOf (now (t .exit)) (now (line .exit)) (r .kept) ≡ feed (stateOf (now (t .entry)) (now (line .entry)) kept) (now (block .entry)) ⌝ }
+    ensures place { λ r. ⌜ r .end ≡ length (fedOutput (stateOf (now (t .entry)) (now (line .entry)) kept) (now (block .entry))) ⌝ }
+    ensures text { λ r. ⌜ now (out .exit) ≡ sets (now (out .entry)) 0 (fedOutput (stateOf (now (t .entry)) (now (line .entry)) kept) (now (block .entry))) ⌝ }
     ensures room { λ r. ⌜ (r .end ≤ length (now (out .exit))) × (r .end ≡ length (take (r .end) (now (out .exit)))) ⌝ }
 {
-    let mut table = s.table;
-    let mut line = s.line;
-    let mut kept = s.kept;
+    sized(line);
+    let mut kept = kept;
     let mut end: usize = 0;
     let mut i: usize = 0;
-    // Each time round: the session is that after the first i bytes, and their answers end at `end`.
+    // Each time round: the table and the line begun are those after the first i bytes, and their answers end at `end`.
     while i < block.len() {
         let byte = block[i];
         i += 1;
         if byte == LINE_END {
-            let told = end_line(table, &line[..kept], out, end);
-            table = told.table;
-            end = told.end;
+            let all = &line[..];
+            end = end_line(t, &all[..kept], out, end);
             kept = 0;
         } else {
-            kept = keep_byte(&mut line, kept, byte);
+            kept = keep_byte(line, kept, byte);
         }
     }
-    let session = Session { table, line, kept };
-    Fed { session, end }
+    Fed { kept, end }
 }
 
 // The end of input: a line begun is answered at the start of the output. The answer is the place after it.
-pub fn finish(s: Session, out: &mut [u8]) -> usize
-    requires { ⌜ (s .kept ≤ keptMost) × (18 ≤ length (now out)) ⌝ }
-    ensures place { λ r. ⌜ r ≡ length (finishOutput (stateOf s)) ⌝ }
-    ensures text { λ r. ⌜ now (out .exit) ≡ sets (now (out .entry)) 0 (finishOutput (stateOf s)) ⌝ }
+pub fn finish(t: &mut [u16; WORDS], line: &[u8; KEPT], kept: usize, out: &mut [u8]) -> usize
+    requires { ⌜ (kept ≤ keptMost) × (18 ≤ length (now out)) ⌝ }
+    ensures place { λ r. ⌜ r ≡ length (finishOutput (stateOf (now (t .entry)) (now (line .entry)) kept)) ⌝ }
+    ensures text { λ r. ⌜ now (out .exit) ≡ sets (now (out .entry)) 0 (finishOutput (stateOf (now (t .entry)) (now (line .entry)) kept)) ⌝ }
     ensures room { λ r. ⌜ (r ≤ length (now (out .exit))) × (r ≡ length (take r (now (out .exit)))) ⌝ }
 {
-    let kept = s.kept;
     if kept == 0 {
         return 0;
     }
-    let line = s.line;
-    let told = end_line(s.table, &line[..kept], out, 0);
-    told.end
+    let all = &line[..];
+    end_line(t, &all[..kept], out, 0)
 }

@@ -1,331 +1,452 @@
--- The parts of the test are soundness: single steps and the recount make a table in order, and the search from step 0 settles both graph
--- clauses. Assumes nothing.
---   Checked t      what the code has tested before the search
---   checked-formed, sound-checked   a checked table is in order, and a sound one is checked
---   begin-sound, spans-sound        the search from step 0
-use mathlib.Core.Path.{_≡_, refl, sym, _∙_, ap, ap₂, subst}
-use mathlib.Core.Bool.{Bool, true, false, _&&_, _||_, not, cond}
-use mathlib.Core.Logic.{_⊎_, inl, inr, ⊎-elim}
-use mathlib.Core.List.{List, [], _∷_}
-use Prim.Native.Nat.{ℕ, zero, suc, _+_, _*_, _-_, _/_, _%_, _≤_, _<_}
+-- The parts of the test are soundness: what a checked table lacks, withdrawing step 0 settles. Assumes nothing.
+--   Checked t        what the code has tested before the search
+--   checked-ranged   so the search can be made
+--   checked-spans    and its answer is that of the test of soundness
+--   unsound          a table that is not checked is not sound
+use mathlib.Core.Path.{_≡_, refl, sym, _∙_, ap, subst}
+use mathlib.Core.Bool.{Bool, true, false, _&&_, not}
+use mathlib.Core.Logic.{_⊎_, ⊎-elim}
+use mathlib.Core.List.{List}
+use Prim.Native.Nat.{ℕ, zero, suc, _+_, _*_, _/_, _%_, _≤_, _<_}
 use native.Mathlib.Omega.{arith}
-use lib.ListN.{length, getD, set, replicate, List·getD-eq-default}
-use lib.Dec.{eqb, ltb, leb}
-use borrow.Author.Tests.{eqb-true, eqb-false, eq-eqb, ne-eqb, ltb-true, lt-ltb}
-use Rattle.finite.specs.Below.{all, count, passes}
-use Rattle.finite.proofs.Bools.{passes-at, and-intro, and-left, and-right, clash, refute, test, same-test, implied, imply, not-true-false}
-use Rattle.finite.proofs.Below.{le-or-lt, eq-or-ne, all-at, all-intro}
-use Rattle.table.specs.declared.Table.{Table}
-use Rattle.table.specs.Table.{places, exits, counters, exitPlace, counterPlace, inUse, kindOf, contentOf, ownBit, targetOf, linkBit, counterOf, holds, stronglyLinked, countsAt, linksTo}
-use Rattle.table.specs.Sound.{Shape, Blank, Sound, kindFits, sound}
+use lib.ListN.{getD}
+use lib.Dec.{eqb, leb, ltb}
+use borrow.Author.Tests.{eqb-true, eq-eqb, ne-eqb, leb-true, le-leb, ltb-true, lt-ltb}
+use Rattle.finite.specs.Below.{all}
+use Rattle.finite.proofs.Bools.{and-intro, and-left, and-right, or-left, or-right, or-elim, clash, refute, test, same-test, not-true-false}
+use Rattle.finite.proofs.Below.{le-or-lt, eq-or-ne, all-at, all-intro, count-ext, count-none, count-pos}
+use Rattle.table.specs.Table.{Table, places, exits, counters, exitPlace, counterPlace, inUse, kindOf, contentOf, ownBit, targetOf, linkBit, counterOf, stronglyLinked}
+use Rattle.table.specs.Sound.{Shape, Sound, capacityFits, contentFits, kindFits, sound}
 use Rattle.table.proofs.Sound.{sound-test, test-sound}
-use Rattle.table.proofs.Links.{used-place, holds-target, target-holds, empty-target, target-empty, linked-used, strongly-linked}
-use Rattle.table.proofs.Relink.{hits, exit-place-split, exit-place-below, counter-place-below}
-use Rattle.table.proofs.Formed.{Formed, sound-formed, formed-wired, formed-place, formed-below}
+use Rattle.table.proofs.Links.{used-place, holds-target, empty-target, target-empty, linked-used, strongly-linked}
+use Rattle.table.proofs.Relink.{exit-place-below, counter-place-below}
+use Rattle.table.proofs.Formed.{Formed, sound-formed, formed-wired, formed-place}
 use Rattle.table.proofs.Spine.{Spine, sound-spine, spine-sound}
-use Rattle.table.proofs.Edits.{getD-zeros}
-use Rattle.withdraw.specs.Search.{headAt, isMarked, pointing, rest, Search, Pending, Withdrawn, InRange, Binary, strongCounts}
-use Rattle.withdraw.proofs.Laws.{AtZero, search-begin, search-mark, mark-here, marked-next}
-use Rattle.withdraw.proofs.Found.{heads, own-bit, in-range, pointing-some, pointing-linked, up-marked, kept-parent}
-use Rattle.withdraw.proofs.Doubtful.{zeros, strong-left, strong-left-size, none-marked, pointing-alarm}
-use Rattle.soundness.specs.Parts.{exitFits, exitBlank, stepFits, recount, countsSame, allMarked, Spans}
-use Rattle.soundness.proofs.Loops.{recount-at}
+use Rattle.withdraw.specs.Search.{slotAt, lands, isMarked, landing, landingKept, Ranged, Exact, Spans}
+use Rattle.withdraw.proofs.Slots.{lands-intro, landing-zero, exit-here, exit-place-step, slot-some, slot-zero, slot-below, lands-held, link-lands, landing-some, landing-linked, landing-links, shape-ranged, source-used, formed-ranged, formed-exact}
+use Rattle.withdraw.proofs.Found.{up-marked, kept-parent}
+use Rattle.soundness.specs.Parts.{numbersFit, alarmFits, stepFits, exitFits, countersFit, freeAbove, arraysFit, emptyAt, faults, total}
+use Rattle.soundness.proofs.Parts.{fields-used, used-fields, fields-free, free-fields, link-fits, empty-fits, filled-fits, counts-free, used-counts, free-counts}
+use Rattle.soundness.proofs.Totals.{total-same, total-ext, total-landing}
 
--- the step test of a table
-abbrev pub fits : Table → ℕ → Bool
-fits t = stepFits (t .capacity) (t .used) (t .kinds) (t .contents) (t .own) (t .targets) (t .bits) (t .counts)
+-- the counter at place q
+abbrev counter : Table → ℕ → ℕ
+counter t q = getD (t .counts) q 0
 
 pub record Checked (t : Table) : Type 0 where
   pub shape : Shape t
-  pub least : 1 ≤ t .capacity
-  pub most : t .capacity ≤ places
-  pub last : t .last < t .capacity
-  pub alarm : inUse t 0 ≡ true
-  pub steps : all places (fits t) ≡ true
+  pub numbers : numbersFit (t .capacity) (t .last) ≡ true
+  pub alarm : alarmFits (getD (t .used) 0 0) (kindOf t 0) (contentOf t 0) (ownBit t 0) (getD (t .counts) 0 0) ≡ true
+  pub arrays : arraysFit t ≡ true
+  pub sum : total (places * counters) (counter t) ≡ faults (places * exits) (emptyAt t)
 
--- an exit that fits is empty with bit 0, or a link with bit 0 or 1 to a step in use
-exit-true : (used targets bits : List ℕ) (i e : ℕ) → exitFits used targets bits i e ≡ true →
-    ((getD targets (exitPlace i e) 0 ≡ 0) × (getD bits (exitPlace i e) 0 ≡ 0)) ⊎
-    ((getD targets (exitPlace i e) 0 ≡ 0 → ⊥) × (getD targets (exitPlace i e) 0 < places) × (eqb (getD used (getD targets (exitPlace i e) 0) 0) 1 ≡ true) × (getD bits (exitPlace i e) 0 < 2))
-unfolding exitFits
-exit-true used targets bits i e h =
-    ⊎-elim
-    (λ (z : getD targets (exitPlace i e) 0 ≡ 0). inl (z, eqb-true _ _ (rw (eq-eqb _ _ z) at h)))
-    (λ (d : getD targets (exitPlace i e) 0 ≡ 0 → ⊥).
-    let g : (ltb (getD targets (exitPlace i e) 0) places && eqb (getD used (getD targets (exitPlace i e) 0) 0) 1 && ltb (getD bits (exitPlace i e) 0) 2) ≡ true =
-    rw (ne-eqb _ 0 d) at h in
-    let l = and-left (ltb (getD targets (exitPlace i e) 0) places && eqb (getD used (getD targets (exitPlace i e) 0) 0) 1) _ g in
-    inr (
-      d,
-      ltb-true _ _ (and-left (ltb (getD targets (exitPlace i e) 0) places) _ l),
-      and-right (ltb (getD targets (exitPlace i e) 0) places) _ l,
-      ltb-true _ _ (and-right (ltb (getD targets (exitPlace i e) 0) places && eqb (getD used (getD targets (exitPlace i e) 0) 0) 1) _ g),
-    ))
-    (eq-or-ne (getD targets (exitPlace i e) 0) 0)
+-- what the tests say
+record Facts (t : Table) : Type 0 where
+  shape : Shape t
+  least : 1 ≤ t .capacity
+  most : t .capacity ≤ places
+  last : t .last < t .capacity
+  alarm : inUse t 0 ≡ true
+  kind : kindOf t 0 ≡ 0
+  content : contentOf t 0 ≡ 0
+  own : ownBit t 0 < counters
+  first : getD (t .counts) 0 0 ≡ 0
+  steps : (i : ℕ) → i < places → stepFits t i ≡ true
+  links : (p : ℕ) → p < places * exits → exitFits t p ≡ true
+  counts : (i : ℕ) → i < places → countersFit t i ≡ true
+  above : (i : ℕ) → i < places → freeAbove t (t .capacity) i ≡ true
+  sum : total (places * counters) (counter t) ≡ faults (places * exits) (emptyAt t)
 
-record UsedFits (t : Table) (i : ℕ) : Type 0 where
-  below : i < t .capacity
-  kind : kindFits i (kindOf t i) (contentOf t i) ≡ true
-  own : ownBit t i < 2
-  exit : (e : ℕ) → e < exits → exitFits (t .used) (t .targets) (t .bits) i e ≡ true
-
-used-true : (t : Table) (i : ℕ) → fits t i ≡ true → inUse t i ≡ true → UsedFits t i
-unfolding stepFits inUse kindOf contentOf ownBit
-used-true t i h u =
-    let g = passes-at (ltb i (t .capacity) ∷ kindFits i (getD (t .kinds) i 0) (getD (t .contents) i 0) ∷ ltb (getD (t .own) i 0) 2 ∷ all exits (exitFits (t .used) (t .targets) (t .bits) i) ∷ []) (rw u at h) in
+checked-facts : {t : Table} → Checked t → Facts t
+unfolding numbersFit capacityFits alarmFits arraysFit inUse
+checked-facts {t} k =
+    let range = and-left (capacityFits (t .capacity)) _ (k .numbers) in
+    let four = and-left (eqb (getD (t .used) 0 0) 1 && eqb (kindOf t 0) 0 && eqb (contentOf t 0) 0 && ltb (ownBit t 0) counters) _ (k .alarm) in
+    let three = and-left (eqb (getD (t .used) 0 0) 1 && eqb (kindOf t 0) 0 && eqb (contentOf t 0) 0) _ four in
+    let two = and-left (eqb (getD (t .used) 0 0) 1 && eqb (kindOf t 0) 0) _ three in
+    let lower = and-left (all places (stepFits t) && all (places * exits) (exitFits t) && all places (countersFit t)) _ (k .arrays) in
+    let lowest = and-left (all places (stepFits t) && all (places * exits) (exitFits t)) _ lower in
     record {
-      below = ltb-true _ _ (g 0);
-      kind = g 1;
-      own = ltb-true _ _ (g 2);
-      exit = all-at exits _ (g 3);
+      shape = k .shape;
+      least = leb-true _ _ (and-left (leb 1 (t .capacity)) _ range);
+      most = leb-true _ _ (and-right (leb 1 (t .capacity)) _ range);
+      last = ltb-true _ _ (and-right (capacityFits (t .capacity)) _ (k .numbers));
+      alarm = and-left (eqb (getD (t .used) 0 0) 1) _ two;
+      kind = eqb-true _ _ (and-right (eqb (getD (t .used) 0 0) 1) _ two);
+      content = eqb-true _ _ (and-right (eqb (getD (t .used) 0 0) 1 && eqb (kindOf t 0) 0) _ three);
+      own = ltb-true _ _ (and-right (eqb (getD (t .used) 0 0) 1 && eqb (kindOf t 0) 0 && eqb (contentOf t 0) 0) _ four);
+      first =
+          eqb-true _ _
+          (and-right (eqb (getD (t .used) 0 0) 1 && eqb (kindOf t 0) 0 && eqb (contentOf t 0) 0 && ltb (ownBit t 0) counters) _ (k .alarm));
+      steps = all-at places _ (and-left (all places (stepFits t)) _ lowest);
+      links = all-at (places * exits) _ (and-right (all places (stepFits t)) _ lowest);
+      counts = all-at places _ (and-right (all places (stepFits t) && all (places * exits) (exitFits t)) _ lower);
+      above = all-at places _ (and-right (all places (stepFits t) && all (places * exits) (exitFits t) && all places (countersFit t)) _ (k .arrays));
+      sum = k .sum;
     }
 
-free-true : (t : Table) (i : ℕ) → fits t i ≡ true → inUse t i ≡ false → Blank t i
-unfolding stepFits exitBlank inUse kindOf contentOf ownBit targetOf linkBit counterOf counterPlace
-free-true t i h f =
-    let g =
-    passes-at
-    (eqb (getD (t .used) i 0) 0 ∷
-    eqb (getD (t .kinds) i 0) 0 ∷
-    eqb (getD (t .contents) i 0) 0 ∷
-    eqb (getD (t .own) i 0) 0 ∷
-    eqb (getD (t .counts) (i * counters) 0) 0 ∷
-    eqb (getD (t .counts) (i * counters + 1) 0) 0 ∷
-    all exits (exitBlank (t .targets) (t .bits) i) ∷
-    [])
-    (rw f at h) in
+facts-checked : {t : Table} → Facts t → Checked t
+unfolding numbersFit capacityFits alarmFits arraysFit inUse
+facts-checked {t} k =
     record {
-      used = eqb-true _ _ (g 0);
-      kind = eqb-true _ _ (g 1);
-      content = eqb-true _ _ (g 2);
-      own = eqb-true _ _ (g 3);
-      targets = λ e l. eqb-true _ _ (and-left (eqb (getD (t .targets) (exitPlace i e) 0) 0) _ (all-at exits _ (g 6) e l));
-      bits = λ e l. eqb-true _ _ (and-right (eqb (getD (t .targets) (exitPlace i e) 0) 0) _ (all-at exits _ (g 6) e l));
-      counts =
-          λ b l.
-          ⊎-elim
-          (λ (z : b ≡ 0). let p : i * counters + b ≡ i * counters = omega arith in ap (λ (q : ℕ). getD (t .counts) q 0) p ∙ eqb-true _ _ (g 4))
-          (λ (d : b ≡ 0 → ⊥). let p : i * counters + b ≡ i * counters + 1 = omega arith in ap (λ (q : ℕ). getD (t .counts) q 0) p ∙ eqb-true _ _ (g 5))
-          (eq-or-ne b 0);
+      shape = k .shape;
+      numbers = and-intro (and-intro (le-leb _ _ (k .least)) (le-leb _ _ (k .most))) (lt-ltb _ _ (k .last));
+      alarm =
+          and-intro (and-intro (and-intro (and-intro (k .alarm) (eq-eqb _ _ (k .kind))) (eq-eqb _ _ (k .content))) (lt-ltb _ _ (k .own)))
+          (eq-eqb _ _ (k .first));
+      arrays =
+          and-intro (and-intro (and-intro (all-intro places _ (k .steps)) (all-intro (places * exits) _ (k .links))) (all-intro places _ (k .counts)))
+          (all-intro places _ (k .above));
+      sum = k .sum;
     }
 
-module _ {t : Table} (k : Checked t) where
-  at-step : (i : ℕ) → i < places → fits t i ≡ true
-  at-step i l = all-at places (fits t) (k .steps) i l
+-- every link lands in one counter
+landing-total : (t : Table) → Ranged t → total (places * counters) (landing (slotAt t)) ≡ faults (places * exits) (emptyAt t)
+unfolding landing faults emptyAt
+landing-total t r =
+    total-landing (places * counters) (places * exits) (slotAt t) (λ p l. slot-below t r p)
+    ∙ count-ext (places * exits) _ _ (λ p l. ap not (slot-zero t p))
 
-  used-at : (i : ℕ) → inUse t i ≡ true → UsedFits t i
-  used-at i u = used-true t i (at-step i (used-place (k .shape) i u)) u
+module _ {t : Table} (k : Facts t) where
+  link-at : (p : ℕ) → p < places * exits → ((getD (t .targets) p 0 ≡ 0) × (getD (t .bits) p 0 ≡ 0)) ⊎
+      ((getD (t .targets) p 0 ≡ 0 → ⊥) × (getD (t .targets) p 0 < places) × (getD (t .bits) p 0 < counters))
+  unfolding exitFits
+  link-at p l = link-fits _ _ (k .links p l)
 
-  exit-at : (i e : ℕ) → inUse t i ≡ true → e < exits →
-      ((targetOf t i e ≡ 0) × (linkBit t i e ≡ 0)) ⊎ ((targetOf t i e ≡ 0 → ⊥) × (targetOf t i e < places) × (inUse t (targetOf t i e) ≡ true) × (linkBit t i e < 2))
-  unfolding targetOf linkBit inUse
-  exit-at i e u l = exit-true (t .used) (t .targets) (t .bits) i e (used-at i u .exit e l)
+  used-step : (i : ℕ) → i < places → (i ≡ 0 → ⊥) → inUse t i ≡ true → (contentFits (kindOf t i) (contentOf t i) ≡ true) × (ownBit t i < counters)
+  unfolding stepFits inUse
+  used-step i l d u =
+      ⊎-elim (λ z. absurd (d (eqb-true _ _ z))) (λ h. fields-used _ _ _ _ h u) (or-elim (eqb i 0) _ (k .steps i l))
 
-  free-at : (i : ℕ) → i < places → inUse t i ≡ false → Blank t i
-  free-at i l f = free-true t i (at-step i l) f
+  free-step : (i : ℕ) → i < places → inUse t i ≡ false → (getD (t .used) i 0 ≡ 0) × (kindOf t i ≡ 0) × (contentOf t i ≡ 0) × (ownBit t i ≡ 0)
+  unfolding stepFits inUse
+  free-step i l f =
+      ⊎-elim
+      (λ z. let u : inUse t i ≡ true = rw (eqb-true i 0 z) (k .alarm) in clash u f)
+      (λ h. fields-free _ _ _ _ h f)
+      (or-elim (eqb i 0) _ (k .steps i l))
 
-  -- what stands at any place of the arrays
-  place-at : (p : ℕ) → (getD (t .targets) p 0 < places) × (getD (t .bits) p 0 < counters)
-  unfolding targetOf linkBit
-  place-at p =
+  checked-own : (i : ℕ) → inUse t i ≡ true → ownBit t i < counters
+  checked-own i u =
+      ⊎-elim (λ (z : i ≡ 0). rw z (k .own)) (λ d. used-step i (used-place (k .shape) i u) d u .1) (eq-or-ne i 0)
+
+  ranged : Ranged t
+  ranged =
+      shape-ranged t (k .shape)
+      (λ p l. ⊎-elim (λ x. let a = x .0 in let b = x .1 in (omega arith, omega arith)) (λ x. (x .1, x .2)) (link-at p l))
+      (λ j l. ⊎-elim (λ u. checked-own j u) (λ f. let z = free-step j l f .3 in omega arith) (test (inUse t j)))
+
+  checked-kind : (i : ℕ) → inUse t i ≡ true → kindFits i (kindOf t i) (contentOf t i) ≡ true
+  unfolding kindFits
+  checked-kind i u =
+      ⊎-elim
+      (λ (z : i ≡ 0). rw (z, k .kind, k .content))
+      (λ (d : i ≡ 0 → ⊥). rw (ne-eqb i 0 d) (used-step i (used-place (k .shape) i u) d u .0))
+      (eq-or-ne i 0)
+
+  free-counter : (i b : ℕ) → i < places → b < counters → inUse t i ≡ false → counterOf t i b ≡ 0
+  unfolding countersFit inUse
+  free-counter i b l x f =
+      let c = counts-free _ _ _ (k .counts i l) f in
+      ⊎-elim (λ (z : b ≡ 0). rw z (c .0)) (λ (d : b ≡ 0 → ⊥). let z : b ≡ 1 = omega arith in rw z (c .1)) (eq-or-ne b 0)
+
+  above-free : (i : ℕ) → t .capacity ≤ i → i < places → inUse t i ≡ false
+  unfolding freeAbove inUse
+  above-free i g l =
+      ⊎-elim (λ h. let b = ltb-true i (t .capacity) h in absurd (omega arith))
+      (λ h. rw (eqb-true (getD (t .used) i 0) 0 h))
+      (or-elim (ltb i (t .capacity)) _ (k .above i l))
+
+  -- The search from step 0 has come to nothing left, and the steps in use are marked.
+  module _ (r : Bool) (s : Spans t r) (yes : r ≡ true) where
+    abbrev marks : List ℕ
+    marks = s .marks
+
+    both : (all (places * counters) (λ q. eqb (getD (s .left) q 0) 0) && all places (λ i. eqb (getD (t .used) i 0) (getD marks i 0))) ≡ true
+    both = sym (s .answer) ∙ yes
+
+    nothing-left : (q : ℕ) → q < places * counters → getD (s .left) q 0 ≡ 0
+    nothing-left q l = eqb-true _ _ (all-at (places * counters) _ (and-left (all (places * counters) (λ q. eqb (getD (s .left) q 0) 0)) _ both) q l)
+
+    used-marked : (i : ℕ) → i < places → inUse t i ≡ isMarked marks i
+    unfolding inUse isMarked
+    used-marked i l =
+        let same : getD (t .used) i 0 ≡ getD marks i 0 =
+        eqb-true _ _ (all-at places _ (and-right (all (places * counters) (λ q. eqb (getD (s .left) q 0) 0)) _ both) i l) in
+        ap (λ (x : ℕ). eqb x 1) same
+
+    account : (q : ℕ) → 0 < q → q < places * counters → landing (slotAt t) q ≡ counter t q + landingKept (slotAt t) marks q
+    account q z l =
+        let a = s .search .account (nothing-left 0 (omega arith)) q z l in
+        let n = nothing-left q l in
+        omega arith
+
+    counted-most : (q : ℕ) → q < places * counters → counter t q ≤ landing (slotAt t) q
+    counted-most q l =
+        ⊎-elim (λ (z : q ≡ 0). rw (z, k .first) (omega arith)) (λ (d : q ≡ 0 → ⊥). let a = account q (omega arith) l in omega arith) (eq-or-ne q 0)
+
+    exact : Exact t (t .counts)
+    exact =
+        total-same (places * counters) (counter t) (landing (slotAt t)) counted-most (k .sum ∙ sym (landing-total t ranged))
+
+    none-kept : (q : ℕ) → 0 < q → q < places * counters → landingKept (slotAt t) marks q ≡ 0
+    none-kept q z l = let a = account q z l in let e = exact q l in omega arith
+
+    slot-pos : (p : ℕ) → (getD (t .targets) p 0 ≡ 0 → ⊥) → 0 < slotAt t p
+    slot-pos p d = let z = slot-some t p d in omega arith
+
+    lands-own : (p : ℕ) → (getD (t .targets) p 0 ≡ 0 → ⊥) → lands (slotAt t) p (slotAt t p) ≡ true
+    lands-own p d = lands-intro (slotAt t) p (slotAt t p) refl (slot-some t p d)
+
+    -- a link is one of a marked step, so of one in use
+    marked-source : (p : ℕ) → p < places * exits → (getD (t .targets) p 0 ≡ 0 → ⊥) → inUse t (p / exits) ≡ true
+    unfolding landingKept
+    marked-source p l d =
+        used-marked (p / exits) (omega arith)
+        ∙ ⊎-elim (λ m. m)
+        (λ m.
+        let q = slotAt t p in
+        let c =
+        count-pos (places * exits) (λ p′. lands (slotAt t) p′ q && not (isMarked marks (p′ / exits))) p l (and-intro (lands-own p d) (ap not m)) in
+        let z = none-kept q (slot-pos p d) (slot-below t ranged p) in
+        absurd (omega arith))
+        (test (isMarked marks (p / exits)))
+
+    -- and it leads to a step in use: the counters of a free step are zero
+    target-used : (p : ℕ) → p < places * exits → (getD (t .targets) p 0 ≡ 0 → ⊥) → inUse t (getD (t .targets) p 0) ≡ true
+    unfolding landing counterOf
+    target-used p l d =
+        ⊎-elim (λ u. u)
+        (λ f.
+        let r = ranged in
+        let j = getD (t .targets) p 0 in
+        let b = getD (t .bits) p 0 in
+        let c = count-pos (places * exits) (λ p′. lands (slotAt t) p′ (counterPlace j b)) p l (link-lands t j b p d refl refl) in
+        let e = exact (counterPlace j b) (counter-place-below j b (r .bits p) (r .targets p)) in
+        let z = free-counter j b (r .targets p) (r .bits p) f in
+        absurd (omega arith))
+        (test (inUse t (getD (t .targets) p 0)))
+
+    free-empty : (p : ℕ) → p < places * exits → inUse t (p / exits) ≡ false → getD (t .targets) p 0 ≡ 0
+    free-empty p l f = ⊎-elim (λ z. z) (λ d. clash (marked-source p l d) f) (eq-or-ne (getD (t .targets) p 0) 0)
+
+    free-exit : (i e : ℕ) → e < exits → i < places → inUse t i ≡ false → getD (t .targets) (exitPlace i e) 0 ≡ 0
+    free-exit i e x l f =
+        free-empty (exitPlace i e) (exit-place-below i e places x l) (subst (λ (n : ℕ). inUse t n ≡ false) (sym (exit-place-step i e x)) f)
+
+    formed : Formed t
+    unfolding targetOf linkBit counterOf
+    formed =
+        record {
+          shape = k .shape;
+          least = k .least;
+          most = k .most;
+          last = k .last;
+          above = above-free;
+          alarm = k .alarm;
+          kinds = checked-kind;
+          own = checked-own;
+          bits = λ i e u l. ranged .bits (exitPlace i e);
+          targets = λ i e u l h. target-used (exitPlace i e) (exit-place-below i e places l (used-place (k .shape) i u)) (holds-target t i e h);
+          empty =
+              λ i e u l h.
+              ⊎-elim (λ x. x .1) (λ x. absurd (x .0 (empty-target t i e h)))
+              (link-at (exitPlace i e) (exit-place-below i e places l (used-place (k .shape) i u)));
+          free =
+              λ i l f.
+              let blank = free-step i l f in
+              record {
+                used = blank .0;
+                kind = blank .1;
+                content = blank .2;
+                own = blank .3;
+                targets = λ e x. free-exit i e x l f;
+                bits =
+                    λ e x.
+                    ⊎-elim (λ y. y .1)
+                    (λ y. absurd (y .0 (free-exit i e x l f)))
+                    (link-at (exitPlace i e) (exit-place-below i e places x l));
+                counts = λ b x. free-counter i b l x f;
+              };
+          exact =
+              λ j b l x.
+              exact (counterPlace j b) (counter-place-below j b x l)
+              ∙ landing-links t ranged (k .most) (λ p g y. free-empty p y (above-free (p / exits) (omega arith) (omega arith))) j b x;
+        }
+
+    strong-used : (i j : ℕ) → stronglyLinked t i j ≡ true → (inUse t i ≡ true) × (inUse t j ≡ true)
+    strong-used i j l = linked-used (formed-wired formed) i j (strongly-linked t i j l)
+
+    -- the order of marking is a rank, and each step in use has a parent
+    spine : Spine t (inUse t)
+    spine =
+        record {
+          rank = s .search .rank;
+          top = s .search .top;
+          root = k .alarm;
+          used = λ i u. u;
+          low = λ i u. s .search .low i (marked i u);
+          rising = λ i j u l. up-marked t ranged _ exact _ _ (s .search) i j (used-place (k .shape) i u) l (marked j (strong-used i j l .1)) .1;
+          closed = λ i j u l. strong-used i j l .1;
+          parent =
+              λ j u d.
+              ⊎-elim (λ z. absurd (d z))
+              (λ n. let l = landing-linked t ranged j (n .1) in (l .0, strong-used (l .0) j (l .1) .0, l .1))
+              (s .new j (marked j u));
+        }
+      where
+        marked : (i : ℕ) → inUse t i ≡ true → isMarked marks i ≡ true
+        marked i u = sym (used-marked i (used-place (k .shape) i u)) ∙ u
+
+    facts-sound : Sound t
+    facts-sound = spine-sound formed spine
+
+-- a sound table passes
+module _ {t : Table} (s : Sound t) where
+  g : Formed t
+  g = sound-formed s
+
+  empty-bit : (p : ℕ) → p < places * exits → getD (t .targets) p 0 ≡ 0 → getD (t .bits) p 0 ≡ 0
+  empty-bit p l z =
       let i = p / exits in
       let e = p % exits in
       let le : e < exits = omega arith in
-      let here : targetOf t i e ≡ getD (t .targets) p 0 = ap (λ (q : ℕ). getD (t .targets) q 0) (exit-place-split p) in
-      let bit : linkBit t i e ≡ getD (t .bits) p 0 = ap (λ (q : ℕ). getD (t .bits) q 0) (exit-place-split p) in
-      ⊎-elim
-      (λ (o : places ≤ i).
-      let z : getD (t .targets) p 0 ≡ 0 = List·getD-eq-default (t .targets) 0 {n = p} (rw (k .shape .targets) (omega arith)) in
-      let y : getD (t .bits) p 0 ≡ 0 = List·getD-eq-default (t .bits) 0 {n = p} (rw (k .shape .bits) (omega arith)) in
-      (omega arith, omega arith))
-      (λ (l : i < places).
-      ⊎-elim
-      (λ u. ⊎-elim (λ x. let a = x .0 in let b = x .1 in (omega arith, omega arith)) (λ x. let a = x .1 in let b = x .3 in (omega arith, omega arith)) (exit-at i e u le))
-      (λ f. let a = free-at i l f .targets e le in let b = free-at i l f .bits e le in (omega arith, omega arith))
-      (test (inUse t i)))
-      (le-or-lt places i)
+      let here = exit-here t p in
+      sym (here .1)
+      ∙ ⊎-elim (λ u. g .empty i e u le (target-empty t i e (here .0 ∙ z))) (λ f. g .free i (omega arith) f .bits e le) (test (inUse t i))
 
-  pub checked-range : InRange (t .targets)
-  checked-range p = place-at p .0
+  in-range : Ranged t
+  in-range = formed-ranged t g
 
-  pub checked-bits : (p : ℕ) → p < t .capacity * exits → getD (t .bits) p 0 < counters
-  checked-bits p l = place-at p .1
+  counted : Exact t (t .counts)
+  counted = formed-exact t g
 
-  pub checked-formed : countsSame (t .counts) (recount (t .targets) (t .bits) (t .capacity * exits)) ≡ true → Formed t
-  unfolding countsSame linksTo countsAt counterOf hits
-  checked-formed same =
+  sound-facts : Facts t
+  unfolding stepFits exitFits countersFit freeAbove inUse kindFits
+  sound-facts =
       record {
-        shape = k .shape;
-        least = k .least;
-        most = k .most;
-        last = k .last;
-        above = λ i g l. refute (inUse t i) (λ u. let b = used-at i u .below in omega arith);
-        alarm = k .alarm;
-        kinds = λ i u. used-at i u .kind;
-        own = λ i u. used-at i u .own;
-        bits = λ i e u l. ⊎-elim (λ x. let b = x .1 in omega arith) (λ x. x .3) (exit-at i e u l);
-        targets = λ i e u l h. ⊎-elim (λ x. absurd (holds-target t i e h (x .0))) (λ x. x .2) (exit-at i e u l);
-        empty = λ i e u l h. ⊎-elim (λ x. x .1) (λ x. absurd (x .0 (empty-target t i e h))) (exit-at i e u l);
-        free = free-at;
-        exact =
-            λ j b l x.
-            eqb-true _ _ (all-at (places * counters) _ same (counterPlace j b) (counter-place-below j b x l))
-            ∙ recount-at (t .targets) (t .bits) checked-range (t .capacity * exits) checked-bits j b x;
+        shape = g .shape;
+        least = g .least;
+        most = g .most;
+        last = g .last;
+        alarm = g .alarm;
+        kind = eqb-true _ _ (and-left (eqb (kindOf t 0) 0) _ (g .kinds 0 (g .alarm)));
+        content = eqb-true _ _ (and-right (eqb (kindOf t 0) 0) _ (g .kinds 0 (g .alarm)));
+        own = g .own 0 (g .alarm);
+        first = counted 0 (omega arith) ∙ landing-zero (slotAt t);
+        steps =
+            λ i l.
+            ⊎-elim
+            (λ (z : i ≡ 0). or-left (eqb i 0) _ (eq-eqb _ _ z))
+            (λ (d : i ≡ 0 → ⊥).
+            or-right (eqb i 0) _
+            (⊎-elim
+            (λ (u : inUse t i ≡ true). used-fields _ _ _ _ u (rw (ne-eqb i 0 d) at (g .kinds i u)) (g .own i u))
+            (λ (f : inUse t i ≡ false). let b = g .free i l f in free-fields _ _ _ _ (b .used) (b .kind) (b .content) (b .own))
+            (test (inUse t i))))
+            (eq-or-ne i 0);
+        links =
+            λ p l.
+            ⊎-elim
+            (λ z. empty-fits _ _ z (empty-bit p l z))
+            (λ d. filled-fits _ _ d (in-range .targets p) (in-range .bits p))
+            (eq-or-ne (getD (t .targets) p 0) 0);
+        counts =
+            λ i l.
+            ⊎-elim
+            (λ (u : inUse t i ≡ true). used-counts _ _ _ u)
+            (λ (f : inUse t i ≡ false). let b = g .free i l f in free-counts _ _ _ f (b .counts 0 (omega arith)) (b .counts 1 (omega arith)))
+            (test (inUse t i));
+        above =
+            λ i l.
+            ⊎-elim
+            (λ (h : t .capacity ≤ i). or-right (ltb i (t .capacity)) _ (eq-eqb _ _ (g .free i l (g .above i h l) .used)))
+            (λ (h : i < t .capacity). or-left (ltb i (t .capacity)) _ (lt-ltb _ _ h))
+            (le-or-lt (t .capacity) i);
+        sum = total-ext (places * counters) _ _ counted ∙ landing-total t in-range;
       }
 
--- a sound table passes
-formed-exit : {t : Table} → Formed t → (i e : ℕ) → inUse t i ≡ true → e < exits → exitFits (t .used) (t .targets) (t .bits) i e ≡ true
-unfolding exitFits
-formed-exit {t} g i e u l =
-    ⊎-elim
-    (λ (h : holds t i e ≡ true).
-    let d : getD (t .targets) (exitPlace i e) 0 ≡ 0 → ⊥ = unfolded-holds i e h in
-    let v = g .targets i e u l h in
-    rw (ne-eqb _ 0 d) (and-intro (and-intro (unfolded-place i e (formed-place g (targetOf t i e) v)) (unfolded-used i e v)) (unfolded-bit i e (g .bits i e u l))))
-    (λ (h : holds t i e ≡ false).
-    rw (unfolded-empty i e h) (unfolded-zero i e (g .empty i e u l h)))
-    (test (holds t i e))
-  where
-    unfolded-holds : (i e : ℕ) → holds t i e ≡ true → getD (t .targets) (exitPlace i e) 0 ≡ 0 → ⊥
-    unfolded-holds i e h = unfold targetOf in holds-target t i e h
+  module _ (r : Bool) (w : Spans t r) where
+    left-kept : (q : ℕ) → 0 < q → q < places * counters → getD (w .left) q 0 ≡ landingKept (slotAt t) (w .marks) q
+    left-kept q z l =
+        let a = w .search .account (w .search .clean counted) q z l in
+        let e = counted q l in
+        omega arith
 
-    unfolded-place : (i e : ℕ) → targetOf t i e < places → ltb (getD (t .targets) (exitPlace i e) 0) places ≡ true
-    unfolded-place i e h = unfold targetOf in lt-ltb _ _ h
-
-    unfolded-used : (i e : ℕ) → inUse t (targetOf t i e) ≡ true → eqb (getD (t .used) (getD (t .targets) (exitPlace i e) 0) 0) 1 ≡ true
-    unfolded-used i e h = unfold targetOf inUse in h
-
-    unfolded-bit : (i e : ℕ) → linkBit t i e < 2 → ltb (getD (t .bits) (exitPlace i e) 0) 2 ≡ true
-    unfolded-bit i e h = unfold linkBit in lt-ltb _ _ h
-
-    unfolded-empty : (i e : ℕ) → holds t i e ≡ false → eqb (getD (t .targets) (exitPlace i e) 0) 0 ≡ true
-    unfolded-empty i e h = unfold targetOf in eq-eqb _ _ (empty-target t i e h)
-
-    unfolded-zero : (i e : ℕ) → linkBit t i e ≡ 0 → eqb (getD (t .bits) (exitPlace i e) 0) 0 ≡ true
-    unfolded-zero i e h = unfold linkBit in eq-eqb _ _ h
-
-formed-fits : {t : Table} → Formed t → (i : ℕ) → i < places → fits t i ≡ true
-unfolding stepFits exitBlank inUse kindOf contentOf ownBit targetOf linkBit counterOf counterPlace
-formed-fits {t} g i l =
-    ⊎-elim
-    (λ (u : inUse t i ≡ true).
-    rw u
-    (and-intro (lt-ltb _ _ (formed-below g i u))
-    (and-intro (g .kinds i u)
-    (and-intro (lt-ltb _ _ (g .own i u))
-    (and-intro (all-intro exits _ (λ e b. formed-exit g i e u b)) refl)))))
-    (λ (f : inUse t i ≡ false).
-    let b = g .free i l f in
-    rw f
-    (and-intro (eq-eqb _ _ (b .used))
-    (and-intro (eq-eqb _ _ (b .kind))
-    (and-intro (eq-eqb _ _ (b .content))
-    (and-intro (eq-eqb _ _ (b .own))
-    (and-intro (eq-eqb _ _ (first b))
-    (and-intro (eq-eqb _ _ (b .counts 1 (omega arith)))
-    (and-intro (all-intro exits _ (λ e x. and-intro (eq-eqb _ _ (b .targets e x)) (eq-eqb _ _ (b .bits e x)))) refl))))))))
-    (test (inUse t i))
-  where
-    first : Blank t i → getD (t .counts) (i * counters) 0 ≡ 0
-    first b = let p : i * counters ≡ i * counters + 0 = omega arith in ap (λ (q : ℕ). getD (t .counts) q 0) p ∙ b .counts 0 (omega arith)
-
-pub formed-checked : {t : Table} → Formed t → Checked t
-formed-checked {t} g =
-    record {
-      shape = g .shape;
-      least = g .least;
-      most = g .most;
-      last = g .last;
-      alarm = g .alarm;
-      steps = all-intro places (fits t) (formed-fits g);
-    }
-
--- every place of the counters is that of a counter
-counter-split : (q : ℕ) → counterPlace (q / counters) (q % counters) ≡ q
-unfolding counterPlace
-counter-split q = omega arith
-
-pub formed-counts : {t : Table} → Formed t → countsSame (t .counts) (recount (t .targets) (t .bits) (t .capacity * exits)) ≡ true
-unfolding countsSame linksTo countsAt counterOf hits
-formed-counts {t} g =
-    all-intro (places * counters) _
-    (λ q l.
-    let k = formed-checked g in
-    let j = q / counters in
-    let b = q % counters in
-    let x : b < counters = omega arith in
-    let low : j < places = omega arith in
-    let here = g .exact j b low x ∙ sym (recount-at (t .targets) (t .bits) (checked-range k) (t .capacity * exits) (checked-bits k) j b x) in
-    eq-eqb _ _ (subst (λ (p : ℕ). getD (t .counts) p 0 ≡ getD (recount (t .targets) (t .bits) (t .capacity * exits)) p 0) (counter-split q) here))
-
--- The search from step 0
-module _ {t : Table} (g : Formed t) where
-  pub begin-sound : AtZero (heads t) (strongCounts (t .counts) (t .own)) zeros (λ j. 0) 0
-  begin-sound =
-      search-begin (heads t) (strongCounts (t .counts) (t .own)) zeros 0 (strong-left-size t) refl (λ j. getD-zeros places j) (strong-left t g)
-      (omega arith)
-      (pointing-alarm (heads t))
-
-  pub begin-pending : Pending (heads t) (strongCounts (t .counts) (t .own)) (set zeros 0 1) (rest (heads t) 0 0)
-  begin-pending = ((λ j. 0), search-mark begin-sound)
-
-  module _ (left marks : List ℕ) (w : Withdrawn (heads t) (strongCounts (t .counts) (t .own)) (set zeros 0 1) left marks (rest (heads t) 0 0)) where
-    ended : Search (heads t) left marks (λ j. 0)
-    ended = w .after (λ j. 0) (search-mark begin-sound)
-
-    alarm-marked : isMarked marks 0 ≡ true
-    alarm-marked = w .grown 0 (mark-here begin-sound)
-
-    marked-new : (j : ℕ) → isMarked marks j ≡ true → (j ≡ 0) ⊎ (0 < pointing (heads t) j)
-    marked-new j m = ⊎-elim (λ o. ⊎-elim (λ q. inl q) (λ z. clash z (none-marked j)) (marked-next begin-sound j o)) (λ p. inr p) (w .new j m)
-
-    strong-source : (i j : ℕ) → stronglyLinked t i j ≡ true → (inUse t i ≡ true) × (inUse t j ≡ true)
-    strong-source i j l = linked-used (formed-wired g) i j (strongly-linked t i j l)
-
-    -- all steps in use are marked: the order of marking is a rank, and each has a parent
-    marked-spine : ((i : ℕ) → inUse t i ≡ true → isMarked marks i ≡ true) → Spine t (inUse t)
-    marked-spine all-marked =
-        record {
-          rank = ended .rank;
-          top = ended .top;
-          root = g .alarm;
-          used = λ i u. u;
-          low = λ i u. ended .low i (all-marked i u);
-          rising =
-              λ i j u l.
-              up-marked t g left marks ended i j (formed-place g i u) l (all-marked j (strong-source i j l .1)) .1;
-          closed = λ i j u l. strong-source i j l .1;
-          parent =
-              λ j u d.
-              ⊎-elim (λ z. absurd (d z)) (λ p. let r = pointing-linked t g j p in (r .0, strong-source (r .0) j (r .1) .0, r .1)) (marked-new j (all-marked j u));
-        }
-
-    -- in a sound table a step that is not marked would have a parent that is not, without end
-    sound-marked : (s : Sound t) (n i : ℕ) → sound-spine s .rank i < n → inUse t i ≡ true → isMarked marks i ≡ true
-    sound-marked s zero i l u = absurd (omega arith)
-    sound-marked s (suc n) i l u =
+    -- a step in use that is not marked would have a parent that is not, without end
+    used-marks : (n i : ℕ) → sound-spine s .rank i < n → inUse t i ≡ true → isMarked (w .marks) i ≡ true
+    used-marks zero i l u = absurd (omega arith)
+    used-marks (suc n) i l u =
         ⊎-elim (λ m. m)
-        (λ (m : isMarked marks i ≡ false).
+        (λ (m : isMarked (w .marks) i ≡ false).
         ⊎-elim
-        (λ (z : i ≡ 0). clash (rw z alarm-marked) m)
+        (λ (z : i ≡ 0). let y : isMarked (w .marks) i ≡ true = rw z (w .root) in clash y m)
         (λ (d : i ≡ 0 → ⊥).
         let p = sound-spine s .parent i u d in
-        let k = kept-parent t g left marks ended i (formed-place g i u) m (pointing-some t g (p .0) i (formed-place g (p .0) (p .1)) (p .2)) in
-        let v = strong-source (k .0) i (k .2) .0 in
-        let rise = sound-spine s .rising (k .0) i v (k .2) in
-        clash (sound-marked s n (k .0) (omega arith) v) (k .1))
+        let some = landing-some t (p .0) i (formed-place g (p .0) (p .1)) (p .2) in
+        let v = kept-parent t in-range _ counted _ _ (w .search) i (omega arith) (formed-place g i u) m some in
+        let fu = linked-used (formed-wired g) (v .0) i (strongly-linked t (v .0) i (v .2)) .0 in
+        let rise = sound-spine s .rising (v .0) i fu (v .2) in
+        clash (used-marks n (v .0) (omega arith) fu) (v .1))
         (eq-or-ne i 0))
-        (test (isMarked marks i))
+        (test (isMarked (w .marks) i))
 
-    pub spans-sound : (r : Bool) → r ≡ allMarked (t .used) marks → r ≡ sound t
-    unfolding allMarked inUse
-    spans-sound r q =
-        q
-        ∙ same-test _ _
-        (λ a. sound-test t (spine-sound g (marked-spine (λ i u. implied (inUse t i) _ (all-at places _ a i (formed-place g i u)) u))))
-        (λ a.
-        let s = test-sound t a in
-        all-intro places _ (λ i l. imply (inUse t i) _ (λ u. sound-marked s (suc (sound-spine s .rank i)) i (omega arith) u)))
+    -- a marked step is 0 or has a strong link
+    marks-used : (j : ℕ) → isMarked (w .marks) j ≡ true → inUse t j ≡ true
+    marks-used j m =
+        ⊎-elim
+        (λ (z : j ≡ 0). rw z (g .alarm))
+        (λ n. let l = landing-linked t in-range j (n .1) in linked-used (formed-wired g) (l .0) j (strongly-linked t (l .0) j (l .1)) .1)
+        (w .new j m)
 
-pub unsound : (t : Table) → (Sound t → ⊥) → false ≡ sound t
-unsound t f = sym (refute (sound t) (λ h. f (test-sound t h)))
+    marks-same : (i : ℕ) → i < places → getD (t .used) i 0 ≡ getD (w .marks) i 0
+    unfolding inUse isMarked
+    marks-same i l =
+        ⊎-elim
+        (λ (u : inUse t i ≡ true).
+        let a : getD (t .used) i 0 ≡ 1 = eqb-true _ _ u in
+        let b : getD (w .marks) i 0 ≡ 1 = eqb-true _ _ (used-marks (suc (sound-spine s .rank i)) i (omega arith) u) in
+        omega arith)
+        (λ (f : inUse t i ≡ false).
+        let a = g .free i l f .used in
+        let b : getD (w .marks) i 0 ≡ 1 → ⊥ = λ e. clash (marks-used i (eq-eqb _ _ e)) f in
+        let c = w .search .binary i in
+        omega arith)
+        (test (inUse t i))
+
+    nothing-kept : (q : ℕ) → landingKept (slotAt t) (w .marks) q ≡ 0
+    unfolding landingKept
+    nothing-kept q =
+        count-none (places * exits) _
+        (λ p l.
+        refute _
+        (λ h.
+        let u = source-used t g p (lands-held t p q (and-left (lands (slotAt t) p q) _ h)) in
+        clash
+        (used-marks (suc (sound-spine s .rank (p / exits))) (p / exits) (omega arith) u)
+        (not-true-false _ (and-right (lands (slotAt t) p q) _ h))))
+
+    left-zero : (q : ℕ) → q < places * counters → getD (w .left) q 0 ≡ 0
+    left-zero q l =
+        ⊎-elim
+        (λ (z : q ≡ 0). rw z (w .search .clean counted))
+        (λ (d : q ≡ 0 → ⊥). left-kept q (omega arith) l ∙ nothing-kept q)
+        (eq-or-ne q 0)
+
+    sound-spans : r ≡ true
+    sound-spans =
+        w .answer
+        ∙ and-intro (all-intro (places * counters) _ (λ q l. eq-eqb _ _ (left-zero q l))) (all-intro places _ (λ i l. eq-eqb _ _ (marks-same i l)))
+
+-- a checked table can be searched
+pub checked-ranged : {t : Table} → Checked t → Ranged t
+checked-ranged k = ranged (checked-facts k)
+
+-- and the search gives the answer
+pub checked-spans : (t : Table) → Checked t → (r : Bool) → Spans t r → r ≡ sound t
+checked-spans t k r w =
+    same-test r (sound t) (λ y. sound-test t (facts-sound (checked-facts k) r w y)) (λ y. sound-spans (test-sound t y) r w)
+
+-- a table that is not checked is not sound
+pub unsound : (t : Table) → (Checked t → ⊥) → false ≡ sound t
+unsound t f = sym (refute (sound t) (λ h. f (facts-checked (sound-facts (test-sound t h)))))

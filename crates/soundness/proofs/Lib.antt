@@ -1,3 +1,4 @@
--- Laws of the parts of the soundness test.
-pub mod Loops
+-- The laws that the proofs of the soundness test use.
+pub mod Totals
+pub mod Parts
 pub mod Laws

@@ -1,61 +1,62 @@
--- The parts of the soundness test, on the lists of a table's arrays; `Laws` of the proofs joins them to `sound`. Assumes nothing.
---   exitFits          an exit of a step in use: its bit, and where it leads
---   exitBlank         an exit of a free step: empty, with bit 0
---   stepFits          all clauses of soundness on one step alone: in use, or blank
---   recount           the counters worked out from the links at the first n places
---   countsSame        every counter of two lists is the same
---   allMarked         every step in use is marked
---   Spans             what the search from step 0 ends with
-use mathlib.Core.Path.{_≡_}
-use mathlib.Core.Bool.{Bool, _&&_, _||_, not, cond}
-use mathlib.Core.List.{List, [], _∷_}
-use Prim.Native.Nat.{ℕ, _+_, _*_}
-use lib.ListN.{getD, set, replicate}
+-- The parts of the soundness test: single fields, passes over whole arrays, and what they count; `Laws` of the proofs joins them to `sound`.
+-- Assumes nothing.
+--   numbersFit        a capacity in range, and a last number given below it
+--   alarmFits         step 0: the alarm, in use, with a bit and nothing counted in its first counter
+--   fieldsFit         a step other than 0: in use with a content that its kind may hold and a bit, or free with every field zero
+--   linkFits          an exit: empty with bit 0, or a target that is a place and a bit
+--   countsFit         the counters of a step: those of a free step are zero
+--   stepFits exitFits countersFit   the same at the places of a table
+--   freeAbove t c i   step i is below c, or free
+--   arraysFit t       all of these, at all places
+--   emptyAt t p       the exit at place p is empty
+--   faults n p        how many numbers below n do not pass p
+--   total n f         f 0 + f 1 + .. up to f (n - 1)
+use mathlib.Core.Bool.{Bool, true, _&&_, _||_, not, cond}
+use Prim.Native.Nat.{ℕ, zero, suc, _+_, _*_}
+use lib.ListN.{getD}
 use lib.Dec.{eqb, ltb}
-use Rattle.finite.specs.Below.{all, rounds, passes}
-use Rattle.table.specs.Table.{places, exits, counters, exitPlace}
-use Rattle.table.specs.Sound.{kindFits}
-use Rattle.table.specs.Calls.{raised}
-use Rattle.withdraw.specs.Search.{headAt, isMarked, rest, Withdrawn, strongCounts}
+use Rattle.finite.specs.Below.{all, count}
+use Rattle.table.specs.Table.{Table, places, exits, counters, kindOf, contentOf, ownBit, counterOf}
+use Rattle.table.specs.Sound.{capacityFits, contentFits}
 
-unfoldable pub exitFits : List ℕ → List ℕ → List ℕ → ℕ → ℕ → Bool
-exitFits used targets bits i e =
-    cond (eqb (getD targets (exitPlace i e) 0) 0) (eqb (getD bits (exitPlace i e) 0) 0)
-    (ltb (getD targets (exitPlace i e) 0) places && eqb (getD used (getD targets (exitPlace i e) 0) 0) 1 && ltb (getD bits (exitPlace i e) 0) 2)
+unfoldable pub numbersFit : ℕ → ℕ → Bool
+numbersFit capacity last = capacityFits capacity && ltb last capacity
 
-unfoldable pub exitBlank : List ℕ → List ℕ → ℕ → ℕ → Bool
-exitBlank targets bits i e = eqb (getD targets (exitPlace i e) 0) 0 && eqb (getD bits (exitPlace i e) 0) 0
+unfoldable pub alarmFits : ℕ → ℕ → ℕ → ℕ → ℕ → Bool
+alarmFits used kind content own count = eqb used 1 && eqb kind 0 && eqb content 0 && ltb own counters && eqb count 0
 
-unfoldable pub stepFits : ℕ → List ℕ → List ℕ → List ℕ → List ℕ → List ℕ → List ℕ → List ℕ → ℕ → Bool
-stepFits capacity used kinds contents own targets bits counts i =
-    cond (eqb (getD used i 0) 1)
-    (passes
-    (ltb i capacity ∷
-    kindFits i (getD kinds i 0) (getD contents i 0) ∷
-    ltb (getD own i 0) 2 ∷
-    all exits (exitFits used targets bits i) ∷
-    []))
-    (passes
-    (eqb (getD used i 0) 0 ∷
-    eqb (getD kinds i 0) 0 ∷
-    eqb (getD contents i 0) 0 ∷
-    eqb (getD own i 0) 0 ∷
-    eqb (getD counts (i * counters) 0) 0 ∷
-    eqb (getD counts (i * counters + 1) 0) 0 ∷
-    all exits (exitBlank targets bits i) ∷
-    []))
+unfoldable pub fieldsFit : ℕ → ℕ → ℕ → ℕ → Bool
+fieldsFit used kind content own =
+    cond (eqb used 1) (contentFits kind content && ltb own counters) (eqb used 0 && eqb kind 0 && eqb content 0 && eqb own 0)
 
-unfoldable pub recount : List ℕ → List ℕ → ℕ → List ℕ
-recount targets bits n = rounds n (λ p cs. raised (getD targets p 0) (getD bits p 0) cs) (replicate (places * counters) 0)
+unfoldable pub linkFits : ℕ → ℕ → Bool
+linkFits target bit = cond (eqb target 0) (eqb bit 0) (ltb target places && ltb bit counters)
 
-unfoldable pub countsSame : List ℕ → List ℕ → Bool
-countsSame cs ds = all (places * counters) (λ q. eqb (getD cs q 0) (getD ds q 0))
+unfoldable pub countsFit : ℕ → ℕ → ℕ → Bool
+countsFit used a b = cond (eqb used 1) true (eqb a 0 && eqb b 0)
 
-unfoldable pub allMarked : List ℕ → List ℕ → Bool
-allMarked used marks = all places (λ i. not (eqb (getD used i 0) 1) || isMarked marks i)
+unfoldable pub stepFits : Table → ℕ → Bool
+stepFits t i = eqb i 0 || fieldsFit (getD (t .used) i 0) (kindOf t i) (contentOf t i) (ownBit t i)
 
-pub record Spans (used own targets bits counts : List ℕ) (r : Bool) : Type 0 where
-  pub left : List ℕ
-  pub marks : List ℕ
-  pub search : Withdrawn (headAt targets bits own) (strongCounts counts own) (set (replicate places 0) 0 1) left marks (rest (headAt targets bits own) 0 0)
-  pub answer : r ≡ allMarked used marks
+unfoldable pub exitFits : Table → ℕ → Bool
+exitFits t p = linkFits (getD (t .targets) p 0) (getD (t .bits) p 0)
+
+unfoldable pub countersFit : Table → ℕ → Bool
+countersFit t i = countsFit (getD (t .used) i 0) (counterOf t i 0) (counterOf t i 1)
+
+unfoldable pub freeAbove : Table → ℕ → ℕ → Bool
+freeAbove t c i = ltb i c || eqb (getD (t .used) i 0) 0
+
+unfoldable pub arraysFit : Table → Bool
+arraysFit t =
+    all places (stepFits t) && all (places * exits) (exitFits t) && all places (countersFit t) && all places (freeAbove t (t .capacity))
+
+unfoldable pub emptyAt : Table → ℕ → Bool
+emptyAt t p = eqb (getD (t .targets) p 0) 0
+
+unfoldable pub faults : ℕ → (ℕ → Bool) → ℕ
+faults n p = count n (λ k. not (p k))
+
+unfoldable pub total : ℕ → (ℕ → ℕ) → ℕ
+total zero f = 0
+total (suc n) f = total n f + f n

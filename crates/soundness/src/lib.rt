@@ -1,15 +1,14 @@
-// The soundness test: single steps first, then the counters by one recount, then the strong links by one search.
+// The soundness test: passes over whole arrays that count what does not fit, then the counters and the strong links by one search.
 ghost use mathlib.Core.Path.{_≡_};
-ghost use mathlib.Core.Bool.{true};
-ghost use Prim.Native.Nat.{ℕ, _+_, _*_, _<_, _≤_};
-ghost use lib.ListN.{getD, set, replicate};
-ghost use Rattle.finite.specs.Below.{all};
+ghost use Prim.Native.Nat.{_*_, _≤_};
+ghost use lib.ListN.{getD};
 ghost use Rattle.table.specs.Table.{places, exits, counters};
-ghost use Rattle.table.specs.Sound.{contentFits, kindFits, Shape, sound};
-ghost use Rattle.withdraw.specs.Search.{headAt, InRange, Binary, Pending, rest, strongCounts};
-ghost use Rattle.withdraw.specs.Withdraw.{whole};
-ghost use Rattle.soundness.specs.Parts.{exitFits, exitBlank, stepFits, recount, countsSame, allMarked, Spans};
-use table::Table;
+ghost use Rattle.table.specs.Sound.{contentFits, sound};
+ghost use Rattle.table.specs.Answer.{first};
+ghost use Rattle.table.specs.Calls.{tableTests};
+ghost use Rattle.words.specs.Words.{tableOf};
+ghost use Rattle.soundness.specs.Parts.{numbersFit, alarmFits, fieldsFit, linkFits, countsFit, stepFits, exitFits, countersFit, freeAbove, arraysFit, emptyAt, faults, total};
+use words::WORDS;
 
 // The contents that each kind may hold: 1 contact, 2 spoken message, 3 wait; no other kind can be added.
 pub fn content_fits(kind: u16, content: u16) -> bool
@@ -23,279 +22,201 @@ pub fn content_fits(kind: u16, content: u16) -> bool
     }
 }
 
-// Step 0 is the alarm, of kind 0 with content 0; every other step holds what may be added.
-fn kind_fits(i: usize, kind: u16, content: u16) -> bool
-    ensures { λ r. ⌜ r ≡ kindFits i kind content ⌝ }
+// A step other than 0 alone: in use with a content that its kind may hold and a bit, or free with every field zero.
+fn fields_fit(used: u16, kind: u16, content: u16, own: u16) -> bool
+    ensures { λ r. ⌜ r ≡ fieldsFit used kind content own ⌝ }
 {
-    if i == 0 {
-        return kind == 0 && content == 0;
+    if used == 1 {
+        content_fits(kind, content) && own < 2
+    } else {
+        used == 0 && kind == 0 && content == 0 && own == 0
     }
-    content_fits(kind, content)
 }
 
-// Exit e of a step in use: a link to a step in use with bit 0 or 1, or empty with bit 0.
-fn exit_fits<'a>(
-    used: &'a [u16; 128],
-    targets: &'a [u16; 512],
-    bits: &'a [u16; 512],
-    i: usize,
-    e: usize,
-) -> bool
-    requires { ⌜ (i < places) × (e < exits) ⌝ }
-    ensures { λ r. ⌜ r ≡ exitFits (now (used .entry)) (now (targets .entry)) (now (bits .entry)) i e ⌝ }
+// The steps other than 0 that do not fit.
+fn step_faults(t: &[u16; WORDS]) -> u16
+    ensures { λ r. ⌜ r ≡ faults places (stepFits (tableOf (now (t .entry)))) ⌝ }
 {
-    let p = i * 4 + e;
-    let b = bits[p];
-    let j = withdraw::wide(targets[p]);
-    if j == 0 {
-        return b == 0;
-    }
-    if 128 <= j {
-        return false;
-    }
-    used[j] == 1 && b < 2
-}
-
-fn exits_fit<'a>(
-    used: &'a [u16; 128],
-    targets: &'a [u16; 512],
-    bits: &'a [u16; 512],
-    i: usize,
-) -> bool
-    requires { ⌜ i < places ⌝ }
-    ensures { λ r. ⌜ r ≡ all exits (exitFits (now (used .entry)) (now (targets .entry)) (now (bits .entry)) i) ⌝ }
-{
-    let mut e = 0usize;
-    // The exits below e fit.
-    while e < 4 {
-        if !exit_fits(used, targets, bits, i, e) {
-            return false;
-        }
-        e += 1;
-    }
-    true
-}
-
-// Every exit of a free step is empty, with bit 0.
-fn exits_blank<'a>(targets: &'a [u16; 512], bits: &'a [u16; 512], i: usize) -> bool
-    requires { ⌜ i < places ⌝ }
-    ensures { λ r. ⌜ r ≡ all exits (exitBlank (now (targets .entry)) (now (bits .entry)) i) ⌝ }
-{
-    let mut e = 0usize;
-    // The exits below e are blank.
-    while e < 4 {
-        let p = i * 4 + e;
-        if targets[p] != 0 {
-            return false;
-        }
-        if bits[p] != 0 {
-            return false;
-        }
-        e += 1;
-    }
-    true
-}
-
-// Step i alone: in use with fields in range, or free with every field zero.
-fn step_fits<'a>(
-    capacity: usize,
-    used: &'a [u16; 128],
-    kinds: &'a [u16; 128],
-    contents: &'a [u16; 128],
-    own: &'a [u16; 128],
-    targets: &'a [u16; 512],
-    bits: &'a [u16; 512],
-    counts: &'a [u16; 256],
-    i: usize,
-) -> bool
-    requires { ⌜ i < places ⌝ }
-    ensures { λ r. ⌜ r ≡ stepFits capacity (now (used .entry)) (now (kinds .entry)) (now (contents .entry)) (now (own .entry)) (now (targets .entry)) (now (bits .entry)) (now (counts .entry)) i ⌝ }
-{
-    if used[i] == 1 {
-        if capacity <= i {
-            return false;
-        }
-        if !kind_fits(i, kinds[i], contents[i]) {
-            return false;
-        }
-        if 2 <= own[i] {
-            return false;
-        }
-        return exits_fit(used, targets, bits, i);
-    }
-    if used[i] != 0 {
-        return false;
-    }
-    if kinds[i] != 0 {
-        return false;
-    }
-    if contents[i] != 0 {
-        return false;
-    }
-    if own[i] != 0 {
-        return false;
-    }
-    if counts[i * 2] != 0 {
-        return false;
-    }
-    if counts[i * 2 + 1] != 0 {
-        return false;
-    }
-    exits_blank(targets, bits, i)
-}
-
-fn steps_fit<'a>(
-    capacity: usize,
-    used: &'a [u16; 128],
-    kinds: &'a [u16; 128],
-    contents: &'a [u16; 128],
-    own: &'a [u16; 128],
-    targets: &'a [u16; 512],
-    bits: &'a [u16; 512],
-    counts: &'a [u16; 256],
-) -> bool
-    ensures { λ r. ⌜ r ≡ all places (stepFits capacity (now (used .entry)) (now (kinds .entry)) (now (contents .entry)) (now (own .entry)) (now (targets .entry)) (now (bits .entry)) (now (counts .entry))) ⌝ }
-{
-    let mut i = 0usize;
-    // The steps below i fit.
-    while i < 128 {
-        if !step_fits(
-            capacity,
-            used,
-            kinds,
-            contents,
-            own,
-            targets,
-            bits,
-            counts,
-            i,
+    let mut n = 0u16;
+    let mut i = 1usize;
+    // n steps below i do not fit.
+    while i < words::PLACES {
+        n += if fields_fit(
+            words::used_at(t, i),
+            words::kind_at(t, i),
+            words::content_at(t, i),
+            words::own_at(t, i),
         ) {
-            return false;
-        }
+            0
+        } else {
+            1
+        };
         i += 1;
     }
-    true
+    n
 }
 
-// The counters that the links at the first n places come to.
-fn recounted<'a>(targets: &'a [u16; 512], bits: &'a [u16; 512], n: usize) -> [u16; 256]
-    requires { ⌜ (n ≤ places * exits) × InRange (now targets) × ((p : ℕ) → p < n → getD (now bits) p 0 < counters) ⌝ }
-    ensures { λ r. ⌜ r ≡ recount (now (targets .entry)) (now (bits .entry)) n ⌝ }
+// An exit alone: empty with bit 0, or a target that is a place, and a bit.
+fn link_fits(target: u16, bit: u16) -> bool
+    ensures { λ r. ⌜ r ≡ linkFits target bit ⌝ }
 {
-    let mut counts = [0u16; 256];
+    if target == 0 {
+        bit == 0
+    } else {
+        target < 128 && bit < 2
+    }
+}
+
+// The exits that do not fit.
+fn link_faults(t: &[u16; WORDS]) -> u16
+    ensures { λ r. ⌜ r ≡ faults (places * exits) (exitFits (tableOf (now (t .entry)))) ⌝ }
+{
+    let mut n = 0u16;
     let mut p = 0usize;
-    // The links at the places below p are counted.
-    while p < n {
-        let j = withdraw::wide(targets[p]);
-        let b = withdraw::wide(bits[p]);
-        if j != 0 {
-            let q = j * 2 + b;
-            counts[q] = counts[q] + 1;
-        }
+    // n exits below place p do not fit.
+    while p < words::LINKS {
+        n += if link_fits(words::target_in(t, p), words::bit_in(t, p)) {
+            0
+        } else {
+            1
+        };
         p += 1;
     }
-    counts
+    n
 }
 
-fn counts_same<'a>(a: &'a [u16; 256], b: &'a [u16; 256]) -> bool
-    ensures { λ r. ⌜ r ≡ countsSame (now (a .entry)) (now (b .entry)) ⌝ }
+// Both counters of a step that is not in use are zero.
+fn counts_fit(used: u16, a: u16, b: u16) -> bool
+    ensures { λ r. ⌜ r ≡ countsFit used a b ⌝ }
 {
-    let mut q = 0usize;
-    // The counters below q are the same.
-    while q < 256 {
-        if a[q] != b[q] {
-            return false;
-        }
-        q += 1;
-    }
-    true
+    if used == 1 { true } else { a == 0 && b == 0 }
 }
 
-fn all_marked<'a>(used: &'a [u16; 128], marks: &'a [u16; 128]) -> bool
-    ensures { λ r. ⌜ r ≡ allMarked (now (used .entry)) (now (marks .entry)) ⌝ }
+// The steps not in use with a counter that is not zero.
+fn count_faults(t: &[u16; WORDS]) -> u16
+    ensures { λ r. ⌜ r ≡ faults places (countersFit (tableOf (now (t .entry)))) ⌝ }
 {
+    let mut n = 0u16;
     let mut i = 0usize;
-    // The steps in use below i are marked.
-    while i < 128 {
-        if used[i] == 1 {
-            if marks[i] != 1 {
-                return false;
-            }
-        }
+    // n steps below i have counters that do not fit.
+    while i < words::PLACES {
+        n += if counts_fit(
+            words::used_at(t, i),
+            words::counter_at(t, i, 0),
+            words::counter_at(t, i, 1),
+        ) {
+            0
+        } else {
+            1
+        };
         i += 1;
     }
-    true
+    n
 }
 
-// Whether withdrawing step 0 marks every step in use: then strong links form no ring and reach each step.
-fn spans<'a>(
-    used: &'a [u16; 128],
-    own: &'a [u16; 128],
-    targets: &'a [u16; 512],
-    bits: &'a [u16; 512],
-    counts: &'a [u16; 256],
-) -> bool
-    requires { ⌜ InRange (now targets) × Binary (now own) × Pending (headAt (now targets) (now bits) (now own)) (strongCounts (now counts) (now own)) (set (replicate places 0) 0 1) (rest (headAt (now targets) (now bits) (now own)) 0 0) ⌝ }
-    ensures { λ r. ⌜ Spans (now (used .entry)) (now (own .entry)) (now (targets .entry)) (now (bits .entry)) (now (counts .entry)) r ⌝ }
+// The steps from the capacity on that are in use.
+fn used_above(t: &[u16; WORDS], capacity: usize) -> u16
+    requires { ⌜ capacity ≤ places ⌝ }
+    ensures { λ r. ⌜ r ≡ faults places (freeAbove (tableOf (now (t .entry))) capacity) ⌝ }
 {
-    let mut left = withdraw::strong_counts(counts, own);
-    let mut marks = [0u16; 128];
-    marks[0] = 1;
-    withdraw::withdraw_step(targets, bits, own, &mut left, &mut marks, 0);
-    all_marked(used, &marks)
+    let mut n = 0u16;
+    let mut i = capacity;
+    // n steps from the capacity on, below i, are in use.
+    while i < words::PLACES {
+        n += if words::used_at(t, i) == 0 { 0 } else { 1 };
+        i += 1;
+    }
+    n
 }
 
-// Whether the table with these fields is sound, whatever stands in them.
-pub fn fields_sound<'a>(
-    capacity: u16,
-    last: u16,
-    used: &'a [u16; 128],
-    kinds: &'a [u16; 128],
-    contents: &'a [u16; 128],
-    own: &'a [u16; 128],
-    targets: &'a [u16; 512],
-    bits: &'a [u16; 512],
-    counts: &'a [u16; 256],
-) -> bool
-    requires { ⌜ Shape (whole capacity last (now used) (now kinds) (now contents) (now own) (now targets) (now bits) (now counts)) ⌝ }
-    ensures { λ r. ⌜ r ≡ sound (whole capacity last (now (used .entry)) (now (kinds .entry)) (now (contents .entry)) (now (own .entry)) (now (targets .entry)) (now (bits .entry)) (now (counts .entry))) ⌝ }
+// The exits that hold a link.
+fn filled(t: &[u16; WORDS]) -> u32
+    ensures { λ r. ⌜ r ≡ faults (places * exits) (emptyAt (tableOf (now (t .entry)))) ⌝ }
 {
-    let n = withdraw::wide(capacity);
-    if n < 1 {
-        return false;
+    let mut n = 0u32;
+    let mut p = 0usize;
+    // n exits below place p hold a link.
+    while p < words::LINKS {
+        n += if words::target_in(t, p) == 0 { 0 } else { 1 };
+        p += 1;
     }
-    if 128 < n {
-        return false;
-    }
-    if n <= withdraw::wide(last) {
-        return false;
-    }
-    if used[0] != 1 {
-        return false;
-    }
-    if !steps_fit(n, used, kinds, contents, own, targets, bits, counts) {
-        return false;
-    }
-    let links = recounted(targets, bits, n * 4);
-    if !counts_same(counts, &links) {
-        return false;
-    }
-    spans(used, own, targets, bits, counts)
+    n
 }
 
-// Whether a table is sound, whatever stands in its fields.
-pub fn is_sound(t: Table) -> bool
-    ensures { λ r. ⌜ r ≡ sound t ⌝ }
+// The sum of the counters.
+fn counted(t: &[u16; WORDS]) -> u32
+    ensures { λ r. ⌜ r ≡ total (places * counters) (λ q. getD (tableOf (now (t .entry)) .counts) q 0) ⌝ }
 {
-    fields_sound(
-        t.capacity,
-        t.last,
-        &t.used,
-        &t.kinds,
-        &t.contents,
-        &t.own,
-        &t.targets,
-        &t.bits,
-        &t.counts,
-    )
+    let mut n = 0u32;
+    let mut q = 0usize;
+    // n is the sum of the counters below place q.
+    while q < words::COUNTS {
+        n += words::count_in(t, q) as u32;
+        q += 1;
+    }
+    n
+}
+
+// The capacity is 1 to 128, and the last number given is below it.
+fn numbers_fit(capacity: u16, last: u16) -> bool
+    ensures { λ r. ⌜ r ≡ numbersFit capacity last ⌝ }
+{
+    1 <= capacity && capacity <= 128 && last < capacity
+}
+
+// Step 0 is the alarm, in use, with a bit; its first counter counts nothing.
+fn alarm_fits(used: u16, kind: u16, content: u16, own: u16, count: u16) -> bool
+    ensures { λ r. ⌜ r ≡ alarmFits used kind content own count ⌝ }
+{
+    used == 1 && kind == 0 && content == 0 && own < 2 && count == 0
+}
+
+// All steps, exits and counters fit, each alone.
+fn arrays_fit(t: &[u16; WORDS]) -> bool
+    requires { ⌜ tableOf (now t) .capacity ≤ places ⌝ }
+    ensures { λ r. ⌜ r ≡ arraysFit (tableOf (now (t .entry))) ⌝ }
+{
+    if step_faults(t) != 0 {
+        return false;
+    }
+    if link_faults(t) != 0 {
+        return false;
+    }
+    if count_faults(t) != 0 {
+        return false;
+    }
+    used_above(t, words::wide(words::capacity(t))) == 0
+}
+
+// Whether a table is sound, whatever stands in its words.
+pub fn is_sound(t: &[u16; WORDS]) -> bool
+    ensures { λ r. ⌜ r ≡ sound (tableOf (now (t .entry))) ⌝ }
+{
+    words::sized(t);
+    if !numbers_fit(words::capacity(t), words::last(t)) {
+        return false;
+    }
+    if !alarm_fits(
+        words::used_at(t, 0),
+        words::kind_at(t, 0),
+        words::content_at(t, 0),
+        words::own_at(t, 0),
+        words::count_in(t, 0),
+    ) {
+        return false;
+    }
+    if !arrays_fit(t) {
+        return false;
+    }
+    if counted(t) != filled(t) {
+        return false;
+    }
+    withdraw::spans(t)
+}
+
+// The refusal of a table that is not sound, or 0.
+pub fn table_refusal(t: &[u16; WORDS]) -> u16
+    ensures { λ r. ⌜ r ≡ first (tableTests (tableOf (now (t .entry)))) ⌝ }
+{
+    if is_sound(t) { 0 } else { words::NOT_SOUND }
 }

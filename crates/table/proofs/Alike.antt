@@ -5,8 +5,7 @@ use mathlib.Core.Bool.{Bool, _&&_}
 use Prim.Native.Nat.{ℕ}
 use lib.Dec.{eqb}
 use Rattle.finite.proofs.Below.{any-ext}
-use Rattle.table.specs.declared.Table.{Table}
-use Rattle.table.specs.Table.{exits, inUse, targetOf, holds, leads, linked}
+use Rattle.table.specs.Table.{Table, exits, inUse, targetOf, holds, leads, linked}
 
 pub record Alike (t u : Table) : Type 0 where
   pub capacity : u .capacity ≡ t .capacity

@@ -2,6 +2,7 @@
 -- its plan is the plan's call. Assumes nothing.
 --   first-zero      no condition of an order holds
 --   add-refusal link-refusal clear-refusal read-refusal trial-refusal   the table's refusal is the plan's
+--   read-refused trial-refused   what a refused read and a refused trial do
 --   Accepted..      the conditions of an accepted call, as facts
 use mathlib.Core.Path.{_≡_, refl, sym, _∙_, ap, ap₂}
 use mathlib.Core.Bool.{Bool, true, false, _&&_, not, cond}
@@ -15,14 +16,13 @@ use borrow.Author.Tests.{eqb-false, eq-eqb, ne-eqb, leb-false}
 use Rattle.finite.proofs.Bools.{and-left, and-right, test, not-true-false, not-false-true}
 use Rattle.finite.proofs.Below.{find-ext}
 use Rattle.finite.proofs.Reach.{chain-keeps, reach-sound}
-use Rattle.table.specs.declared.Table.{Table}
 use Rattle.table.specs.declared.Answer.the-variants.{Given, Refused}
-use Rattle.table.specs.declared.Outcome.{Outcome}
-use Rattle.table.specs.Table.{exits, inUse, targetOf, holds, linked, stepsInUse}
+use Rattle.table.specs.declared.Tried.the-variants.{Refused as TrialRefused}
+use Rattle.table.specs.Table.{Table, exits, inUse, targetOf, holds, linked, stepsInUse}
 use Rattle.table.specs.Sound.{Sound, contentFits, sound}
-use Rattle.table.specs.Answer.{notSound, first, unless}
-use Rattle.table.specs.Calls.{numberGiven, withStep, addRefusal, addTable, weakBit, linkRefusal, linkTable, readRefusal, trialRefusal}
-use Rattle.table.specs.Clear.{emptied, stops, repairOf, repaired, cleared, clearRefusal}
+use Rattle.table.specs.Answer.{Outcome, notSound, first, unless}
+use Rattle.table.specs.Calls.{numberGiven, withStep, addRefusal, addTable, weakBit, linkRefusal, linkTable, noFields, readRefusal, readCall, tryFrom, trialRefusal, trialCall}
+use Rattle.table.specs.Clear.{emptied, stops, repairOf, repaired, cleared, clearRefusal, clearCall}
 use Rattle.table.specs.Plan.{Plan, planOf, planNumber, replan, withTarget, planAdd, planLink, pruned, planClear, planAddRefusal, planLinkRefusal, planClearRefusal, planReadRefusal, planTrialRefusal}
 use Rattle.table.proofs.Links.{Wired, sound-wired, linked-used}
 use Rattle.table.proofs.Sound.{sound-test}
@@ -71,6 +71,25 @@ unless-zero n t o q = rw (eq-eqb n 0 q)
 pub unless-refused : (n : ℕ) (t : Table) (o : Outcome) → (n ≡ 0 → ⊥) → unless n t o ≡ record { answer = Refused n; table = t }
 unfolding unless
 unless-refused n t o d = rw (ne-eqb n 0 d)
+
+-- a clearing that is not refused
+pub clear-made : (t : Table) (i e : ℕ) → clearRefusal t i e ≡ 0 → clearCall t i e ≡ cleared t i e
+unfolding clearCall
+clear-made t i e z = unless-zero _ t (cleared t i e) z
+
+-- a read or a trial that is refused, and a trial that is not
+pub read-refused : (t : Table) (i : ℕ) → (readRefusal t i ≡ 0 → ⊥) → readCall t i ≡ record { refusal = readRefusal t i; fields = noFields }
+unfolding readCall
+read-refused t i d = rw (ne-eqb (readRefusal t i) 0 d)
+
+pub trial-refused : (t : Table) (results trace : List ℕ) → (trialRefusal t results trace ≡ 0 → ⊥) →
+    trialCall t results trace ≡ record { answer = TrialRefused (trialRefusal t results trace); trace = trace }
+unfolding trialCall
+trial-refused t results trace d = rw (ne-eqb (trialRefusal t results trace) 0 d)
+
+pub trial-made : (t : Table) (results trace : List ℕ) → trialRefusal t results trace ≡ 0 → trialCall t results trace ≡ tryFrom t 0 0 trace results
+unfolding trialCall
+trial-made t results trace z = rw (eq-eqb (trialRefusal t results trace) 0 z)
 
 module _ {t : Table} (s : Sound t) where
   w : Wired t

@@ -16,10 +16,9 @@ use Rattle.finite.specs.Reach.{Chain, start, then, marked, reach, reaches}
 use Rattle.finite.proofs.Bools.{and-intro, and-left, and-right, or-elim, clash, refute, test, same-test, not-true-false}
 use Rattle.finite.proofs.Below.{le-or-lt, eq-or-ne, count-ext, count-le, count-none, count-some, count-split, length-tabulate, getD-tabulate}
 use Rattle.finite.proofs.Reach.{chain-map, chain-keeps, reach-sound, reach-complete, reach-closed, reach-start, reach-below}
-use Rattle.table.specs.declared.Table.{Table}
 use Rattle.table.specs.declared.Answer.the-variants.{Given}
-use Rattle.table.specs.declared.Outcome.{Outcome}
-use Rattle.table.specs.Table.{places, exits, counters, exitPlace, inUse, kindOf, contentOf, ownBit, targetOf, linkBit, counterOf, holds, strong, linked, stronglyLinked, countsAt, linksTo, stepsInUse, withLinks}
+use Rattle.table.specs.Answer.{Outcome}
+use Rattle.table.specs.Table.{Table, places, exits, counters, exitPlace, inUse, kindOf, contentOf, ownBit, targetOf, linkBit, counterOf, holds, strong, linked, stronglyLinked, countsAt, linksTo, stepsInUse, withLinks}
 use Rattle.table.specs.Sound.{Sound}
 use Rattle.table.specs.Calls.{relink}
 use Rattle.table.specs.Clear.{Repair, emptied, heldStrongly, stops, doubtful, repair, release, size, repaired}

@@ -13,8 +13,7 @@ use borrow.Author.Tests.{eqb-true, eqb-false, eq-eqb, ne-eqb, lt-ltb, le-ltb}
 use Rattle.finite.specs.Below.{count, find}
 use Rattle.finite.proofs.Bools.{and-intro, and-left, and-right, clash, refute, test, same-test, or-left, or-right, or-elim, not-true-false}
 use Rattle.finite.proofs.Below.{le-or-lt, eq-or-ne, count-none, count-gap, walk, walk-add, find-reaches, find-keeps}
-use Rattle.table.specs.declared.Table.{Table}
-use Rattle.table.specs.Table.{places, exits, counters, exitPlace, counterPlace, inUse, kindOf, contentOf, ownBit, targetOf, linkBit, counterOf, holds, strong, leads, stronglyLinked, countsAt, linksTo, stepsInUse, withLinks, withSteps}
+use Rattle.table.specs.Table.{Table, places, exits, counters, exitPlace, counterPlace, inUse, kindOf, contentOf, ownBit, targetOf, linkBit, counterOf, holds, strong, leads, stronglyLinked, countsAt, linksTo, stepsInUse, withLinks, withSteps}
 use Rattle.table.specs.Sound.{Shape, Blank, Sound, kindFits, contentFits, sound}
 use Rattle.table.specs.Calls.{freshTable, after, numberGiven, relink, withStep, addTable, weakBit, linkTable}
 use Rattle.table.proofs.Links.{holds-target, target-holds, empty-target, target-empty, strong-holds, bit-strong, strong-bit, strongly-exit, exit-strongly}

@@ -14,8 +14,7 @@ use borrow.Author.Tests.{eqb-true, eqb-false, eq-eqb, ne-eqb}
 use Rattle.finite.specs.Below.{count}
 use Rattle.finite.proofs.Bools.{and-intro, and-left, and-right, clash, refute, test, not-true-false}
 use Rattle.finite.proofs.Below.{eq-or-ne, count-none}
-use Rattle.table.specs.declared.Table.{Table}
-use Rattle.table.specs.Table.{places, exits, counters, exitPlace, inUse, kindOf, contentOf, ownBit, targetOf, linkBit, counterOf, holds, strong, countsAt, linksTo, withLinks, withSteps}
+use Rattle.table.specs.Table.{Table, places, exits, counters, exitPlace, inUse, kindOf, contentOf, ownBit, targetOf, linkBit, counterOf, holds, strong, countsAt, linksTo, withLinks, withSteps}
 use Rattle.table.specs.Sound.{Shape, Blank, Sound, kindFits}
 use Rattle.table.specs.Calls.{relink}
 use Rattle.table.specs.Clear.{flipped}

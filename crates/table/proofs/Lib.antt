@@ -12,3 +12,4 @@ pub mod Release
 pub mod Clear
 pub mod Plan
 pub mod Calls
+pub mod Trials

@@ -10,8 +10,7 @@ use lib.Dec.{eqb}
 use borrow.Author.Tests.{eqb-true, eqb-false, eq-eqb, ne-eqb}
 use Rattle.finite.proofs.Bools.{and-intro, and-left, and-right, clash, refute, test, not-true-false, not-false-true}
 use Rattle.finite.proofs.Below.{le-or-lt, any-at, any-intro}
-use Rattle.table.specs.declared.Table.{Table}
-use Rattle.table.specs.Table.{places, exits, exitPlace, counterPlace, inUse, targetOf, linkBit, ownBit, holds, strong, leads, linked, stronglyLinked}
+use Rattle.table.specs.Table.{Table, places, exits, exitPlace, counterPlace, inUse, targetOf, linkBit, ownBit, holds, strong, leads, linked, stronglyLinked}
 use Rattle.table.specs.Sound.{Shape, Blank, Sound}
 
 -- an exit that holds a link has a target other than 0, and the other way round

@@ -16,8 +16,7 @@ use Rattle.finite.specs.Below.{any, count, tabulate, tabulateFrom}
 use Rattle.finite.specs.Reach.{marked, reach, reaches}
 use Rattle.finite.proofs.Bools.{clash, refute, test, same-test}
 use Rattle.finite.proofs.Below.{le-or-lt, eq-or-ne, any-ext, count-ext, length-tabulate, getD-tabulate, tabulate-ext, tabulate-set}
-use Rattle.table.specs.declared.Table.{Table}
-use Rattle.table.specs.Table.{places, exits, inUse, kindOf, contentOf, targetOf, holds, leads, linked, stepsInUse, withLinks, withSteps}
+use Rattle.table.specs.Table.{Table, places, exits, inUse, kindOf, contentOf, targetOf, holds, leads, linked, stepsInUse, withLinks, withSteps}
 use Rattle.table.specs.Sound.{Shape, Blank, contentFits}
 use Rattle.table.specs.Calls.{freshTable, relink, withStep}
 use Rattle.table.specs.Plan.{Plan, PlanStep, planStep, planOf, stepOf, isStep, stepTarget, planInUse, planTarget, planHolds, planLinked, planCount, freshPlan, retargeted, replan, withTarget, pruned}

@@ -14,8 +14,7 @@ use Rattle.finite.specs.Below.{rounds}
 use Rattle.finite.specs.Reach.{marked}
 use Rattle.finite.proofs.Bools.{and-right, clash, refute, test, not-true-false}
 use Rattle.finite.proofs.Below.{le-or-lt, eq-or-ne, below-suc, rounds-induct}
-use Rattle.table.specs.declared.Table.{Table}
-use Rattle.table.specs.Table.{places, exits, counters, exitPlace, counterPlace, inUse, kindOf, contentOf, ownBit, targetOf, linkBit, counterOf, holds, linked, countsAt, linksTo, withLinks, withSteps}
+use Rattle.table.specs.Table.{Table, places, exits, counters, exitPlace, counterPlace, inUse, kindOf, contentOf, ownBit, targetOf, linkBit, counterOf, holds, linked, countsAt, linksTo, withLinks, withSteps}
 use Rattle.table.specs.Sound.{Shape, Blank}
 use Rattle.table.specs.Calls.{relink}
 use Rattle.table.specs.Clear.{unlinked, blanked, eachDoubtful, release}

@@ -13,8 +13,7 @@ use borrow.Author.Tests.{eqb-true, eqb-false, eq-eqb, ne-eqb}
 use Rattle.finite.specs.Below.{count, one}
 use Rattle.finite.proofs.Bools.{and-intro, and-left, and-right, clash, refute, test, same-test, not-true-false}
 use Rattle.finite.proofs.Below.{eq-or-ne, count-change, count-pos}
-use Rattle.table.specs.declared.Table.{Table}
-use Rattle.table.specs.Table.{places, exits, counters, exitPlace, counterPlace, inUse, kindOf, contentOf, ownBit, targetOf, linkBit, counterOf, holds, strong, countsAt, linksTo, withLinks}
+use Rattle.table.specs.Table.{Table, places, exits, counters, exitPlace, counterPlace, inUse, kindOf, contentOf, ownBit, targetOf, linkBit, counterOf, holds, strong, countsAt, linksTo, withLinks}
 use Rattle.table.specs.Sound.{Shape}
 use Rattle.table.specs.Calls.{lowered, raised, relink}
 

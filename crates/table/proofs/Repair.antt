@@ -17,8 +17,7 @@ use Rattle.finite.specs.Reach.{Chain, start, then, marked, reaches}
 use Rattle.finite.proofs.Bools.{and-intro, and-left, and-right, or-left, or-right, or-elim, clash, refute, test, same-test, not-true-false}
 use Rattle.finite.proofs.Below.{le-or-lt, eq-or-ne, any-at, any-intro, any-none, count-change, count-pos, lowest-passes, lowest-none}
 use Rattle.finite.proofs.Reach.{chain-map, chain-keeps, reach-sound, reach-complete}
-use Rattle.table.specs.declared.Table.{Table}
-use Rattle.table.specs.Table.{places, inUse, linked, stronglyLinked}
+use Rattle.table.specs.Table.{Table, places, inUse, linked, stronglyLinked}
 use Rattle.table.specs.Clear.{Repair, wanted, restored, repair, size}
 use Rattle.table.proofs.Links.{linked-used, linked-below, strongly-linked}
 use Rattle.table.proofs.Formed.{Formed, formed-wired, formed-below}

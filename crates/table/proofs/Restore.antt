@@ -11,8 +11,7 @@ use lib.Seq.{getD-set-same, getD-set-other, set-getD}
 use Rattle.finite.specs.Below.{rounds}
 use Rattle.finite.proofs.Bools.{clash, refute, test}
 use Rattle.finite.proofs.Below.{eq-or-ne, below-suc, rounds-induct}
-use Rattle.table.specs.declared.Table.{Table}
-use Rattle.table.specs.Table.{places, exits, exitPlace, inUse, ownBit, targetOf, linkBit, holds, strong, linked, stronglyLinked, withLinks, withSteps}
+use Rattle.table.specs.Table.{Table, places, exits, exitPlace, inUse, ownBit, targetOf, linkBit, holds, strong, linked, stronglyLinked, withLinks, withSteps}
 use Rattle.table.specs.Calls.{relink, weakBit}
 use Rattle.table.specs.Clear.{flipped, weakened, restored}
 use Rattle.table.proofs.Links.{holds-target, strong-holds, strong-bit, bit-strong, linked-exit, strongly-exit, exit-strongly}

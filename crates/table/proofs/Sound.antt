@@ -13,8 +13,7 @@ use Rattle.finite.specs.Reach.{Chain, reaches}
 use Rattle.finite.proofs.Bools.{passes-at, and-intro, and-left, and-right, clash, refute, test, implied, imply, otherwise, either, not-true-false}
 use Rattle.finite.proofs.Below.{le-or-lt, all-at, all-intro}
 use Rattle.finite.proofs.Reach.{chain-head, reach-sound, reach-complete, chain-first}
-use Rattle.table.specs.declared.Table.{Table}
-use Rattle.table.specs.Table.{places, exits, counters, inUse, kindOf, contentOf, ownBit, targetOf, linkBit, counterOf, holds, stronglyLinked, linksTo, StrongChain}
+use Rattle.table.specs.Table.{Table, places, exits, counters, inUse, kindOf, contentOf, ownBit, targetOf, linkBit, counterOf, holds, stronglyLinked, linksTo, StrongChain}
 use Rattle.table.specs.Sound.{Shape, Blank, Sound, capacityFits, eachUsed, shapeTests, blankTests, ringless, soundTests, sound, kindFits}
 use Rattle.table.proofs.Links.{Wired, sound-wired, used-below, used-place, linked-used, linked-below, strongly-linked}
 

@@ -17,8 +17,7 @@ use borrow.Author.Tests.{eqb-true, eq-eqb}
 use Rattle.finite.proofs.Bools.{clash, refute, or-left, or-right, or-elim}
 use Rattle.finite.proofs.Below.{eq-or-ne, count-le, count-more, count-mono, count-pos}
 use Rattle.finite.proofs.Reach.{chain-head, chain-raises, reach-sound, reach-complete, reach-start}
-use Rattle.table.specs.declared.Table.{Table}
-use Rattle.table.specs.Table.{places, inUse, stronglyLinked, stepsInUse, StrongChain}
+use Rattle.table.specs.Table.{Table, places, inUse, stronglyLinked, stepsInUse, StrongChain}
 use Rattle.table.specs.Sound.{Sound}
 use Rattle.table.proofs.Links.{Wired, sound-wired, used-below, linked-used, linked-below, linked-not-alarm, strongly-linked}
 use Rattle.table.proofs.Formed.{Formed, formed-wired, formed-place}

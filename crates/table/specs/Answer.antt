@@ -1,5 +1,6 @@
 -- Refusals and answers by the paper's numbers (document 01, "Reasons for no"). Assumes nothing.
 --   first tests     the number of the first condition that holds, in the order listed; 0 where none does
+--   Outcome         the answer of a call, and the table handed back
 --   refusalOf firstOf secondOf   the paper's numbers for each case of an answer: the refusal or 0, then two numbers, zero where refused
 --   triedRefusal endingOf lastOf movesOf   the same for a trial: the refusal or 0, how it ended, the last step, the moves
 --   unless n t o    the outcome o where n is 0, else refusal n with the table t
@@ -7,10 +8,9 @@ use mathlib.Core.Bool.{Bool, cond}
 use mathlib.Core.List.{List, [], _∷_}
 use Prim.Native.Nat.{ℕ}
 use lib.Dec.{eqb}
-use Rattle.table.specs.declared.Table.{Table}
+use Rattle.table.specs.Table.{Table}
 use Rattle.table.specs.declared.Answer.{Answer}
 use Rattle.table.specs.declared.Answer.the-variants.{Refused, Given}
-use Rattle.table.specs.declared.Outcome.{Outcome}
 use Rattle.table.specs.declared.Ending.{Ending}
 use Rattle.table.specs.declared.Ending.the-variants.{Open, Spent}
 use Rattle.table.specs.declared.Tried.{Tried}
@@ -56,6 +56,11 @@ notAccepted = 12
 unfoldable pub first : List (Bool × ℕ) → ℕ
 first [] = 0
 first (x ∷ xs) = cond (x .0) (x .1) (first xs)
+
+-- the answer of a call that may change the table, and the table handed back
+pub record Outcome : Type 0 where
+  pub answer : Answer
+  pub table : Table
 
 unfoldable pub refusalOf : Answer → ℕ
 refusalOf (Refused n) = n

@@ -1,6 +1,7 @@
 -- The calls fresh, add, link, read and trial (document 01, "Calls"); clear is in Clear. Each is the answer, the table handed back and every
 -- lent byte, for every input; the refused ones too. Assumes nothing.
 --   tableTests t    what every call on a table asks first: 1
+--   addConditions .. the conditions of a call's refusals with their numbers, in the order of document 01; addRefusal .. the first that holds
 --   freshTable c    only step 0 in use, all bits 0, last number 0
 --   relink t i e j b   exit e of step i gets a link to j with bit b, or is emptied where j is 0; the counters follow
 --   numberGiven     the number that add gives: the first free one of a circle; on a full table, where add is refused, it is not used
@@ -12,17 +13,15 @@ use Prim.Native.Nat.{ℕ, _+_, _*_, _-_}
 use lib.ListN.{length, getD, set, replicate}
 use lib.Dec.{eqb, leb, ltb}
 use Rattle.finite.specs.Below.{all, find, tabulate}
-use Rattle.table.specs.declared.Table.{Table}
 use Rattle.table.specs.declared.Answer.the-variants.{Given}
-use Rattle.table.specs.declared.Outcome.{Outcome}
 use Rattle.table.specs.declared.Fields.{Fields}
 use Rattle.table.specs.declared.Reading.{Reading}
 use Rattle.table.specs.declared.Ending.the-variants.{Open, Spent}
 use Rattle.table.specs.declared.Tried.{Tried}
 use Rattle.table.specs.declared.Tried.the-variants.{Refused, Ended}
-use Rattle.table.specs.Table.{places, exits, counters, exitPlace, counterPlace, inUse, kindOf, contentOf, ownBit, targetOf, linkBit, counterOf, holds, stepsInUse, withLinks, withSteps}
+use Rattle.table.specs.Table.{Table, places, exits, counters, exitPlace, counterPlace, inUse, kindOf, contentOf, ownBit, targetOf, linkBit, counterOf, holds, stepsInUse, withLinks, withSteps}
 use Rattle.table.specs.Sound.{capacityFits, contentFits, sound}
-use Rattle.table.specs.Answer.{notSound, badCapacity, notInUse, badExit, exitFilled, exitEmpty, badKind, full, badResult, tooShort, first, unless}
+use Rattle.table.specs.Answer.{Outcome, notSound, badCapacity, notInUse, badExit, exitFilled, exitEmpty, badKind, full, badResult, tooShort, first, unless}
 
 -- what is asked of the table itself, before all else: that it is sound
 abbrev pub tableTests : Table → List (Bool × ℕ)
@@ -43,10 +42,13 @@ freshTable c =
       counts = replicate (places * counters) 0;
     }
 
+abbrev pub freshConditions : ℕ → List (Bool × ℕ)
+freshConditions c = (not (capacityFits c), badCapacity) ∷ []
+
 -- "Refused fresh and load hand back a fresh table of capacity 1."
 unfoldable pub freshCall : ℕ → Outcome
 freshCall c =
-    unless (first ((not (capacityFits c), badCapacity) ∷ [])) (freshTable 1)
+    unless (first (freshConditions c)) (freshTable 1)
     (record { answer = Given 0 0; table = freshTable c })
 
 -- the counters with counter b of step j one lower, or one higher; step 0 stands for no step
@@ -69,16 +71,18 @@ after capacity k = cond (ltb (k + 1) capacity) (k + 1) 1
 unfoldable pub numberGiven : ℕ → ℕ → (ℕ → Bool) → ℕ
 numberGiven capacity last free = find capacity (after capacity) (after capacity last) free
 
-unfoldable pub addRefusal : Table → ℕ → ℕ → ℕ → ℕ → ℕ
-addRefusal t holder e kind content =
-    first
-    (tableTests t ++
+abbrev pub addConditions : Table → ℕ → ℕ → ℕ → ℕ → List (Bool × ℕ)
+addConditions t holder e kind content =
+    tableTests t ++
     ((not (inUse t holder), notInUse) ∷
     (leb exits e, badExit) ∷
     (holds t holder e, exitFilled) ∷
     (not (contentFits kind content), badKind) ∷
     (eqb (stepsInUse t) (t .capacity), full) ∷
-    []))
+    [])
+
+unfoldable pub addRefusal : Table → ℕ → ℕ → ℕ → ℕ → ℕ
+addRefusal t holder e kind content = first (addConditions t holder e kind content)
 
 -- step n is taken into use, with its kind and content, as the number last given; a free step's bit is 0 and its exits are empty
 unfoldable pub withStep : Table → ℕ → ℕ → ℕ → Table
@@ -94,17 +98,19 @@ addCall t holder e kind content =
     unless (addRefusal t holder e kind content) t
     (record { answer = Given n 0; table = addTable t holder e kind content n })
 
-unfoldable pub linkRefusal : Table → ℕ → ℕ → ℕ → ℕ → ℕ
-linkRefusal t source e second f =
-    first
-    (tableTests t ++
+abbrev pub linkConditions : Table → ℕ → ℕ → ℕ → ℕ → List (Bool × ℕ)
+linkConditions t source e second f =
+    tableTests t ++
     ((not (inUse t source), notInUse) ∷
     (leb exits e, badExit) ∷
     (not (holds t source e), exitEmpty) ∷
     (not (inUse t second), notInUse) ∷
     (leb exits f, badExit) ∷
     (holds t second f, exitFilled) ∷
-    []))
+    [])
+
+unfoldable pub linkRefusal : Table → ℕ → ℕ → ℕ → ℕ → ℕ
+linkRefusal t source e second f = first (linkConditions t source e second f)
 
 -- the bit that a weak link to j has: not its target's
 unfoldable pub weakBit : Table → ℕ → ℕ
@@ -142,8 +148,12 @@ noFields =
       counts = replicate counters 0;
     }
 
+abbrev pub readConditions : Table → ℕ → List (Bool × ℕ)
+readConditions t i =
+    tableTests t ++ ((not (inUse t i), notInUse) ∷ [])
+
 unfoldable pub readRefusal : Table → ℕ → ℕ
-readRefusal t i = first (tableTests t ++ ((not (inUse t i), notInUse) ∷ []))
+readRefusal t i = first (readConditions t i)
 
 unfoldable pub readCall : Table → ℕ → Reading
 readCall t i =
@@ -168,13 +178,15 @@ tryFrom t i moves trace (r ∷ rs) =
 unfoldable pub resultsFit : List ℕ → Bool
 resultsFit results = all (length results) (λ k. ltb (getD results k 0) exits)
 
-unfoldable pub trialRefusal : Table → List ℕ → List ℕ → ℕ
-trialRefusal t results trace =
-    first
-    (tableTests t ++
+abbrev pub trialConditions : Table → List ℕ → List ℕ → List (Bool × ℕ)
+trialConditions t results trace =
+    tableTests t ++
     ((not (resultsFit results), badResult) ∷
     (ltb (length trace) (length results), tooShort) ∷
-    []))
+    [])
+
+unfoldable pub trialRefusal : Table → List ℕ → List ℕ → ℕ
+trialRefusal t results trace = first (trialConditions t results trace)
 
 unfoldable pub trialCall : Table → List ℕ → List ℕ → TrialOutcome
 trialCall t results trace =

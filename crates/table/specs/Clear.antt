@@ -6,6 +6,7 @@
 --   restored t k      rule 3: its bit is flipped, then every link out of it is made weak
 --   repair repairOf   rule 3: the lowest wanted step is restored, while there is one
 --   release t d       rule 4: the steps still doubtful are freed
+--   clearConditions clearRefusal   the conditions of its refusals, and the first that holds
 --   cleared t i e     the four rules together
 --   clearCall         the call
 use mathlib.Core.Bool.{Bool, true, false, _&&_, _||_, not, cond}
@@ -15,11 +16,9 @@ use lib.ListN.{set}
 use lib.Dec.{leb, ltb}
 use Rattle.finite.specs.Below.{any, count, lowest, rounds, tabulate}
 use Rattle.finite.specs.Reach.{marked, reach}
-use Rattle.table.specs.declared.Table.{Table}
 use Rattle.table.specs.declared.Answer.the-variants.{Given}
-use Rattle.table.specs.declared.Outcome.{Outcome}
-use Rattle.table.specs.Table.{exits, counterPlace, inUse, ownBit, targetOf, counterOf, holds, strong, linked, stronglyLinked, withLinks, withSteps}
-use Rattle.table.specs.Answer.{notInUse, badExit, exitEmpty, first, unless}
+use Rattle.table.specs.Table.{Table, exits, counterPlace, inUse, ownBit, targetOf, counterOf, holds, strong, linked, stronglyLinked, withLinks, withSteps}
+use Rattle.table.specs.Answer.{Outcome, notInUse, badExit, exitEmpty, first, unless}
 use Rattle.table.specs.Calls.{tableTests, relink, weakBit}
 
 -- 1. "Empty the exit and lower the counter."
@@ -108,14 +107,16 @@ repaired t =
       table = release (r .table) (r .doubt);
     }
 
-unfoldable pub clearRefusal : Table → ℕ → ℕ → ℕ
-clearRefusal t i e =
-    first
-    (tableTests t ++
+abbrev pub clearConditions : Table → ℕ → ℕ → List (Bool × ℕ)
+clearConditions t i e =
+    tableTests t ++
     ((not (inUse t i), notInUse) ∷
     (leb exits e, badExit) ∷
     (not (holds t i e), exitEmpty) ∷
-    []))
+    [])
+
+unfoldable pub clearRefusal : Table → ℕ → ℕ → ℕ
+clearRefusal t i e = first (clearConditions t i e)
 
 -- the outcome of a clearing that is not refused
 abbrev pub cleared : Table → ℕ → ℕ → Outcome

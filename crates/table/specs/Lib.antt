@@ -5,3 +5,4 @@ pub mod Answer
 pub mod Calls
 pub mod Clear
 pub mod Plan
+pub mod Trial

@@ -14,8 +14,7 @@ use lib.ListN.{length, getD, set, replicate}
 use lib.Dec.{eqb, leb, ltb}
 use Rattle.finite.specs.Below.{any, count, tabulate}
 use Rattle.finite.specs.Reach.{marked, reach}
-use Rattle.table.specs.declared.Table.{Table}
-use Rattle.table.specs.Table.{exits, inUse, kindOf, contentOf, targetOf}
+use Rattle.table.specs.Table.{Table, exits, inUse, kindOf, contentOf, targetOf}
 use Rattle.table.specs.Sound.{contentFits}
 use Rattle.table.specs.Answer.{notInUse, badExit, exitFilled, exitEmpty, badKind, full, badResult, tooShort, first}
 use Rattle.table.specs.Calls.{numberGiven, resultsFit}

@@ -1,4 +1,5 @@
 -- The table: its steps (nodes), exits (edge slots), links (edges) and counters (document 01, "The table"). Assumes nothing.
+--   Table               all fields of all steps
 --   inUse t i           step i is in use
 --   kindOf contentOf ownBit   its kind, its content, the bit of its own
 --   targetOf t i e, linkBit t i e   what exit e of step i holds: the target, 0 where it is empty, and the link's bit
@@ -19,7 +20,6 @@ use lib.ListN.{getD}
 use lib.Dec.{eqb}
 use Rattle.finite.specs.Below.{any, count}
 use Rattle.finite.specs.Reach.{Chain}
-use Rattle.table.specs.declared.Table.{Table}
 
 -- a table has places for 128 steps; a step has four exits and two counters
 abbrev pub places : ℕ
@@ -30,6 +30,22 @@ exits = 4
 
 abbrev pub counters : ℕ
 counters = 2
+
+-- "A table has a capacity of 1 to 128 and steps numbered from 0. .. The table remembers the number last given." Every field is a number or a list of
+-- numbers, one for each step, exit or counter, so that any words in memory are a table, sound or not.
+pub record Table : Type 0 where
+  pub capacity : ℕ
+  pub last : ℕ
+  -- 1 for a step in use, 0 for a free one; its kind; its content; the bit of its own
+  pub used : List ℕ
+  pub kinds : List ℕ
+  pub contents : List ℕ
+  pub own : List ℕ
+  -- the target that each exit holds, 0 for an empty one, and the bit of the link
+  pub targets : List ℕ
+  pub bits : List ℕ
+  -- two counters for each step
+  pub counts : List ℕ
 
 -- where exit e, and counter b, of step i stand
 unfoldable pub exitPlace : ℕ → ℕ → ℕ

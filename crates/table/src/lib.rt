@@ -1,36 +1,9 @@
-// The call plan table and what its calls answer, as they stand in memory. All that is said of them is in specs/.
-
-// A table for at most 128 steps. Every field is a number, so that any bytes in its memory are a table, sound or not.
-#[repr(C)]
-pub struct Table {
-    // 1 to 128 in a sound table.
-    pub capacity: u16,
-    // The number last given to a step.
-    pub last: u16,
-    // 1 for a step in use, 0 for a free one.
-    pub used: [u16; 128],
-    pub kinds: [u16; 128],
-    pub contents: [u16; 128],
-    // The bit of its own that each step has.
-    pub own: [u16; 128],
-    // The target of exit e of step i is at i * 4 + e; 0 is an empty exit.
-    pub targets: [u16; 512],
-    // The bit of the link in the same exit.
-    pub bits: [u16; 512],
-    // Counter b of step i is at i * 2 + b.
-    pub counts: [u16; 256],
-}
+// What the calls answer. The table itself stands in memory as words (crate `words`). All that is said of them is in specs/.
 
 // The answer of a call: the number of its refusal, or two numbers.
 pub enum Answer {
     Refused(u16),
     Given(u16, u16),
-}
-
-// The answer of a call that may change the table, and the table handed back.
-pub struct Outcome {
-    pub answer: Answer,
-    pub table: Table,
 }
 
 // All fields of one step.

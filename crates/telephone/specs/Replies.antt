@@ -1,25 +1,29 @@
 -- The answers of the calls by the paper's numbers, as the exported structs hold them (document 01, "Reasons for no"). Assumes nothing.
---   replyOf o      the refusal or 0, two numbers, and the table handed back
+--   edition        the number of this edition of the interface
+--   replyOf a      the refusal or 0, and two numbers
 --   readReply r    the refusal or 0, and the fields of the step
 --   trialReply a   the refusal or 0, how the trial ended, the last step, the moves
 --   writeReply a   the refusal or 0, and the image's length
+use Prim.Native.Nat.{ℕ}
 use Rattle.table.specs.declared.Answer.{Answer}
-use Rattle.table.specs.declared.Outcome.{Outcome}
 use Rattle.table.specs.declared.Reading.{Reading}
 use Rattle.table.specs.declared.Tried.{Tried}
-use Rattle.table.specs.Answer.{refusalOf, firstOf, secondOf, triedRefusal, endingOf, lastOf, movesOf}
+use Rattle.table.specs.Answer.{first, refusalOf, firstOf, secondOf, triedRefusal, endingOf, lastOf, movesOf}
 use Rattle.telephone.specs.declared.Reply.{Reply}
 use Rattle.telephone.specs.declared.ReadReply.{ReadReply}
 use Rattle.telephone.specs.declared.TrialReply.{TrialReply}
 use Rattle.telephone.specs.declared.WriteReply.{WriteReply}
 
-unfoldable pub replyOf : Outcome → Reply
-replyOf o =
+-- the first edition passed and handed back whole tables; this one lends them
+abbrev pub edition : ℕ
+edition = 2
+
+unfoldable pub replyOf : Answer → Reply
+replyOf a =
     record {
-      refusal = refusalOf (o .answer);
-      first = firstOf (o .answer);
-      second = secondOf (o .answer);
-      table = o .table;
+      refusal = refusalOf a;
+      first = firstOf a;
+      second = secondOf a;
     }
 
 unfoldable pub readReply : Reading → ReadReply

@@ -1,28 +1,30 @@
-// The calls of document 01 as exported functions, for C and Rust. Tables and answers go by value, and every field of them is a number, so that any
-// bytes in a table's memory may be passed. Each function makes one proved call and gives its answer by the paper's numbers.
+// The calls of document 01 as exported functions, for C and Rust. A table is an array of words that the caller owns and lends; a call that changes it
+// writes it in place. Any words may stand in it. Each function makes one proved call and gives its answer by the paper's numbers.
 ghost use mathlib.Core.Path.{_≡_};
 ghost use mathlib.Core.Bool.{cond};
 ghost use Rattle.table.specs.Sound.{sound};
 ghost use Rattle.table.specs.Answer.{endingNumber};
 ghost use Rattle.table.specs.Calls.{freshCall, addCall, linkCall, readCall, trialCall};
 ghost use Rattle.table.specs.Clear.{clearCall};
-ghost use Rattle.image.specs.Image.{writeCall, loadCall};
-ghost use Rattle.keyline.specs.Keys.{keyCall};
-ghost use Rattle.telephone.specs.Replies.{replyOf, readReply, trialReply, writeReply};
+ghost use Rattle.words.specs.Words.{tableOf, wordsOf};
+ghost use Rattle.image.specs.Image.{lengthCall, writeCall, loadCall};
+ghost use Rattle.keyline.specs.Keys.{countsCall, keyCall};
+ghost use Rattle.telephone.specs.Replies.{edition, replyOf, readReply, trialReply, writeReply};
 use table::Answer;
 use table::Ending;
-use table::Outcome;
 use table::Reading;
-use table::Table;
 use table::Tried;
+use words::WORDS;
 
-// The answer of a call that may change the table: the refusal or 0, two numbers, and the table handed back.
+// The number of this edition of the interface. In edition 1 a table was passed and handed back by value.
+const EDITION: u16 = 2;
+
+// The answer of a call: the refusal or 0, and two numbers.
 #[repr(C)]
 pub struct Reply {
     pub refusal: u16,
     pub first: u16,
     pub second: u16,
-    pub table: Table,
 }
 
 // The answer of read: the refusal or 0, and all fields of the step, zero where it is refused.
@@ -46,31 +48,27 @@ pub struct TrialReply {
     pub moves: usize,
 }
 
-// The answer of write image: the refusal or 0, and the image's length.
+// The answer of write image and of image length: the refusal or 0, and the image's length.
 #[repr(C)]
 pub struct WriteReply {
     pub refusal: u16,
     pub length: u16,
 }
 
-// An answer and its table, by number.
-fn reply_of(o: Outcome) -> Reply
-    ensures { λ r. ⌜ r ≡ replyOf o ⌝ }
+// An answer, by number.
+fn reply_of(a: Answer) -> Reply
+    ensures { λ r. ⌜ r ≡ replyOf a ⌝ }
 {
-    let answer = o.answer;
-    let table = o.table;
-    match answer {
+    match a {
         Answer::Refused(refusal) => Reply {
             refusal,
             first: 0,
             second: 0,
-            table,
         },
         Answer::Given(first, second) => Reply {
             refusal: 0,
             first,
             second,
-            table,
         },
     }
 }
@@ -134,84 +132,126 @@ fn read_reply(r: Reading) -> ReadReply
     }
 }
 
+// The edition of this interface, for a host that links it.
+#[no_mangle]
+pub extern "C" fn plan_edition() -> u16
+    ensures { λ r. ⌜ r ≡ edition ⌝ }
+{
+    EDITION
+}
+
 // Whether a table is sound: 1 or 0.
 #[no_mangle]
-pub extern "C" fn plan_is_sound(t: Table) -> u16
-    ensures { λ r. ⌜ r ≡ cond (sound t) 1 0 ⌝ }
+pub extern "C" fn plan_is_sound(t: &[u16; WORDS]) -> u16
+    ensures { λ r. ⌜ r ≡ cond (sound (tableOf (now (t .entry)))) 1 0 ⌝ }
 {
     if soundness::is_sound(t) { 1 } else { 0 }
 }
 
 // Fresh: a table of that capacity with step 0 alone in use. Refusal: 2, with a fresh table of capacity 1.
 #[no_mangle]
-pub extern "C" fn plan_fresh(capacity: u16) -> Reply
-    ensures { λ r. ⌜ r ≡ replyOf (freshCall capacity) ⌝ }
+pub extern "C" fn plan_fresh(t: &mut [u16; WORDS], capacity: u16) -> Reply
+    ensures answer { λ r. ⌜ r ≡ replyOf (freshCall capacity .answer) ⌝ }
+    ensures table { λ r. ⌜ now (t .exit) ≡ wordsOf (freshCall capacity .table) ⌝ }
 {
-    reply_of(edits::fresh(capacity))
+    reply_of(edits::fresh(t, capacity))
 }
 
 // Add: a new step in an exit of its holder. First is its number. Refusals: 1, 3, 4, 5, 7, 8.
 #[no_mangle]
-pub extern "C" fn plan_add(t: Table, holder: u16, exit: u16, kind: u16, content: u16) -> Reply
-    ensures { λ r. ⌜ r ≡ replyOf (addCall t holder exit kind content) ⌝ }
+pub extern "C" fn plan_add(
+    t: &mut [u16; WORDS],
+    holder: u16,
+    exit: u16,
+    kind: u16,
+    content: u16,
+) -> Reply
+    ensures answer { λ r. ⌜ r ≡ replyOf (addCall (tableOf (now (t .entry))) holder exit kind content .answer) ⌝ }
+    ensures table { λ r. ⌜ now (t .exit) ≡ wordsOf (addCall (tableOf (now (t .entry))) holder exit kind content .table) ⌝ }
 {
     reply_of(edits::add(t, holder, exit, kind, content))
 }
 
 // Link: the source's target is copied into an exit of the second step. Refusals: 1, source 3, 4, 6, second 3, 4, 5.
 #[no_mangle]
-pub extern "C" fn plan_link(t: Table, source: u16, from: u16, second: u16, into: u16) -> Reply
-    ensures { λ r. ⌜ r ≡ replyOf (linkCall t source from second into) ⌝ }
+pub extern "C" fn plan_link(
+    t: &mut [u16; WORDS],
+    source: u16,
+    from: u16,
+    second: u16,
+    into: u16,
+) -> Reply
+    ensures answer { λ r. ⌜ r ≡ replyOf (linkCall (tableOf (now (t .entry))) source from second into .answer) ⌝ }
+    ensures table { λ r. ⌜ now (t .exit) ≡ wordsOf (linkCall (tableOf (now (t .entry))) source from second into .table) ⌝ }
 {
     reply_of(edits::link(t, source, from, second, into))
 }
 
 // Clear: an exit is emptied. First is the steps made doubtful, second the steps freed. Refusals: 1, 3, 4, 6.
 #[no_mangle]
-pub extern "C" fn plan_clear(t: Table, step: u16, exit: u16) -> Reply
-    ensures { λ r. ⌜ r ≡ replyOf (clearCall t step exit) ⌝ }
+pub extern "C" fn plan_clear(t: &mut [u16; WORDS], step: u16, exit: u16) -> Reply
+    ensures answer { λ r. ⌜ r ≡ replyOf (clearCall (tableOf (now (t .entry))) step exit .answer) ⌝ }
+    ensures table { λ r. ⌜ now (t .exit) ≡ wordsOf (clearCall (tableOf (now (t .entry))) step exit .table) ⌝ }
 {
     reply_of(clearing::clear(t, step, exit))
 }
 
+// Counts: first is the steps in use, second the free ones. Refusal: 1.
+#[no_mangle]
+pub extern "C" fn plan_counts(t: &[u16; WORDS]) -> Reply
+    ensures { λ r. ⌜ r ≡ replyOf (countsCall (tableOf (now (t .entry))) .answer) ⌝ }
+{
+    reply_of(keylines::counts(t))
+}
+
 // Read: all fields of a step. Refusals: 1, 3.
 #[no_mangle]
-pub extern "C" fn plan_read(t: Table, step: u16) -> ReadReply
-    ensures { λ r. ⌜ r ≡ readReply (readCall t step) ⌝ }
+pub extern "C" fn plan_read(t: &[u16; WORDS], step: u16) -> ReadReply
+    ensures { λ r. ⌜ r ≡ readReply (readCall (tableOf (now (t .entry))) step) ⌝ }
 {
     read_reply(edits::read(t, step))
 }
 
 // Trial: the steps entered are written into the trace, and no other byte. Refusals: 1, 10, 11.
 #[no_mangle]
-pub extern "C" fn plan_trial(t: Table, results: &[u8], trace: &mut [u8]) -> TrialReply
-    ensures answer { λ r. ⌜ r ≡ trialReply (trialCall t (now (results .entry)) (now (trace .entry)) .answer) ⌝ }
-    ensures trace { λ r. ⌜ now (trace .exit) ≡ trialCall t (now (results .entry)) (now (trace .entry)) .trace ⌝ }
+pub extern "C" fn plan_trial(t: &[u16; WORDS], results: &[u8], trace: &mut [u8]) -> TrialReply
+    ensures answer { λ r. ⌜ r ≡ trialReply (trialCall (tableOf (now (t .entry))) (now (results .entry)) (now (trace .entry)) .answer) ⌝ }
+    ensures trace { λ r. ⌜ now (trace .exit) ≡ trialCall (tableOf (now (t .entry))) (now (results .entry)) (now (trace .entry)) .trace ⌝ }
 {
     trial_reply(trials::trial(t, results, trace))
 }
 
+// Image length: the length of the image that write image would write, which is the room that it needs. Refusal: 1.
+#[no_mangle]
+pub extern "C" fn plan_image_length(t: &[u16; WORDS]) -> WriteReply
+    ensures { λ r. ⌜ r ≡ writeReply (lengthCall (tableOf (now (t .entry)))) ⌝ }
+{
+    write_reply(images::image_length(t))
+}
+
 // Write image: the image at the start of the buffer, and its length; no other byte is written. Refusals: 1, 11.
 #[no_mangle]
-pub extern "C" fn plan_write_image(t: Table, buffer: &mut [u8]) -> WriteReply
-    ensures answer { λ r. ⌜ r ≡ writeReply (writeCall t (now (buffer .entry)) .answer) ⌝ }
-    ensures written { λ r. ⌜ now (buffer .exit) ≡ writeCall t (now (buffer .entry)) .buffer ⌝ }
+pub extern "C" fn plan_write_image(t: &[u16; WORDS], buffer: &mut [u8]) -> WriteReply
+    ensures answer { λ r. ⌜ r ≡ writeReply (writeCall (tableOf (now (t .entry))) (now (buffer .entry)) .answer) ⌝ }
+    ensures written { λ r. ⌜ now (buffer .exit) ≡ writeCall (tableOf (now (t .entry))) (now (buffer .entry)) .buffer ⌝ }
 {
     write_reply(images::write_image(t, buffer))
 }
 
 // Load image: the table of an accepted image. Refusal: 12, with a fresh table of capacity 1.
 #[no_mangle]
-pub extern "C" fn plan_load_image(bytes: &[u8]) -> Reply
-    ensures { λ r. ⌜ r ≡ replyOf (loadCall (now (bytes .entry))) ⌝ }
+pub extern "C" fn plan_load_image(t: &mut [u16; WORDS], bytes: &[u8]) -> Reply
+    ensures answer { λ r. ⌜ r ≡ replyOf (loadCall (now (bytes .entry)) .answer) ⌝ }
+    ensures table { λ r. ⌜ now (t .exit) ≡ wordsOf (loadCall (now (bytes .entry)) .table) ⌝ }
 {
-    reply_of(images::load_image(bytes))
+    reply_of(images::load_image(t, bytes))
 }
 
 // Key line: the call that its bytes make. First and second are the two numbers that the program `keys` prints. Refusals: 1, 9, then its call's.
 #[no_mangle]
-pub extern "C" fn plan_key_line(t: Table, line: &[u8]) -> Reply
-    ensures { λ r. ⌜ r ≡ replyOf (keyCall t (now (line .entry))) ⌝ }
+pub extern "C" fn plan_key_line(t: &mut [u16; WORDS], line: &[u8]) -> Reply
+    ensures answer { λ r. ⌜ r ≡ replyOf (keyCall (tableOf (now (t .entry))) (now (line .entry)) .answer) ⌝ }
+    ensures table { λ r. ⌜ now (t .exit) ≡ wordsOf (keyCall (tableOf (now (t .entry))) (now (line .entry)) .table) ⌝ }
 {
     reply_of(keylines::key_line(t, line))
 }

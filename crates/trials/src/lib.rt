@@ -1,33 +1,20 @@
 // Trials: line results are followed from step 0 and the steps entered are written into a lent trace (document 01, "Calls").
 ghost use mathlib.Core.Path.{_≡_};
 ghost use mathlib.Core.Bool.{true};
-ghost use Prim.Native.Nat.{ℕ, _<_, _≤_};
-ghost use lib.ListN.{length, getD};
-ghost use Rattle.table.specs.declared.Table.{Table};
-ghost use Rattle.table.specs.Table.{places};
+ghost use Prim.Native.Nat.{_≤_};
+ghost use lib.ListN.{length};
+ghost use Rattle.table.specs.Sound.{Sound};
 ghost use Rattle.table.specs.Calls.{TrialOutcome, resultsFit, tryFrom, trialCall};
+ghost use Rattle.words.specs.Words.{tableOf};
 use table::Ending;
-use table::Table;
 use table::Tried;
+use words::BAD_RESULT;
+use words::TOO_SHORT;
+use words::WORDS;
+use words::wide;
 
-// The table is not sound.
-const NOT_SOUND: u16 = 1;
-// Some line result is above 3.
-const BAD_RESULT: u16 = 10;
-// The lent trace is shorter than the line results.
-const TOO_SHORT: u16 = 11;
-
-// The exits of a step.
-const EXITS: usize = 4;
 // The number of the last exit, line fault.
 const LINE_FAULT: u8 = 3;
-
-// The number of a step, wide enough for an index.
-fn step_index(step: u16) -> usize
-    ensures { λ r. ⌜ r ≡ step ⌝ }
-{
-    step as usize
-}
 
 // The exit that a line result takes, wide enough for an index.
 fn exit_index(result: u8) -> usize
@@ -51,19 +38,20 @@ fn results_fit(results: &[u8]) -> bool
     true
 }
 
-// How the results, followed from step 0 over the targets of a table, end; the steps entered are written into the trace. Each target is a place,
-// so its number fits a byte.
-fn follow(targets: &[u16; 512], results: &[u8], trace: &mut [u8]) -> Tried
-    requires steps { ⌜ ((p : ℕ) → getD (now targets) p 0 < places) ⌝ }
+// How the results, followed from step 0 of a sound table, end; the steps entered are written into the trace. Each target is a place, so its
+// number fits a byte.
+fn follow(t: &[u16; WORDS], results: &[u8], trace: &mut [u8]) -> Tried
+    requires sound { ⌜ Sound (tableOf (now t)) ⌝ }
     requires fit { ⌜ resultsFit (now results) ≡ true ⌝ }
     requires room { ⌜ length (now results) ≤ length (now trace) ⌝ }
-    ensures { λ r. ⌜ ((t : Table) → t .targets ≡ now (targets .entry) → _≡_ {A = TrialOutcome} (record { answer = r; trace = now (trace .exit) }) (tryFrom t 0 0 (now (trace .entry)) (now (results .entry)))) ⌝ }
+    ensures { λ r. ⌜ _≡_ {A = TrialOutcome} (record { answer = r; trace = now (trace .exit) })
+        (tryFrom (tableOf (now (t .entry))) 0 0 (now (trace .entry)) (now (results .entry))) ⌝ }
 {
     let mut step: u16 = 0;
     let mut moves: usize = 0;
     // Each time round: the results from `moves` on, followed from `step`, end as all of them do from step 0.
     while moves < results.len() {
-        let next = targets[step_index(step) * EXITS + exit_index(results[moves])];
+        let next = words::target_at(t, wide(step), exit_index(results[moves]));
         if next == 0 {
             return Tried::Ended(Ending::Open, step, moves);
         }
@@ -75,11 +63,13 @@ fn follow(targets: &[u16; 512], results: &[u8], trace: &mut [u8]) -> Tried
 }
 
 // The trial of a table: the number of its refusal, or how it ends, the last step and the moves made.
-pub fn trial(t: Table, results: &[u8], trace: &mut [u8]) -> Tried
-    ensures { λ r. ⌜ (r ≡ trialCall t (now (results .entry)) (now (trace .entry)) .answer) × (now (trace .exit) ≡ trialCall t (now (results .entry)) (now (trace .entry)) .trace) ⌝ }
+pub fn trial(t: &[u16; WORDS], results: &[u8], trace: &mut [u8]) -> Tried
+    ensures answer { λ r. ⌜ r ≡ trialCall (tableOf (now (t .entry))) (now (results .entry)) (now (trace .entry)) .answer ⌝ }
+    ensures trace { λ r. ⌜ now (trace .exit) ≡ trialCall (tableOf (now (t .entry))) (now (results .entry)) (now (trace .entry)) .trace ⌝ }
 {
-    if !soundness::is_sound(t) {
-        return Tried::Refused(NOT_SOUND);
+    let refusal = soundness::table_refusal(t);
+    if refusal != 0 {
+        return Tried::Refused(refusal);
     }
     if !results_fit(results) {
         return Tried::Refused(BAD_RESULT);
@@ -87,5 +77,5 @@ pub fn trial(t: Table, results: &[u8], trace: &mut [u8]) -> Tried
     if trace.len() < results.len() {
         return Tried::Refused(TOO_SHORT);
     }
-    follow(&t.targets, results, trace)
+    follow(t, results, trace)
 }

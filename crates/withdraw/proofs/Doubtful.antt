@@ -2,53 +2,32 @@
 --   begin-doubt    where the search begins
 --   found-doubt    what it ends with
 use mathlib.Core.Path.{_≡_, refl, sym, _∙_, ap, subst}
-use mathlib.Core.Bool.{Bool, true, false, _&&_, _||_, not, cond}
+use mathlib.Core.Bool.{Bool, true, false, not}
 use mathlib.Core.Logic.{_⊎_, inl, inr, ⊎-elim}
 use mathlib.Core.List.{List}
-use Prim.Native.Nat.{ℕ, zero, suc, _+_, _*_, _-_, _≤_, _<_}
+use Prim.Native.Nat.{ℕ, zero, suc, _*_, _<_}
 use native.Mathlib.Omega.{arith}
-use lib.ListN.{length, getD, set, replicate}
-use lib.Dec.{eqb, ltb}
-use borrow.Author.Tests.{eqb-true, eq-eqb, ltb-false, le-ltb, lt-ltb}
-use Rattle.finite.specs.Below.{one, count, tabulate}
-use Rattle.finite.specs.Reach.{Chain, marked, reaches}
-use Rattle.finite.proofs.Bools.{and-intro, and-left, and-right, clash, refute, test, same-test, not-true-false, or-false-left, or-false-right, not-false-true}
-use Rattle.finite.proofs.Below.{le-or-lt, eq-or-ne, count-none, length-tabulate, getD-tabulate}
+use lib.ListN.{getD, set}
+use borrow.Author.Tests.{eq-eqb, ltb-false}
+use Rattle.finite.specs.Below.{one, tabulate}
+use Rattle.finite.specs.Reach.{marked, reaches}
+use Rattle.finite.proofs.Bools.{and-intro, and-left, and-right, clash, refute, test, same-test, not-true-false, or-false-right}
+use Rattle.finite.proofs.Below.{eq-or-ne, count-pos}
 use Rattle.finite.proofs.Reach.{chain-keeps, reach-sound, reach-closed, reach-start}
 use Rattle.finite.proofs.Select.{tabulate-entries}
-use Rattle.table.specs.declared.Table.{Table}
-use Rattle.table.specs.Table.{places, exits, counters, counterPlace, inUse, ownBit, targetOf, counterOf, holds, strong, stronglyLinked}
+use Rattle.table.specs.Table.{Table, places, exits, inUse, ownBit, targetOf, counterOf, holds, strong, stronglyLinked}
 use Rattle.table.specs.Sound.{Sound}
 use Rattle.table.specs.Clear.{emptied, heldStrongly, stops, doubtful}
 use Rattle.table.proofs.Links.{holds-target, linked-used, strongly-linked}
 use Rattle.table.proofs.Formed.{Formed, formed-wired, formed-place, formed-below}
-use Rattle.table.proofs.Spine.{Spine, sound-spine, strong-below}
+use Rattle.table.proofs.Spine.{sound-spine}
 use Rattle.table.proofs.Edits.{getD-zeros}
 use Rattle.table.proofs.Clear.{formed-emptied, emptied-used, emptied-fewer, emptied-strongly, doubtful-at}
-use Rattle.withdraw.specs.Search.{points, isMarked, pointing, rest, Search, Withdrawn, strongCounts}
+use Rattle.withdraw.specs.Search.{slotAt, ownSlot, lands, isMarked, landing, rest, Ranged, Exact, Search, Withdrawn}
 use Rattle.withdraw.specs.Withdraw.{Emptied}
-use Rattle.withdraw.proofs.Laws.{AtZero, points-target, search-begin, search-mark, mark-here, marked-next}
-use Rattle.withdraw.proofs.Found.{heads, own-bit, pointing-count, pointing-some, pointing-linked, up-marked, kept-parent}
-
-abbrev pub zeros : List ℕ
-zeros = replicate places 0
-
-pub strong-left : (u : Table) → Formed u → (j : ℕ) → j < places → getD (strongCounts (u .counts) (u .own)) j 0 ≡ pointing (heads u) j
-unfolding strongCounts counterOf ownBit
-strong-left u g j l = getD-tabulate places _ 0 j l ∙ sym (pointing-count u g j l)
-
-pub strong-left-size : (u : Table) → length (strongCounts (u .counts) (u .own)) ≡ places
-unfolding strongCounts
-strong-left-size u = length-tabulate places _
-
-pub none-marked : (j : ℕ) → isMarked zeros j ≡ false
-unfolding isMarked
-none-marked j = rw (getD-zeros places j)
-
--- no strong link leads to step 0
-pub pointing-alarm : (h : ℕ → ℕ) → pointing h 0 ≡ 0
-unfolding pointing
-pointing-alarm h = count-none (places * exits) _ (λ p l. refute _ (λ t. points-target h p 0 t .1 refl))
+use Rattle.withdraw.proofs.Slots.{own-slot-below, landing-some, landing-linked, formed-ranged, formed-exact}
+use Rattle.withdraw.proofs.Laws.{AtZero, search-begin, search-mark, mark-here, marked-next}
+use Rattle.withdraw.proofs.Found.{zeros, none-marked, up-marked, kept-parent}
 
 -- a mark is 0 or 1
 pub mark-one : (marks : List ℕ) (j : ℕ) → getD marks j 0 < 2 → one (isMarked marks j) ≡ getD marks j 0
@@ -75,33 +54,42 @@ module _ (t : Table) (i e : ℕ) (s : Sound t) (ui : inUse t i ≡ true) (le : e
   start-low : start < places
   start-low = formed-place g start start-used
 
+  ranged : Ranged u
+  ranged = formed-ranged u g
+
+  exact : Exact u (u .counts)
+  exact = formed-exact u g
+
   -- rule 1 did not stop: the target has no strong link left
-  start-free : pointing (heads u) start ≡ 0
-  unfolding stops heldStrongly
-  start-free =
-      let n = ltb-false 0 (counterOf u start (ownBit u start)) (or-false-right (not (strong t i e)) _ goes) in
-      let c = pointing-count u g start start-low in
-      omega arith
+  start-free : getD (u .counts) (ownSlot u start) 0 ≡ 0
+  unfolding stops heldStrongly counterOf ownSlot
+  start-free = let n = ltb-false 0 (counterOf u start (ownBit u start)) (or-false-right (not (strong t i e)) _ goes) in omega arith
 
-  begin : AtZero (heads u) (strongCounts (u .counts) (u .own)) zeros (λ j. 0) start
+  begin : AtZero u (u .counts) (u .counts) zeros (λ q. 0) start
+  unfolding landing
   begin =
-      search-begin (heads u) (strongCounts (u .counts) (u .own)) zeros start (strong-left-size u) refl (λ j. getD-zeros places j) (strong-left u g) start-low start-free
+      search-begin u (u .counts) zeros start (g .shape .counts) refl (λ j. getD-zeros places j) start-low (λ d. start-free)
+      (λ x p l y.
+      let a = count-pos (places * exits) (λ p. lands (slotAt u) p (ownSlot u start)) p l y in
+      let b = x (ownSlot u start) (own-slot-below u ranged start start-low) in
+      let c = start-free in
+      omega arith)
 
-  module _ (left marks : List ℕ) (w : Withdrawn (heads u) (strongCounts (u .counts) (u .own)) (set zeros start 1) left marks (rest (heads u) start 0)) where
-    ended : Search (heads u) left marks (λ j. 0)
-    ended = w .after (λ j. 0) (search-mark begin)
+  module _ (left marks : List ℕ) (w : Withdrawn u (u .counts) (set zeros start 1) left marks (rest (slotAt u) start 0)) where
+    ended : Search u (u .counts) left marks (λ q. 0)
+    ended = w .after (u .counts) (λ q. 0) (search-mark begin)
 
     start-marked : isMarked marks start ≡ true
     start-marked = w .grown start (mark-here begin)
 
     -- a marked step is the first one, or a strong link leads to it
-    marked-new : (j : ℕ) → isMarked marks j ≡ true → (j ≡ start) ⊎ (0 < pointing (heads u) j)
+    marked-new : (j : ℕ) → isMarked marks j ≡ true → (j ≡ start) ⊎ ((0 < j) × (0 < landing (slotAt u) (ownSlot u j)))
     marked-new j m = ⊎-elim (λ o. ⊎-elim (λ q. inl q) (λ z. clash z (none-marked j)) (marked-next begin j o)) (λ p. inr p) (w .new j m)
 
     marked-used : (j : ℕ) → isMarked marks j ≡ true → inUse u j ≡ true
     marked-used j m =
         ⊎-elim (λ (q : j ≡ start). rw q start-used)
-        (λ p. let l = pointing-linked u g j p in linked-used (formed-wired g) (l .0) j (strongly-linked u (l .0) j (l .1)) .1)
+        (λ p. let l = landing-linked u ranged j (p .1) in linked-used (formed-wired g) (l .0) j (strongly-linked u (l .0) j (l .1)) .1)
         (marked-new j m)
 
     alarm-unmarked : isMarked marks 0 ≡ false
@@ -109,7 +97,7 @@ module _ (t : Table) (i e : ℕ) (s : Sound t) (ui : inUse t i ≡ true) (le : e
         refute _
         (λ m.
         ⊎-elim (λ q. holds-target t i e h (sym q))
-        (λ p. let z = pointing-alarm (heads u) in omega arith)
+        (λ p. omega (arith, p .0))
         (marked-new 0 m))
 
     abbrev found : ℕ → Bool
@@ -122,7 +110,7 @@ module _ (t : Table) (i e : ℕ) (s : Sound t) (ui : inUse t i ≡ true) (le : e
         chain-keeps (λ x. isMarked marks x ≡ false)
         (λ a b m l.
         let ua = linked-used (formed-wired g) a b (strongly-linked u a b l) .0 in
-        refute _ (λ y. clash (up-marked u g left marks ended a b (formed-place g a ua) l y .0) m))
+        refute _ (λ y. clash (up-marked u ranged (u .counts) exact left marks ended a b (formed-place g a ua) l y .0) m))
         alarm-unmarked
         (c .1)
 
@@ -137,7 +125,8 @@ module _ (t : Table) (i e : ℕ) (s : Sound t) (ui : inUse t i ≡ true) (le : e
         let here : stronglyLinked u (p .0) j ≡ true =
         ⊎-elim (λ x. x) (λ x. clash (rw (x .0) start-marked) m) (emptied-strongly t s i e ui le h (p .0) j (p .2)) in
         let low-p : p .0 < places = formed-place g (p .0) (emptied-used t s i e ui le h (p .0) ∙ p .1) in
-        let k = kept-parent u g left marks ended j (formed-place g j y) m (pointing-some u g (p .0) j low-p here) in
+        let some = landing-some u (p .0) j low-p here in
+        let k = kept-parent u ranged (u .counts) exact left marks ended j (omega arith) (formed-place g j y) m some in
         let uk = linked-used (formed-wired g) (k .0) j (strongly-linked u (k .0) j (k .2)) .0 in
         let rise = sound-spine s .rising (k .0) j (sym (emptied-used t s i e ui le h (k .0)) ∙ uk) (emptied-fewer t s i e ui le h (k .0) j (k .2)) in
         let r = unmarked-reached n (k .0) (omega arith) uk (k .1) in
@@ -151,7 +140,9 @@ module _ (t : Table) (i e : ℕ) (s : Sound t) (ui : inUse t i ≡ true) (le : e
         (λ d.
         let b = sym (doubtful-at t s i e ui le h j) ∙ d in
         ⊎-elim (λ m. m)
-        (λ m. clash (unmarked-reached (suc (sound-spine s .rank j)) j (omega arith) (and-left (inUse u j) _ b) m) (not-true-false _ (and-right (inUse u j) _ b)))
+        (λ m.
+        clash (unmarked-reached (suc (sound-spine s .rank j)) j (omega arith) (and-left (inUse u j) _ b) m)
+        (not-true-false _ (and-right (inUse u j) _ b)))
         (test (isMarked marks j)))
 
     found-list : marks ≡ tabulate places (λ j. one (marked (doubtful u) j))
@@ -161,20 +152,24 @@ module _ (t : Table) (i e : ℕ) (s : Sound t) (ui : inUse t i ≡ true) (le : e
         (λ j l. ap one (sym (marked-doubtful j)) ∙ mark-one marks j (ended .binary j)))
 
 -- The same, from what `Emptied` says
-pub begin-doubt : (u : Table) (start : ℕ) → Emptied u start → AtZero (heads u) (strongCounts (u .counts) (u .own)) zeros (λ j. 0) start
-begin-doubt u start x =
-    subst (λ (v : Table). AtZero (heads v) (strongCounts (v .counts) (v .own)) zeros (λ j. 0) start) (sym (x .7))
-    (subst (λ (k : ℕ). AtZero (heads (emptied (x .0) (x .1) (x .2))) (strongCounts (emptied (x .0) (x .1) (x .2) .counts) (emptied (x .0) (x .1) (x .2) .own)) zeros (λ j. 0) k) (sym (x .9))
-    (begin (x .0) (x .1) (x .2) (x .3) (x .4) (x .5) (x .6) (x .8)))
-
 pub formed-doubt : (u : Table) (start : ℕ) → Emptied u start → Formed u
 formed-doubt u start x = subst Formed (sym (x .7)) (formed-emptied (x .0) (x .3) (x .1) (x .2) (x .4) (x .5) (x .6))
 
-pub found-doubt : (u : Table) (start : ℕ) → Emptied u start → (left marks : List ℕ) →
-    Withdrawn (heads u) (strongCounts (u .counts) (u .own)) (set zeros start 1) left marks (rest (heads u) start 0) →
+abbrev Begins : Table → ℕ → Type 0
+Begins u start = AtZero u (u .counts) (u .counts) zeros (λ q. 0) start
+
+pub begin-doubt : (u : Table) (start : ℕ) → Emptied u start → Begins u start
+begin-doubt u start x =
+    subst (λ (v : Table). Begins v start) (sym (x .7))
+    (subst (λ (k : ℕ). Begins (emptied (x .0) (x .1) (x .2)) k) (sym (x .9))
+    (begin (x .0) (x .1) (x .2) (x .3) (x .4) (x .5) (x .6) (x .8)))
+
+abbrev Ends : Table → ℕ → List ℕ → List ℕ → Type 0
+Ends u start left marks = Withdrawn u (u .counts) (set zeros start 1) left marks (rest (slotAt u) start 0)
+
+pub found-doubt : (u : Table) (start : ℕ) → Emptied u start → (left marks : List ℕ) → Ends u start left marks →
     marks ≡ tabulate places (λ j. one (marked (doubtful u) j))
 found-doubt u start x left marks w =
     subst (λ (v : Table). marks ≡ tabulate places (λ j. one (marked (doubtful v) j))) (sym (x .7))
     (found-list (x .0) (x .1) (x .2) (x .3) (x .4) (x .5) (x .6) (x .8) left marks
-    (subst (λ (k : ℕ). Withdrawn (heads (emptied (x .0) (x .1) (x .2))) (strongCounts (emptied (x .0) (x .1) (x .2) .counts) (emptied (x .0) (x .1) (x .2) .own)) (set zeros k 1) left marks (rest (heads (emptied (x .0) (x .1) (x .2))) k 0)) (x .9)
-    (subst (λ (v : Table). Withdrawn (heads v) (strongCounts (v .counts) (v .own)) (set zeros start 1) left marks (rest (heads v) start 0)) (x .7) w)))
+    (subst (λ (k : ℕ). Ends (emptied (x .0) (x .1) (x .2)) k left marks) (x .9) (subst (λ (v : Table). Ends v start left marks) (x .7) w)))

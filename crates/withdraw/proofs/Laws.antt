@@ -1,7 +1,8 @@
 -- Laws of the search by withdrawing: one exit withdrawn keeps what `Search` says. Assumes nothing.
---   search-skip    an exit with no strong link
---   search-lower   a strong link withdrawn whose target has others left
---   search-mark    a step with none left is marked, and its own exits are pending
+--   search-skip    an empty exit
+--   search-lower   a link withdrawn whose target has strong links left, or that is weak
+--   search-over    a link whose counter is 0 already
+--   search-mark    a step with no strong link left is marked, and its own exits are pending
 --   search-begin   where a search begins
 --   rest-step      the exits of a step, one by one
 use mathlib.Core.Path.{_≡_, refl, sym, _∙_, ap}
@@ -13,18 +14,16 @@ use native.Mathlib.Omega.{arith}
 use lib.ListN.{length, getD, set, length-set}
 use lib.Seq.{getD-set-same, getD-set-other}
 use lib.Dec.{eqb}
-use borrow.Author.Tests.{eqb-true, eqb-false, eq-eqb, ne-eqb}
-use Rattle.finite.specs.Below.{one, count}
+use borrow.Author.Tests.{eqb-true, eq-eqb, ne-eqb}
+use Rattle.finite.specs.Below.{one, all, count}
 use Rattle.finite.proofs.Bools.{and-intro, and-left, and-right, clash, refute, test, same-test, not-true-false}
 use Rattle.finite.proofs.Below.{eq-or-ne, count-ext, count-mono, count-change, count-split, count-none, count-pos}
 use Rattle.finite.proofs.Select.{count-grows}
-use Rattle.finite.proofs.Loops.{count-add}
-use Rattle.table.specs.Table.{places, exits, exitPlace}
-use Rattle.withdraw.specs.Search.{headAt, points, isMarked, pointing, pointingKept, at, rest, Search, Pending, Withdrawn, unmarked}
-
-count-zero : (p : ℕ → Bool) → count 0 p ≡ 0
-unfolding count
-count-zero p = refl
+use Rattle.finite.proofs.Loops.{count-zero, count-add}
+use Rattle.table.specs.Table.{Table, places, exits, counters, exitPlace, counterPlace, ownBit}
+use Rattle.table.proofs.Relink.{counter-place-below}
+use Rattle.withdraw.specs.Search.{slotAt, ownSlot, lands, isMarked, landing, landingKept, at, rest, Ranged, Exact, Search, Pending, Withdrawn, unmarked}
+use Rattle.withdraw.proofs.Slots.{lands-target, lands-intro, landing-zero, slot-empty, slot-link, own-slot-above, own-slot-place}
 
 -- the places of one step's exits
 count-block : (n k : ℕ) (q : ℕ → Bool) → k < n → count (n * exits) (λ p. q p && eqb (p / exits) k) ≡ count exits (λ f. q (exitPlace k f))
@@ -52,7 +51,8 @@ count-block (suc n) k q l =
     let low : k < n = omega arith in
     let h = count-block n k q low in
     let none : count exits (λ f. q (n * exits + f) && eqb ((n * exits + f) / exits) k) ≡ 0 =
-    count-none exits _ (λ f b. refute _ (λ t. let s : (n * exits + f) / exits ≡ k = eqb-true _ _ (and-right (q (n * exits + f)) _ t) in d (omega arith))) in
+    count-none exits _
+    (λ f b. refute _ (λ t. let s : (n * exits + f) / exits ≡ k = eqb-true _ _ (and-right (q (n * exits + f)) _ t) in d (omega arith))) in
     omega arith)
     (eq-or-ne k n)
   where
@@ -60,151 +60,203 @@ count-block (suc n) k q l =
     placed e f = unfold exitPlace in (omega arith)
 
 -- Marking a step k that has no strong link left: its own exits become pending.
-pub record AtZero (h : ℕ → ℕ) (left marks : List ℕ) (pending : ℕ → ℕ) (k : ℕ) : Type 0 where
-  pub left-size : length left ≡ places
+pub record AtZero (t : Table) (counts left marks : List ℕ) (pending : ℕ → ℕ) (k : ℕ) : Type 0 where
+  pub left-size : length left ≡ places * counters
   pub marks-size : length marks ≡ places
-  pub exact : (j : ℕ) → j < places → getD left j 0 ≡ pointingKept h marks j + pending j
-  pub quiet : (j : ℕ) → isMarked marks j ≡ true → getD left j 0 ≡ 0
-  pub busy : (j : ℕ) → j < places → (j ≡ k → ⊥) → isMarked marks j ≡ false → 0 < pointing h j → 0 < getD left j 0
   pub binary : (j : ℕ) → getD marks j 0 < 2
+  pub account : getD left 0 0 ≡ 0 → (q : ℕ) → 0 < q → q < places * counters →
+      getD left q 0 + landing (slotAt t) q ≡ getD counts q 0 + landingKept (slotAt t) marks q + pending q
+  pub quiet : (j : ℕ) → 0 < j → isMarked marks j ≡ true → getD left (ownSlot t j) 0 ≡ 0
+  pub busy : (j : ℕ) → 0 < j → j < places → (j ≡ k → ⊥) → isMarked marks j ≡ false → 0 < getD counts (ownSlot t j) 0 → 0 < getD left (ownSlot t j) 0
+  pub clean : Exact t counts → getD left 0 0 ≡ 0
   pub rank : ℕ → ℕ
   pub top : ℕ
   pub below : (j : ℕ) → isMarked marks j ≡ true → rank j < top
-  pub rising : (p j : ℕ) → p < places * exits → points h p j ≡ true → isMarked marks j ≡ true →
+  pub rising : Exact t counts → (p j : ℕ) → p < places * exits → lands (slotAt t) p (ownSlot t j) ≡ true → isMarked marks j ≡ true →
       (isMarked marks (p / exits) ≡ true) × (rank (p / exits) < rank j)
   pub low : k < places
   pub fresh : isMarked marks k ≡ false
-  pub zero : getD left k 0 ≡ 0
+  pub zero : 0 < k → getD left (ownSlot t k) 0 ≡ 0
+  -- all strong links to it are of marked steps
+  pub sources : Exact t counts → (p : ℕ) → p < places * exits → lands (slotAt t) p (ownSlot t k) ≡ true → isMarked marks (p / exits) ≡ true
 
 module _ (h : ℕ → ℕ) where
-  pub points-target : (p j : ℕ) → points h p j ≡ true → (h p ≡ j) × (j ≡ 0 → ⊥)
-  unfolding points
-  points-target p j t = (eqb-true _ _ (and-right (not (eqb j 0)) _ t), eqb-false j 0 (not-true-false _ (and-left (not (eqb j 0)) _ t)))
+  lands-other : (p q : ℕ) → (h p ≡ q → ⊥) → lands h p q ≡ false
+  lands-other p q d = refute _ (λ t. d (lands-target h p q t .0))
 
-  pub points-intro : (p j : ℕ) → h p ≡ j → (j ≡ 0 → ⊥) → points h p j ≡ true
-  unfolding points
-  points-intro p j e d = and-intro (ap not (ne-eqb j 0 d)) (eq-eqb _ _ e)
-
-  points-other : (p j : ℕ) → (h p ≡ j → ⊥) → points h p j ≡ false
-  points-other p j d = refute _ (λ t. d (points-target p j t .0))
-
-  at-none : (p j : ℕ) → h p ≡ 0 → at h p j ≡ 0
+  at-none : (p q : ℕ) → h p ≡ 0 → at h p q ≡ 0
   unfolding at
-  at-none p j z = ap one (refute (points h p j) (λ t. let r = points-target p j t in r .1 (sym (r .0) ∙ z)))
+  at-none p q z = ap one (refute (lands h p q) (λ t. let r = lands-target h p q t in r .1 (sym (r .0) ∙ z)))
 
-  at-same : (p : ℕ) → (h p ≡ 0 → ⊥) → at h p (h p) ≡ 1
+  at-same : (p q : ℕ) → h p ≡ q → 0 < q → at h p q ≡ 1
   unfolding at
-  at-same p d = ap one (points-intro p (h p) refl d)
+  at-same p q e d = ap one (lands-intro h p q e (λ z. omega arith))
 
-  at-other : (p j : ℕ) → (j ≡ h p → ⊥) → at h p j ≡ 0
+  at-other : (p q x : ℕ) → h p ≡ q → (x ≡ q → ⊥) → at h p x ≡ 0
   unfolding at
-  at-other p j d = ap one (points-other p j (λ e. d (sym e)))
+  at-other p q x e d = ap one (lands-other p x (λ y. d (sym y ∙ e)))
 
-  rest-all : (i j : ℕ) → rest h i 0 j ≡ count exits (λ f. points h (exitPlace i f) j)
+  rest-all : (i q : ℕ) → rest h i 0 q ≡ count exits (λ f. lands h (exitPlace i f) q)
   unfolding rest
-  rest-all i j = let z = count-zero (λ f. points h (exitPlace i f) j) in omega arith
+  rest-all i q = let z = count-zero (λ f. lands h (exitPlace i f) q) in omega arith
 
-  pub rest-none : (i j : ℕ) → rest h i exits j ≡ 0
+  pub rest-none : (i q : ℕ) → rest h i exits q ≡ 0
   unfolding rest
-  rest-none i j = omega arith
+  rest-none i q = omega arith
 
-  pub rest-step : (i e j : ℕ) → e < exits → rest h i e j ≡ at h (exitPlace i e) j + rest h i (suc e) j
+  pub rest-step : (i e q : ℕ) → e < exits → rest h i e q ≡ at h (exitPlace i e) q + rest h i (suc e) q
   unfolding rest at count
-  rest-step i e j l =
-      let m = count-grows (λ f. points h (exitPlace i f) j) (suc e) exits l in
+  rest-step i e q l =
+      let m = count-grows (λ f. lands h (exitPlace i f) q) (suc e) exits l in
       omega arith
 
-  pub search-ext : {left marks : List ℕ} {a b : ℕ → ℕ} → ((j : ℕ) → a j ≡ b j) → Search h left marks a → Search h left marks b
-  search-ext {left} {marks} f s =
+module _ (t : Table) where
+  pub search-ext : {counts left marks : List ℕ} {a b : ℕ → ℕ} → ((q : ℕ) → a q ≡ b q) → Search t counts left marks a → Search t counts left marks b
+  search-ext {counts} {left} {marks} f s =
       record {
         left-size = s .left-size;
         marks-size = s .marks-size;
-        exact = λ j l. s .exact j l ∙ ap (λ (x : ℕ). pointingKept h marks j + x) (f j);
+        binary = s .binary;
+        account = λ z q d l. s .account z q d l ∙ ap (λ (x : ℕ). getD counts q 0 + landingKept (slotAt t) marks q + x) (f q);
         quiet = s .quiet;
         busy = s .busy;
-        binary = s .binary;
+        clean = s .clean;
         rank = s .rank;
         top = s .top;
         low = s .low;
         rising = s .rising;
       }
 
-  pub search-skip : (left marks : List ℕ) (p : ℕ) → h p ≡ 0 → (pending : ℕ → ℕ) → Search h left marks (λ j. pending j + at h p j) → Search h left marks pending
-  search-skip left marks p z pending = search-ext (λ j. let a = at-none p j z in omega arith)
+  pub search-skip : (counts left marks : List ℕ) (p : ℕ) → slotAt t p ≡ 0 → (pending : ℕ → ℕ) →
+      Search t counts left marks (λ q. pending q + at (slotAt t) p q) → Search t counts left marks pending
+  search-skip counts left marks p z pending = search-ext (λ q. let a = at-none (slotAt t) p q z in omega arith)
 
-  module _ (left marks : List ℕ) (p : ℕ) (d : h p ≡ 0 → ⊥) (low : h p < places) (pending : ℕ → ℕ)
-      (s : Search h left marks (λ j. pending j + at h p j)) where
-    abbrev k : ℕ
-    k = h p
+  -- One link, which counts in the counter at place k.
+  module _ (counts left marks : List ℕ) (p k : ℕ) (here : slotAt t p ≡ k) (high : counters ≤ k) (low : k < places * counters) (pending : ℕ → ℕ)
+      (s : Search t counts left marks (λ q. pending q + at (slotAt t) p q)) where
+    account-here : getD left 0 0 ≡ 0 → getD left k 0 + landing (slotAt t) k ≡ getD counts k 0 + landingKept (slotAt t) marks k + pending k + 1
+    account-here z = let a = at-same (slotAt t) p k here (omega arith) in let e = s .account z k (omega arith) low in omega arith
 
-    -- what is left of the target's strong links counts this one
-    pub left-some : getD left k 0 ≡ pointingKept h marks k + pending k + 1
-    left-some = let e = s .exact k low in let a = at-same p d in omega arith
+    account-there : getD left 0 0 ≡ 0 → (q : ℕ) → 0 < q → q < places * counters → (q ≡ k → ⊥) →
+        getD left q 0 + landing (slotAt t) q ≡ getD counts q 0 + landingKept (slotAt t) marks q + pending q
+    account-there z q d l c = s .account z q d l ∙ (let a = at-other (slotAt t) p k q here c in omega arith)
 
-    -- so the target is not marked
-    pub target-unmarked : isMarked marks k ≡ false
-    target-unmarked = refute _ (λ m. let q = s .quiet k m in let e = left-some in omega arith)
-
-    place : k < length left
-    place = rw (s .left-size) low
+    -- with exact counters this one is not 0
+    pub left-some : Exact t counts → 0 < getD left k 0
+    left-some x = let e = account-here (s .clean x) in let y = x k low in omega arith
 
     set-here : (x : ℕ) → getD (set left k x) k 0 ≡ x
-    set-here x = getD-set-same left k x 0 place
+    set-here x = getD-set-same left k x 0 (rw (s .left-size) low)
 
-    set-there : (x j : ℕ) → (j ≡ k → ⊥) → getD (set left k x) j 0 ≡ getD left j 0
-    set-there x j c = getD-set-other left k j x 0 c
+    set-there : (x q : ℕ) → (q ≡ k → ⊥) → getD (set left k x) q 0 ≡ getD left q 0
+    set-there x q c = getD-set-other left k q x 0 c
 
-    pub search-lower : (n : ℕ) → n + 1 ≡ getD left k 0 → (n ≡ 0 → ⊥) → Search h (set left k n) marks pending
-    search-lower n e z =
+    set-first : (x : ℕ) → getD (set left k x) 0 0 ≡ getD left 0 0
+    set-first x = set-there x 0 (λ e. omega arith)
+
+    over-there : (q : ℕ) → (q ≡ 0 → ⊥) → getD (set left 0 1) q 0 ≡ getD left q 0
+    over-there q c = getD-set-other left 0 q 1 0 c
+
+    -- a link too many: counter 0 tells it
+    pub search-over : getD left k 0 ≡ 0 → Search t counts (set left 0 1) marks pending
+    search-over z =
         record {
-          left-size = length-set left k n ∙ s .left-size;
+          left-size = length-set left 0 1 ∙ s .left-size;
           marks-size = s .marks-size;
-          exact =
-              λ j l.
-              ⊎-elim
-              (λ (q : j ≡ k). rw q (set-here n ∙ (let a = left-some in omega arith)))
-              (λ (c : j ≡ k → ⊥). set-there n j c ∙ s .exact j l ∙ (let a = at-other p j c in omega arith))
-              (eq-or-ne j k);
-          quiet = λ j m. set-there n j (λ q. clash (rw q at m) target-unmarked) ∙ s .quiet j m;
-          busy =
-              λ j l m b.
-              ⊎-elim
-              (λ (q : j ≡ k). rw (q, set-here n) (omega arith))
-              (λ (c : j ≡ k → ⊥). rw (set-there n j c) (s .busy j l m b))
-              (eq-or-ne j k);
           binary = s .binary;
+          account =
+              λ e.
+              let o : getD (set left 0 1) 0 0 ≡ 1 = getD-set-same left 0 1 0 (rw (s .left-size) (omega arith)) in
+              absurd (omega arith);
+          quiet = λ j d m. over-there (ownSlot t j) (λ e. let a = own-slot-above t j d in omega arith) ∙ s .quiet j d m;
+          busy = λ j d l m b. rw (over-there (ownSlot t j) (λ e. let a = own-slot-above t j d in omega arith)) (s .busy j d l m b);
+          clean = λ x. let n = left-some x in absurd (omega arith);
           rank = s .rank;
           top = s .top;
           low = s .low;
           rising = s .rising;
         }
 
-    -- the last link: the target has none left, and nothing else has changed
-    pub last-zero : getD left k 0 ≡ 1 → AtZero h (set left k 0) marks pending k
-    last-zero last =
-        record {
-          left-size = length-set left k 0 ∙ s .left-size;
-          marks-size = s .marks-size;
-          exact =
-              λ j l.
-              ⊎-elim
-              (λ (q : j ≡ k). rw q (set-here 0 ∙ (let a = left-some in omega arith)))
-              (λ (c : j ≡ k → ⊥). set-there 0 j c ∙ s .exact j l ∙ (let a = at-other p j c in omega arith))
-              (eq-or-ne j k);
-          quiet = λ j m. set-there 0 j (λ q. clash (rw q at m) target-unmarked) ∙ s .quiet j m;
-          busy = λ j l c m b. rw (set-there 0 j c) (s .busy j l m b);
-          binary = s .binary;
-          rank = s .rank;
-          top = s .top;
-          below = s .low;
-          rising = s .rising;
-          low = low;
-          fresh = target-unmarked;
-          zero = set-here 0;
-        }
+    -- the counter falls to n
+    module _ (n : ℕ) (e : n + 1 ≡ getD left k 0) where
+      lower-account : getD (set left k n) 0 0 ≡ 0 → (q : ℕ) → 0 < q → q < places * counters →
+          getD (set left k n) q 0 + landing (slotAt t) q ≡ getD counts q 0 + landingKept (slotAt t) marks q + pending q
+      lower-account z q d l =
+          ⊎-elim
+          (λ (c : q ≡ k). rw c (let a = account-here (sym (set-first n) ∙ z) in let b = set-here n in omega arith))
+          (λ (c : q ≡ k → ⊥). let a = account-there (sym (set-first n) ∙ z) q d l c in let b = set-there n q c in omega arith)
+          (eq-or-ne q k)
+
+      -- it is not that of a marked step's own bit
+      lower-unmarked : (j : ℕ) → 0 < j → isMarked marks j ≡ true → ownSlot t j ≡ k → ⊥
+      lower-unmarked j d m q = let a : getD left k 0 ≡ 0 = sym (ap (λ (x : ℕ). getD left x 0) q) ∙ s .quiet j d m in omega arith
+
+      lower-quiet : (j : ℕ) → 0 < j → isMarked marks j ≡ true → getD (set left k n) (ownSlot t j) 0 ≡ 0
+      lower-quiet j d m = set-there n (ownSlot t j) (lower-unmarked j d m) ∙ s .quiet j d m
+
+      lower-clean : Exact t counts → getD (set left k n) 0 0 ≡ 0
+      lower-clean x = set-first n ∙ s .clean x
+
+      -- a step that loses its last strong link is not passed over
+      pub search-lower : ((j : ℕ) → n ≡ 0 → ownSlot t j ≡ k → ⊥) → Search t counts (set left k n) marks pending
+      search-lower more =
+          record {
+            left-size = length-set left k n ∙ s .left-size;
+            marks-size = s .marks-size;
+            binary = s .binary;
+            account = lower-account;
+            quiet = lower-quiet;
+            busy =
+                λ j d l m b.
+                ⊎-elim
+                (λ (c : ownSlot t j ≡ k). rw (c, set-here n) (⊎-elim (λ z. absurd (more j z c)) (λ (z : n ≡ 0 → ⊥). omega arith) (eq-or-ne n 0)))
+                (λ (c : ownSlot t j ≡ k → ⊥). rw (set-there n (ownSlot t j) c) (s .busy j d l m b))
+                (eq-or-ne (ownSlot t j) k);
+            clean = lower-clean;
+            rank = s .rank;
+            top = s .top;
+            low = s .low;
+            rising = s .rising;
+          }
+
+      -- the last strong link of step j: it has none left, and no other step is touched
+      pub last-zero : n ≡ 0 → (j : ℕ) → 0 < j → j < places → ownSlot t j ≡ k → ((i : ℕ) → ownSlot t i ≡ k → i ≡ j) →
+          AtZero t counts (set left k n) marks pending j
+      unfolding landingKept
+      last-zero z j d l q only =
+          record {
+            left-size = length-set left k n ∙ s .left-size;
+            marks-size = s .marks-size;
+            binary = s .binary;
+            account = lower-account;
+            quiet = lower-quiet;
+            busy = λ i di li c m b. rw (set-there n (ownSlot t i) (λ y. c (only i y))) (s .busy i di li m b);
+            clean = lower-clean;
+            rank = s .rank;
+            top = s .top;
+            below = s .low;
+            rising = s .rising;
+            low = l;
+            fresh = refute _ (λ m. lower-unmarked j d m q);
+            zero = λ o. rw q (set-here n ∙ z);
+            sources =
+                λ x r lr y.
+                ⊎-elim (λ m. m)
+                (λ m.
+                let yk : lands (slotAt t) r k ≡ true = rw q at y in
+                let c : 0 < landingKept (slotAt t) marks k =
+                count-pos (places * exits) (λ i. lands (slotAt t) i k && not (isMarked marks (i / exits))) r lr (and-intro yk (ap not m)) in
+                let a = account-here (s .clean x) in
+                let b = x k low in
+                absurd (omega arith))
+                (test (isMarked marks (r / exits)));
+          }
 
 -- Marking it.
-module _ {h : ℕ → ℕ} {left marks : List ℕ} {pending : ℕ → ℕ} {k : ℕ} (s : AtZero h left marks pending k) where
+module _ {t : Table} {counts left marks : List ℕ} {pending : ℕ → ℕ} {k : ℕ} (s : AtZero t counts left marks pending k) where
+  abbrev h : ℕ → ℕ
+  h = slotAt t
+
   mark-place : k < length marks
   mark-place = rw (s .marks-size) (s .low)
 
@@ -222,38 +274,42 @@ module _ {h : ℕ → ℕ} {left marks : List ℕ} {pending : ℕ → ℕ} {k : 
   pub marked-next : (j : ℕ) → isMarked (set marks k 1) j ≡ true → (j ≡ k) ⊎ (isMarked marks j ≡ true)
   marked-next j m = ⊎-elim (λ q. inl q) (λ c. inr (sym (mark-there j c) ∙ m)) (eq-or-ne j k)
 
-  -- its strong links are no longer those of a step that is not marked
-  kept-falls : (j : ℕ) → pointingKept h marks j ≡ pointingKept h (set marks k 1) j + rest h k 0 j
-  unfolding pointingKept
-  kept-falls j =
-      let split = count-split (places * exits) (λ q. points h q j && not (isMarked marks (q / exits))) (λ q. eqb (q / exits) k) in
-      let own : count (places * exits) (λ q. (points h q j && not (isMarked marks (q / exits))) && eqb (q / exits) k) ≡ count exits (λ f. points h (exitPlace k f) j) =
+  -- its links are no longer those of a step that is not marked
+  kept-falls : (x : ℕ) → landingKept h marks x ≡ landingKept h (set marks k 1) x + rest h k 0 x
+  unfolding landingKept
+  kept-falls x =
+      let split = count-split (places * exits) (λ q. lands h q x && not (isMarked marks (q / exits))) (λ q. eqb (q / exits) k) in
+      let own : count (places * exits) (λ q. (lands h q x && not (isMarked marks (q / exits))) && eqb (q / exits) k) ≡
+      count exits (λ f. lands h (exitPlace k f) x) =
       count-ext (places * exits) _ _
       (λ q l.
       same-test _ _
-      (λ t. and-intro (and-left (points h q j) _ (and-left (points h q j && not (isMarked marks (q / exits))) _ t)) (and-right (points h q j && not (isMarked marks (q / exits))) _ t))
       (λ t.
-      let here : q / exits ≡ k = eqb-true (q / exits) k (and-right (points h q j) _ t) in
+      and-intro (and-left (lands h q x) _ (and-left (lands h q x && not (isMarked marks (q / exits))) _ t))
+      (and-right (lands h q x && not (isMarked marks (q / exits))) _ t))
+      (λ t.
+      let here : q / exits ≡ k = eqb-true (q / exits) k (and-right (lands h q x) _ t) in
       let un : isMarked marks (q / exits) ≡ false = rw here (s .fresh) in
-      and-intro (and-intro (and-left (points h q j) _ t) (ap not un)) (and-right (points h q j) _ t)))
-      ∙ count-block places k (λ q. points h q j) (s .low) in
-      let others : count (places * exits) (λ q. (points h q j && not (isMarked marks (q / exits))) && not (eqb (q / exits) k)) ≡ count (places * exits) (λ q. points h q j && not (isMarked (set marks k 1) (q / exits))) =
+      and-intro (and-intro (and-left (lands h q x) _ t) (ap not un)) (and-right (lands h q x) _ t)))
+      ∙ count-block places k (λ q. lands h q x) (s .low) in
+      let others : count (places * exits) (λ q. (lands h q x && not (isMarked marks (q / exits))) && not (eqb (q / exits) k)) ≡
+      count (places * exits) (λ q. lands h q x && not (isMarked (set marks k 1) (q / exits))) =
       count-ext (places * exits) _ _
       (λ q l.
       ⊎-elim
       (λ (e : q / exits ≡ k).
       let m : isMarked (set marks k 1) (q / exits) ≡ true = rw e mark-here in
       same-test _ _
-      (λ t. clash (eq-eqb _ _ e) (not-true-false _ (and-right (points h q j && not (isMarked marks (q / exits))) _ t)))
-      (λ t. clash m (not-true-false _ (and-right (points h q j) _ t))))
+      (λ t. clash (eq-eqb _ _ e) (not-true-false _ (and-right (lands h q x && not (isMarked marks (q / exits))) _ t)))
+      (λ t. clash m (not-true-false _ (and-right (lands h q x) _ t))))
       (λ (c : q / exits ≡ k → ⊥).
       let m = mark-there (q / exits) c in
       let n : eqb (q / exits) k ≡ false = ne-eqb _ _ c in
       same-test _ _
-      (λ t. rw m (and-left (points h q j && not (isMarked marks (q / exits))) _ t))
+      (λ t. rw m (and-left (lands h q x && not (isMarked marks (q / exits))) _ t))
       (λ t. and-intro (rw m at t) (ap not n)))
       (eq-or-ne (q / exits) k)) in
-      let all = rest-all h k j in
+      let all = rest-all h k x in
       omega arith
 
   -- the rank of the marked steps, with the new one above them
@@ -268,37 +324,24 @@ module _ {h : ℕ → ℕ} {left marks : List ℕ} {pending : ℕ → ℕ} {k : 
   unfolding raised
   raised-there j m = let e : eqb j k ≡ false = refute (eqb j k) (λ q. clash m (rw (eqb-true j k q) (s .fresh))) in rw (e, raised)
 
-  none-kept : (pointingKept h marks k ≡ 0) × (pending k ≡ 0)
-  none-kept = let e = s .exact k (s .low) in let z = s .zero in (omega arith, omega arith)
-
-  -- all strong links to it are of marked steps
-  sources-marked : (q : ℕ) → q < places * exits → points h q k ≡ true → isMarked marks (q / exits) ≡ true
-  unfolding pointingKept
-  sources-marked q l t =
-      ⊎-elim (λ m. m)
-      (λ m.
-      let c = count-pos (places * exits) (λ q. points h q k && not (isMarked marks (q / exits))) q l (and-intro t (ap not m)) in
-      let z = none-kept .0 in
-      absurd (omega arith))
-      (test (isMarked marks (q / exits)))
-
-  pub search-mark : Search h left (set marks k 1) (λ j. pending j + rest h k 0 j)
+  pub search-mark : Search t counts left (set marks k 1) (λ q. pending q + rest h k 0 q)
   search-mark =
       record {
         left-size = s .left-size;
         marks-size = length-set marks k 1 ∙ s .marks-size;
-        exact = λ j l. s .exact j l ∙ (let f = kept-falls j in omega arith);
-        quiet = λ j m. ⊎-elim (λ (q : j ≡ k). rw q (s .zero)) (λ o. s .quiet j o) (marked-next j m);
-        busy =
-            λ j l m b.
-            let c : j ≡ k → ⊥ = λ q. clash mark-here (rw q at m) in
-            s .busy j l c (sym (mark-there j c) ∙ m) b;
         binary =
             λ j.
             ⊎-elim
             (λ (q : j ≡ k). rw (q, getD-set-same marks k 1 0 mark-place) (omega arith))
             (λ c. rw (getD-set-other marks k j 1 0 c) (s .binary j))
             (eq-or-ne j k);
+        account = λ z q d l. s .account z q d l ∙ (let f = kept-falls q in omega arith);
+        quiet = λ j d m. ⊎-elim (λ (q : j ≡ k). rw q (s .zero (rw q at d))) (λ o. s .quiet j d o) (marked-next j m);
+        busy =
+            λ j d l m b.
+            let c : j ≡ k → ⊥ = λ q. clash mark-here (rw q at m) in
+            s .busy j d l c (sym (mark-there j c) ∙ m) b;
+        clean = s .clean;
         rank = raised;
         top = suc (s .top);
         low =
@@ -307,13 +350,13 @@ module _ {h : ℕ → ℕ} {left marks : List ℕ} {pending : ℕ → ℕ} {k : 
             (λ o. rw (raised-there j o) (let l = s .below j o in omega arith))
             (marked-next j m);
         rising =
-            λ q j l t m.
+            λ x q j l t m.
             ⊎-elim
             (λ (e : j ≡ k).
-            let o = sources-marked q l (rw e at t) in
+            let o = s .sources x q l (rw e at t) in
             (mark-grows (q / exits) o, rw (e, raised-here, raised-there (q / exits) o) (s .below (q / exits) o)))
             (λ o.
-            let r = s .rising q j l t o in
+            let r = s .rising x q j l t o in
             (mark-grows (q / exits) (r .0), rw (raised-there (q / exits) (r .0), raised-there j o) (r .1)))
             (marked-next j m);
       }
@@ -322,7 +365,8 @@ module _ {h : ℕ → ℕ} {left marks : List ℕ} {pending : ℕ → ℕ} {k : 
   pub unmarked-falls : unmarked (set marks k 1) + 1 ≡ unmarked marks
   unfolding unmarked
   unmarked-falls =
-      let c = count-change places (λ j. not (isMarked marks j)) (λ j. not (isMarked (set marks k 1) j)) k (s .low) (λ i l c. ap not (mark-there i c)) in
+      let c = count-change places (λ j. not (isMarked marks j)) (λ j. not (isMarked (set marks k 1) j)) k (s .low)
+      (λ i l c. ap not (mark-there i c)) in
       let x : one (not (isMarked marks k)) ≡ 1 = ap (λ (b : Bool). one (not b)) (s .fresh) in
       let y : one (not (isMarked (set marks k 1) k)) ≡ 0 = ap (λ (b : Bool). one (not b)) mark-here in
       omega arith
@@ -332,159 +376,176 @@ unfolding unmarked
 unmarked-mono marks marks′ f =
     count-mono places _ _ (λ j l t. ap not (refute (isMarked marks j) (λ m. clash (f j m) (not-true-false _ t))))
 
--- the head of an exit, by what it holds
-pub head-empty : (targets bits own : List ℕ) (p : ℕ) → getD targets p 0 ≡ 0 → headAt targets bits own p ≡ 0
-unfolding headAt
-head-empty targets bits own p z = rw (eq-eqb _ _ z)
+-- What one call does, by its cases: the exit at place p holds the target j and the bit b.
+module _ (t : Table) (r : Ranged t) (p j : ℕ) (ej : j ≡ getD (t .targets) p 0) where
+  pub target-below : j < places
+  target-below = rw ej (r .targets p)
 
-pub head-strong : (targets bits own : List ℕ) (p : ℕ) → (getD targets p 0 ≡ 0 → ⊥) → getD bits p 0 ≡ getD own (getD targets p 0) 0 →
-    headAt targets bits own p ≡ getD targets p 0
-unfolding headAt
-head-strong targets bits own p d e = rw (ne-eqb _ _ d, eq-eqb _ _ e)
-
-pub head-weak : (targets bits own : List ℕ) (p : ℕ) → (getD bits p 0 ≡ getD own (getD targets p 0) 0 → ⊥) → headAt targets bits own p ≡ 0
-unfolding headAt
-head-weak targets bits own p d =
-    ⊎-elim
-    (λ (z : getD targets p 0 ≡ 0). rw (eq-eqb _ _ z))
-    (λ (c : getD targets p 0 ≡ 0 → ⊥). rw (ne-eqb _ _ c, ne-eqb _ _ d))
-    (eq-or-ne (getD targets p 0) 0)
-
-pub head-below : (targets bits own : List ℕ) (p : ℕ) → getD targets p 0 < places → headAt targets bits own p < places
-head-below targets bits own p l =
-    ⊎-elim
-    (λ (z : getD targets p 0 ≡ 0). rw (head-empty targets bits own p z) (omega arith))
-    (λ (d : getD targets p 0 ≡ 0 → ⊥).
-    ⊎-elim (λ e. rw (head-strong targets bits own p d e) l) (λ c. rw (head-weak targets bits own p c) (omega arith)) (eq-or-ne (getD bits p 0) (getD own (getD targets p 0) 0)))
-    (eq-or-ne (getD targets p 0) 0)
-
--- What one call does, by its cases: k is the head of the exit at place p.
-module _ (h : ℕ → ℕ) (left marks : List ℕ) (p k : ℕ) (e : k ≡ h p) where
-  pub withdrawn-skip : k ≡ 0 → Withdrawn h left marks left marks (at h p)
-  withdrawn-skip z =
+  pub withdrawn-skip : (left marks : List ℕ) → j ≡ 0 → Withdrawn t left marks left marks (at (slotAt t) p)
+  withdrawn-skip left marks z =
       record {
-        after = search-skip h left marks p (sym e ∙ z);
-        grown = λ j m. m;
-        new = λ j m. inl m;
+        after = λ counts pending s. search-skip t counts left marks p (slot-empty t p (sym ej ∙ z)) pending s;
+        grown = λ i m. m;
+        new = λ i m. inl m;
       }
 
-  module _ (d : k ≡ 0 → ⊥) (low : k < places) (some : Pending h left marks (at h p)) where
-    head-some : h p ≡ 0 → ⊥
-    head-some z = d (e ∙ z)
+  module _ (d : j ≡ 0 → ⊥) (b : ℕ) (eb : b ≡ getD (t .bits) p 0) where
+    abbrev k : ℕ
+    k = counterPlace j b
 
-    head-low : h p < places
-    head-low = rw (sym e) low
+    bit-below : b < counters
+    bit-below = rw eb (r .bits p)
 
-    pub left-positive : 1 ≤ getD left k 0
-    left-positive = rw e (let a = left-some h left marks p head-some head-low (some .0) (some .1) in omega arith)
+    here : slotAt t p ≡ k
+    here = slot-link t p (λ z. d (ej ∙ z)) ∙ rw (ej, eb)
 
-    pub withdrawn-lower : (getD left k 0 - 1 ≡ 0 → ⊥) → Withdrawn h left marks (set left k (getD left k 0 - 1)) marks (at h p)
-    withdrawn-lower z =
-        rw e
-        (record {
-          after =
-              λ pending s.
-              let a = left-some h left marks p head-some head-low pending s in
-              search-lower h left marks p head-some head-low pending s (getD left (h p) 0 - 1) (omega arith) (rw e at z);
-          grown = λ j m. m;
-          new = λ j m. inl m;
-        })
+    high : counters ≤ k
+    unfolding counterPlace
+    high = omega arith
 
-    module _ (last : getD left k 0 - 1 ≡ 0) where
-      one-left : getD left (h p) 0 ≡ 1
-      one-left = let a = left-some h left marks p head-some head-low (some .0) (some .1) in let b : getD left (h p) 0 - 1 ≡ 0 = rw e at last in omega arith
+    pub counter-below : k < places * counters
+    counter-below = counter-place-below j b bit-below target-below
 
-      at-zero : AtZero h (set left (h p) 0) marks (some .0) (h p)
-      at-zero = last-zero h left marks p head-some head-low (some .0) (some .1) one-left
+    -- only a step whose own bit it is has its strong links there
+    own-here : (i : ℕ) → ownSlot t i ≡ k → (i ≡ j) × (ownBit t i ≡ b)
+    own-here i e = own-slot-place t r i j b bit-below e
 
-      marked-search : (pending : ℕ → ℕ) → Search h left marks (λ j. pending j + at h p j) →
-          Search h (set left k (getD left k 0 - 1)) (set marks k 1) (λ j. pending j + rest h k 0 j)
-      marked-search pending s = rw (last, e) (search-mark (last-zero h left marks p head-some head-low pending s one-left))
-
-      pub marked-pending : Pending h (set left k (getD left k 0 - 1)) (set marks k 1) (rest h k 0)
-      marked-pending = (some .0, marked-search (some .0) (some .1))
-
-      pub marked-falls : unmarked (set marks k 1) + 1 ≡ unmarked marks
-      marked-falls = rw e (unmarked-falls at-zero)
-
-      pub withdrawn-mark : p < places * exits → (left′ marks′ : List ℕ) →
-          Withdrawn h (set left k (getD left k 0 - 1)) (set marks k 1) left′ marks′ (rest h k 0) → Withdrawn h left marks left′ marks′ (at h p)
-      unfolding pointing
-      withdrawn-mark lp left′ marks′ w =
+    module _ (left marks : List ℕ) where
+      pub withdrawn-over : getD left k 0 ≡ 0 → Withdrawn t left marks (set left 0 1) marks (at (slotAt t) p)
+      withdrawn-over z =
           record {
-            after = λ pending s. w .after pending (marked-search pending s);
-            grown = λ j m. w .grown j (rw e (mark-grows at-zero j m));
-            new =
-                λ j m.
-                ⊎-elim
-                (λ o.
-                ⊎-elim
-                (λ (q : j ≡ h p). inr (rw q (count-pos (places * exits) (λ x. points h x (h p)) p lp (points-intro h p (h p) refl head-some))))
-                (λ u. inl u)
-                (marked-next at-zero j (rw e at o)))
-                (λ u. inr u)
-                (w .new j m);
+            after = λ counts pending s. search-over t counts left marks p k here high counter-below pending s z;
+            grown = λ i m. m;
+            new = λ i m. inl m;
           }
 
+      pub withdrawn-lower : (getD left k 0 ≡ 0 → ⊥) → (getD left k 0 ≡ 1 → b ≡ ownBit t j → ⊥) →
+          Withdrawn t left marks (set left k (getD left k 0 - 1)) marks (at (slotAt t) p)
+      withdrawn-lower some more =
+          record {
+            after =
+                λ counts pending s.
+                search-lower t counts left marks p k here high counter-below pending s (getD left k 0 - 1) (omega arith)
+                (λ i z e. let o = own-here i e in more (omega arith) (sym (o .1) ∙ ap (ownBit t) (o .0)));
+            grown = λ i m. m;
+            new = λ i m. inl m;
+          }
+
+      -- the last strong link of j
+      module _ (last : getD left k 0 ≡ 1) (own : b ≡ ownBit t j) where
+        at-zero : (counts : List ℕ) (pending : ℕ → ℕ) → Search t counts left marks (λ q. pending q + at (slotAt t) p q) →
+            AtZero t counts (set left k (getD left k 0 - 1)) marks pending j
+        unfolding ownSlot
+        at-zero counts pending s =
+            last-zero t counts left marks p k here high counter-below pending s (getD left k 0 - 1) (omega arith)
+            (omega arith) j (omega arith) target-below
+            (ap (counterPlace j) (sym own))
+            (λ i e. own-here i e .0)
+
+        pub marked-pending : ((counts : List ℕ) × Pending t counts left marks (at (slotAt t) p)) →
+            ((counts : List ℕ) × Pending t counts (set left k (getD left k 0 - 1)) (set marks j 1) (rest (slotAt t) j 0))
+        marked-pending some = (some .0, (some .1 .0, search-mark (at-zero (some .0) (some .1 .0) (some .1 .1))))
+
+        pub marked-falls : ((counts : List ℕ) × Pending t counts left marks (at (slotAt t) p)) → unmarked (set marks j 1) + 1 ≡ unmarked marks
+        marked-falls some = unmarked-falls (at-zero (some .0) (some .1 .0) (some .1 .1))
+
+        pub withdrawn-mark : p < places * exits → ((counts : List ℕ) × Pending t counts left marks (at (slotAt t) p)) → (left′ marks′ : List ℕ) →
+            Withdrawn t (set left k (getD left k 0 - 1)) (set marks j 1) left′ marks′ (rest (slotAt t) j 0) →
+            Withdrawn t left marks left′ marks′ (at (slotAt t) p)
+        unfolding landing ownSlot
+        withdrawn-mark lp some left′ marks′ w =
+            let a = at-zero (some .0) (some .1 .0) (some .1 .1) in
+            record {
+              after = λ counts pending s. w .after counts pending (search-mark (at-zero counts pending s));
+              grown = λ i m. w .grown i (mark-grows a i m);
+              new =
+                  λ i m.
+                  ⊎-elim
+                  (λ o.
+                  ⊎-elim
+                  (λ (q : i ≡ j).
+                  let e : slotAt t p ≡ ownSlot t i = here ∙ rw (q, own) in
+                  let c = lands-intro (slotAt t) p (ownSlot t i) e (λ z. let y = own-slot-above t i (omega arith) in omega arith) in
+                  inr (omega arith, count-pos (places * exits) (λ x. lands (slotAt t) x (ownSlot t i)) p lp c))
+                  (λ u. inl u)
+                  (marked-next a i o))
+                  (λ u. inr u)
+                  (w .new i m);
+            }
+
 -- Withdrawing a step, after its first e exits
-pub record Upto (h : ℕ → ℕ) (i : ℕ) (left₀ marks₀ : List ℕ) (e : ℕ) (left marks : List ℕ) : Type 0 where
-  pub after : (pending : ℕ → ℕ) → Search h left₀ marks₀ (λ j. pending j + rest h i 0 j) → Search h left marks (λ j. pending j + rest h i e j)
+pub record Upto (t : Table) (i : ℕ) (left₀ marks₀ : List ℕ) (e : ℕ) (left marks : List ℕ) : Type 0 where
+  pub after : (counts : List ℕ) (pending : ℕ → ℕ) → Search t counts left₀ marks₀ (λ q. pending q + rest (slotAt t) i 0 q) →
+      Search t counts left marks (λ q. pending q + rest (slotAt t) i e q)
   pub grown : (j : ℕ) → isMarked marks₀ j ≡ true → isMarked marks j ≡ true
-  pub new : (j : ℕ) → isMarked marks j ≡ true → (isMarked marks₀ j ≡ true) ⊎ (0 < pointing h j)
+  pub new : (j : ℕ) → isMarked marks j ≡ true → (isMarked marks₀ j ≡ true) ⊎ ((0 < j) × (0 < landing (slotAt t) (ownSlot t j)))
 
-pub upto-start : (h : ℕ → ℕ) (i : ℕ) (left marks : List ℕ) → Upto h i left marks 0 left marks
-upto-start h i left marks = record { after = λ pending s. s; grown = λ j m. m; new = λ j m. inl m }
+pub upto-start : (t : Table) (i : ℕ) (left marks : List ℕ) → Upto t i left marks 0 left marks
+upto-start t i left marks = record { after = λ counts pending s. s; grown = λ j m. m; new = λ j m. inl m }
 
-module _ (h : ℕ → ℕ) (i : ℕ) (left₀ marks₀ : List ℕ) (e : ℕ) (left marks : List ℕ) (u : Upto h i left₀ marks₀ e left marks) where
+module _ (t : Table) (i : ℕ) (left₀ marks₀ : List ℕ) (e : ℕ) (left marks : List ℕ) (u : Upto t i left₀ marks₀ e left marks) where
   -- the exit that is next is pending, beside those after it
-  next : e < exits → (pending : ℕ → ℕ) → Search h left₀ marks₀ (λ j. pending j + rest h i 0 j) →
-      Search h left marks (λ j. (pending j + rest h i (suc e) j) + at h (exitPlace i e) j)
-  next l pending s = search-ext h (λ j. let r = rest-step h i e j l in omega arith) (u .after pending s)
+  next : e < exits → (counts : List ℕ) (pending : ℕ → ℕ) → Search t counts left₀ marks₀ (λ q. pending q + rest (slotAt t) i 0 q) →
+      Search t counts left marks (λ q. (pending q + rest (slotAt t) i (suc e) q) + at (slotAt t) (exitPlace i e) q)
+  next l counts pending s = search-ext t (λ q. let r = rest-step (slotAt t) i e q l in omega arith) (u .after counts pending s)
 
-  pub upto-pending : e < exits → Pending h left₀ marks₀ (rest h i 0) → Pending h left marks (at h (exitPlace i e))
-  upto-pending l some = (_, next l (some .0) (some .1))
+  pub upto-pending : e < exits → ((counts : List ℕ) × Pending t counts left₀ marks₀ (rest (slotAt t) i 0)) →
+      ((counts : List ℕ) × Pending t counts left marks (at (slotAt t) (exitPlace i e)))
+  upto-pending l some = (some .0, (_, next l (some .0) (some .1 .0) (some .1 .1)))
 
-  pub upto-more : (left′ marks′ : List ℕ) → e < exits → Withdrawn h left marks left′ marks′ (at h (exitPlace i e)) → Upto h i left₀ marks₀ (suc e) left′ marks′
+  pub upto-more : (left′ marks′ : List ℕ) → e < exits → Withdrawn t left marks left′ marks′ (at (slotAt t) (exitPlace i e)) →
+      Upto t i left₀ marks₀ (suc e) left′ marks′
   upto-more left′ marks′ l w =
       record {
-        after = λ pending s. w .after (λ j. pending j + rest h i (suc e) j) (next l pending s);
+        after = λ counts pending s. w .after counts (λ q. pending q + rest (slotAt t) i (suc e) q) (next l counts pending s);
         grown = λ j m. w .grown j (u .grown j m);
         new = λ j m. ⊎-elim (λ o. u .new j o) (λ v. inr v) (w .new j m);
       }
 
-  pub upto-done : e ≡ exits → Withdrawn h left₀ marks₀ left marks (rest h i 0)
-  upto-done q =
+  pub upto-done : e ≡ exits → Withdrawn t left₀ marks₀ left marks (rest (slotAt t) i 0)
+  upto-done z =
       record {
-        after = λ pending s. search-ext h (λ j. let z = rest-none h i j in let r : rest h i e j ≡ rest h i exits j = ap (λ (x : ℕ). rest h i x j) q in omega arith) (u .after pending s);
+        after =
+            λ counts pending s.
+            search-ext t
+            (λ q.
+            let n = rest-none (slotAt t) i q in
+            let r : rest (slotAt t) i e q ≡ rest (slotAt t) i exits q = ap (λ (x : ℕ). rest (slotAt t) i x q) z in
+            omega arith)
+            (u .after counts pending s);
         grown = u .grown;
         new = u .new;
       }
 
--- A search begins with no mark, and marks a step that has no strong link.
-pub search-begin : (h : ℕ → ℕ) (left marks : List ℕ) (k : ℕ) → length left ≡ places → length marks ≡ places →
-    ((j : ℕ) → getD marks j 0 ≡ 0) → ((j : ℕ) → j < places → getD left j 0 ≡ pointing h j) → k < places → pointing h k ≡ 0 →
-    AtZero h left marks (λ j. 0) k
-search-begin h left marks k ll lm none all low z =
+-- A search begins with all counters and no mark, and marks a step that has no strong link.
+pub search-begin : (t : Table) (counts marks : List ℕ) (k : ℕ) → length counts ≡ places * counters → length marks ≡ places →
+    ((j : ℕ) → getD marks j 0 ≡ 0) → k < places → (0 < k → getD counts (ownSlot t k) 0 ≡ 0) →
+    (Exact t counts → (p : ℕ) → p < places * exits → lands (slotAt t) p (ownSlot t k) ≡ true → ⊥) →
+    AtZero t counts counts marks (λ q. 0) k
+search-begin t counts marks k ll lm none low z alone =
     record {
       left-size = ll;
       marks-size = lm;
-      exact = λ j l. all j l ∙ (let q = kept-all j in omega arith);
-      quiet = λ j m. clash m (unmarked-at j);
-      busy = λ j l c m b. rw (all j l) b;
       binary = λ j. rw (none j) (omega arith);
+      account = λ e q d l. let a = kept-all q in omega arith;
+      quiet = λ j d m. clash m (unmarked-at j);
+      busy = λ j d l c m b. b;
+      clean = λ x. x 0 (omega arith) ∙ landing-zero (slotAt t);
       rank = λ j. 0;
       top = 0;
       below = λ j m. clash m (unmarked-at j);
-      rising = λ p j l t m. clash m (unmarked-at j);
+      rising = λ x p j l y m. clash m (unmarked-at j);
       low = low;
       fresh = unmarked-at k;
-      zero = all k low ∙ z;
+      zero = z;
+      sources = λ x p l y. absurd (alone x p l y);
     }
   where
     unmarked-at : (j : ℕ) → isMarked marks j ≡ false
     unmarked-at j = unfold isMarked in (rw (none j))
 
-    kept-all : (j : ℕ) → pointingKept h marks j ≡ pointing h j
-    kept-all j =
-        unfold pointingKept pointing in
-        (count-ext (places * exits) _ _ (λ p l. same-test _ _ (λ t. and-left (points h p j) _ t) (λ t. and-intro t (ap not (unmarked-at (p / exits))))))
+    kept-all : (q : ℕ) → landingKept (slotAt t) marks q ≡ landing (slotAt t) q
+    kept-all q =
+        unfold landingKept landing in
+        (count-ext (places * exits) _ _
+        (λ p l. same-test _ _ (λ y. and-left (lands (slotAt t) p q) _ y) (λ y. and-intro y (ap not (unmarked-at (p / exits))))))

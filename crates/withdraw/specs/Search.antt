@@ -1,77 +1,92 @@
--- The search by withdrawing (document 01, "Clearing an exit", rule 2), on lists: what holds while it runs. Assumes nothing.
---   headAt targets bits own p   the step that the strong link in the exit at place p leads to; 0 where it is empty or weak
---   points h p j      that exit holds a strong link to j
---   pointing h j      the number of strong links to j; `pointingKept` counts those of steps that are not marked
---   at h p, rest h i e   the strong links of one place, and of the exits of step i from e on, as numbers for each target
---   Search h left marks pending   left counts the strong links to each step that are not withdrawn: those of steps that are not marked, and
---                     those that are pending; a marked step has none left, and the marked steps have been marked in the order of a rank
+-- The search by withdrawing (document 01, "Clearing an exit", rule 2), on a copy of the counters: what holds while it runs. Assumes nothing.
+--   slotAt t p        the place of the counter that the link in the exit at place p counts in; 0 where the exit is empty
+--   ownSlot t j       the place of the counter of step j's own bit, which counts its strong links
+--   lands h p q       the link at place p counts in the counter at place q
+--   landing h q       the number of links that do; `landingKept` counts those of steps that are not marked
+--   at h p, rest h i e   the links of one place, and of the exits of step i from e on, as numbers for each counter
+--   Exact t counts    every counter is the number of links that count in it
+--   Search t counts left marks pending   `left` is what is left of `counts`: every counter has lost the links of the marked steps that are not
+--                     pending. Counter 0, in which no link counts, is set once a counter would go below 0
 --   Withdrawn         what a call hands back: with the extra links no longer pending
 use mathlib.Core.Path.{_≡_}
 use mathlib.Core.Bool.{Bool, true, false, _&&_, not, cond}
 use mathlib.Core.Logic.{_⊎_}
 use mathlib.Core.List.{List}
-use Prim.Native.Nat.{ℕ, _+_, _*_, _-_, _/_, _≤_, _<_}
+use Prim.Native.Nat.{ℕ, _+_, _*_, _-_, _/_, _<_}
 use lib.ListN.{length, getD}
 use lib.Dec.{eqb}
-use Rattle.finite.specs.Below.{one, count, tabulate}
-use Rattle.table.specs.Table.{places, exits, counters, exitPlace, counterPlace}
+use Rattle.finite.specs.Below.{one, all, count}
+use Rattle.table.specs.Table.{Table, places, exits, counters, exitPlace, counterPlace, ownBit}
 
-unfoldable pub headAt : List ℕ → List ℕ → List ℕ → ℕ → ℕ
-headAt targets bits own p =
-    cond (not (eqb (getD targets p 0) 0) && eqb (getD bits p 0) (getD own (getD targets p 0) 0)) (getD targets p 0) 0
+unfoldable pub slotAt : Table → ℕ → ℕ
+slotAt t p = cond (eqb (getD (t .targets) p 0) 0) 0 (counterPlace (getD (t .targets) p 0) (getD (t .bits) p 0))
 
-unfoldable pub points : (ℕ → ℕ) → ℕ → ℕ → Bool
-points h p j = not (eqb j 0) && eqb (h p) j
+unfoldable pub ownSlot : Table → ℕ → ℕ
+ownSlot t j = counterPlace j (ownBit t j)
+
+unfoldable pub lands : (ℕ → ℕ) → ℕ → ℕ → Bool
+lands h p q = not (eqb q 0) && eqb (h p) q
 
 unfoldable pub isMarked : List ℕ → ℕ → Bool
 isMarked marks i = eqb (getD marks i 0) 1
 
-unfoldable pub pointing : (ℕ → ℕ) → ℕ → ℕ
-pointing h j = count (places * exits) (λ p. points h p j)
+unfoldable pub landing : (ℕ → ℕ) → ℕ → ℕ
+landing h q = count (places * exits) (λ p. lands h p q)
 
-unfoldable pub pointingKept : (ℕ → ℕ) → List ℕ → ℕ → ℕ
-pointingKept h marks j = count (places * exits) (λ p. points h p j && not (isMarked marks (p / exits)))
+unfoldable pub landingKept : (ℕ → ℕ) → List ℕ → ℕ → ℕ
+landingKept h marks q = count (places * exits) (λ p. lands h p q && not (isMarked marks (p / exits)))
 
 unfoldable pub at : (ℕ → ℕ) → ℕ → ℕ → ℕ
-at h p j = one (points h p j)
+at h p q = one (lands h p q)
 
 unfoldable pub rest : (ℕ → ℕ) → ℕ → ℕ → ℕ → ℕ
-rest h i e j = count exits (λ f. points h (exitPlace i f) j) - count e (λ f. points h (exitPlace i f) j)
+rest h i e q = count exits (λ f. lands h (exitPlace i f) q) - count e (λ f. lands h (exitPlace i f) q)
 
-pub record Search (h : ℕ → ℕ) (left marks : List ℕ) (pending : ℕ → ℕ) : Type 0 where
-  pub left-size : length left ≡ places
+-- every target is a place of the table and every bit is 0 or 1
+pub record Ranged (t : Table) : Type 0 where
+  pub targets : (p : ℕ) → getD (t .targets) p 0 < places
+  pub bits : (p : ℕ) → getD (t .bits) p 0 < counters
+  pub own : (j : ℕ) → ownBit t j < counters
+
+abbrev pub Exact : Table → List ℕ → Type 0
+Exact t counts = (q : ℕ) → q < places * counters → getD counts q 0 ≡ landing (slotAt t) q
+
+pub record Search (t : Table) (counts left marks : List ℕ) (pending : ℕ → ℕ) : Type 0 where
+  pub left-size : length left ≡ places * counters
   pub marks-size : length marks ≡ places
-  pub exact : (j : ℕ) → j < places → getD left j 0 ≡ pointingKept h marks j + pending j
-  pub quiet : (j : ℕ) → isMarked marks j ≡ true → getD left j 0 ≡ 0
-  pub busy : (j : ℕ) → j < places → isMarked marks j ≡ false → 0 < pointing h j → 0 < getD left j 0
   pub binary : (j : ℕ) → getD marks j 0 < 2
+  -- the account of every counter, while none would have gone below 0
+  pub account : getD left 0 0 ≡ 0 → (q : ℕ) → 0 < q → q < places * counters →
+      getD left q 0 + landing (slotAt t) q ≡ getD counts q 0 + landingKept (slotAt t) marks q + pending q
+  pub quiet : (j : ℕ) → 0 < j → isMarked marks j ≡ true → getD left (ownSlot t j) 0 ≡ 0
+  pub busy : (j : ℕ) → 0 < j → j < places → isMarked marks j ≡ false → 0 < getD counts (ownSlot t j) 0 → 0 < getD left (ownSlot t j) 0
+  -- with exact counters none goes below 0, and the steps are marked in the order of a rank
+  pub clean : Exact t counts → getD left 0 0 ≡ 0
   pub rank : ℕ → ℕ
   pub top : ℕ
   pub low : (j : ℕ) → isMarked marks j ≡ true → rank j < top
-  pub rising : (p j : ℕ) → p < places * exits → points h p j ≡ true → isMarked marks j ≡ true →
+  pub rising : Exact t counts → (p j : ℕ) → p < places * exits → lands (slotAt t) p (ownSlot t j) ≡ true → isMarked marks j ≡ true →
       (isMarked marks (p / exits) ≡ true) × (rank (p / exits) < rank j)
 
 -- for some links still pending beside the extra ones
-abbrev pub Pending : (ℕ → ℕ) → List ℕ → List ℕ → (ℕ → ℕ) → Type 0
-Pending h left marks extra = (pending : ℕ → ℕ) × Search h left marks (λ j. pending j + extra j)
+abbrev pub Pending : Table → List ℕ → List ℕ → List ℕ → (ℕ → ℕ) → Type 0
+Pending t counts left marks extra = (pending : ℕ → ℕ) × Search t counts left marks (λ q. pending q + extra q)
 
-pub record Withdrawn (h : ℕ → ℕ) (left marks left′ marks′ : List ℕ) (extra : ℕ → ℕ) : Type 0 where
-  pub after : (pending : ℕ → ℕ) → Search h left marks (λ j. pending j + extra j) → Search h left′ marks′ pending
+pub record Withdrawn (t : Table) (left marks left′ marks′ : List ℕ) (extra : ℕ → ℕ) : Type 0 where
+  pub after : (counts : List ℕ) (pending : ℕ → ℕ) → Search t counts left marks (λ q. pending q + extra q) → Search t counts left′ marks′ pending
   pub grown : (j : ℕ) → isMarked marks j ≡ true → isMarked marks′ j ≡ true
-  pub new : (j : ℕ) → isMarked marks′ j ≡ true → (isMarked marks j ≡ true) ⊎ (0 < pointing h j)
-
--- every target is a place of the table
-abbrev pub InRange : List ℕ → Type 0
-InRange targets = (p : ℕ) → getD targets p 0 < places
+  pub new : (j : ℕ) → isMarked marks′ j ≡ true → (isMarked marks j ≡ true) ⊎ ((0 < j) × (0 < landing (slotAt t) (ownSlot t j)))
 
 -- the number of steps not marked, which falls
 unfoldable pub unmarked : List ℕ → ℕ
 unmarked marks = count places (λ j. not (isMarked marks j))
 
--- every step's own bit is 0 or 1
-abbrev pub Binary : List ℕ → Type 0
-Binary own = (i : ℕ) → i < places → getD own i 0 < counters
-
--- the counter of each step's own bit
-unfoldable pub strongCounts : List ℕ → List ℕ → List ℕ
-strongCounts counts own = tabulate places (λ i. getD counts (counterPlace i (getD own i 0)) 0)
+-- what withdrawing step 0 on a copy of the counters ends with: whether every counter comes to 0, none having gone below, and the marked steps are
+-- those in use
+pub record Spans (t : Table) (r : Bool) : Type 0 where
+  pub left : List ℕ
+  pub marks : List ℕ
+  pub search : Search t (t .counts) left marks (λ q. 0)
+  pub root : isMarked marks 0 ≡ true
+  pub new : (j : ℕ) → isMarked marks j ≡ true → (j ≡ 0) ⊎ ((0 < j) × (0 < landing (slotAt t) (ownSlot t j)))
+  pub answer : r ≡ (all (places * counters) (λ q. eqb (getD left q 0) 0) && all places (λ i. eqb (getD (t .used) i 0) (getD marks i 0)))

@@ -1,111 +1,145 @@
-// The search of rule 2 of clearing: withdrawing a step and withdrawing an exit call each other.
+// The search by withdrawing, on a copy of the counters: withdrawing a step and withdrawing an exit call each other. It serves rule 2 of clearing
+// and the soundness test.
 ghost use mathlib.Core.Path.{_≡_};
-ghost use Prim.Native.Nat.{_+_, _*_, _<_};
-ghost use Rattle.table.specs.Table.{places, exits};
-ghost use Rattle.finite.specs.Below.{one, tabulate};
+ghost use mathlib.Core.List.{List};
+ghost use Prim.Native.Nat.{ℕ, _*_, _<_};
+ghost use lib.ListN.{getD};
+ghost use lib.Dec.{eqb};
+ghost use Rattle.finite.specs.Below.{one, all, tabulate};
 ghost use Rattle.finite.specs.Reach.{marked};
+ghost use Rattle.table.specs.Table.{places, exits, counters, exitPlace};
 ghost use Rattle.table.specs.Clear.{doubtful};
-ghost use Rattle.withdraw.specs.Search.{headAt, at, rest, Pending, Withdrawn, InRange, Binary, strongCounts};
-ghost use Rattle.withdraw.specs.Withdraw.{assembled, Emptied};
-use table::Table;
-
-// The step that the strong link in the exit at place p leads to, or 0 where the exit is empty or its link is weak.
-fn head<'a>(targets: &'a [u16; 512], bits: &'a [u16; 512], own: &'a [u16; 128], p: usize) -> u16
-    requires { ⌜ (p < places * exits) × InRange (now targets) ⌝ }
-    ensures { λ r. ⌜ r ≡ headAt (now (targets .entry)) (now (bits .entry)) (now (own .entry)) p ⌝ }
-{
-    let j = targets[p];
-    if j == 0 {
-        return 0;
-    }
-    let k = j as usize;
-    if bits[p] == own[k] { j } else { 0 }
-}
+ghost use Rattle.words.specs.Words.{tableOf};
+ghost use Rattle.withdraw.specs.Search.{slotAt, at, rest, Ranged, Pending, Withdrawn, Spans};
+ghost use Rattle.withdraw.specs.Withdraw.{Emptied};
+use words::COUNTERS;
+use words::COUNTS;
+use words::EXITS;
+use words::PLACES;
+use words::WORDS;
 
 // Withdraws the exits of step i, which is marked.
-pub fn withdraw_step<'a>(
-    targets: &'a [u16; 512],
-    bits: &'a [u16; 512],
-    own: &'a [u16; 128],
-    left: &mut [u16; 128],
-    marks: &mut [u16; 128],
-    i: usize,
-)
-    requires { ⌜ (i < places) × InRange (now targets) × Pending (headAt (now targets) (now bits) (now own)) (now left) (now marks) (rest (headAt (now targets) (now bits) (now own)) i 0) ⌝ }
-    ensures { λ _. ⌜ Withdrawn (headAt (now (targets .entry)) (now (bits .entry)) (now (own .entry))) (now (left .entry)) (now (marks .entry)) (now (left .exit)) (now (marks .exit)) (rest (headAt (now (targets .entry)) (now (bits .entry)) (now (own .entry))) i 0) ⌝ }
+fn withdraw_step(t: &[u16; WORDS], left: &mut [u16; 256], marks: &mut [u16; 128], i: usize)
+    requires { ⌜ (i < places) × Ranged (tableOf (now t)) ×
+        ((counts : List ℕ) × Pending (tableOf (now t)) counts (now left) (now marks) (rest (slotAt (tableOf (now t))) i 0)) ⌝ }
+    ensures { λ _. ⌜ Withdrawn (tableOf (now (t .entry))) (now (left .entry)) (now (marks .entry)) (now (left .exit)) (now (marks .exit))
+        (rest (slotAt (tableOf (now (t .entry)))) i 0) ⌝ }
 {
     let mut e = 0usize;
-    while e < 4 {
-        withdraw_exit(targets, bits, own, left, marks, i * 4 + e);
+    // The exits below e are withdrawn.
+    while e < EXITS {
+        withdraw_exit(t, left, marks, i, e);
         e += 1;
     }
 }
 
-// Withdraws the exit at place p: its strong link counts no more, and a target that has none left is marked in turn.
-pub fn withdraw_exit<'a>(
-    targets: &'a [u16; 512],
-    bits: &'a [u16; 512],
-    own: &'a [u16; 128],
-    left: &mut [u16; 128],
+// Withdraws exit e of step i: its link counts no more, and a step that has no strong link left is marked in turn. A link too many is noted at
+// counter 0, in which no link counts.
+fn withdraw_exit(
+    t: &[u16; WORDS],
+    left: &mut [u16; 256],
     marks: &mut [u16; 128],
-    p: usize,
+    i: usize,
+    e: usize,
 )
-    requires { ⌜ (p < places * exits) × InRange (now targets) × Pending (headAt (now targets) (now bits) (now own)) (now left) (now marks) (at (headAt (now targets) (now bits) (now own)) p) ⌝ }
-    ensures { λ _. ⌜ Withdrawn (headAt (now (targets .entry)) (now (bits .entry)) (now (own .entry))) (now (left .entry)) (now (marks .entry)) (now (left .exit)) (now (marks .exit)) (at (headAt (now (targets .entry)) (now (bits .entry)) (now (own .entry))) p) ⌝ }
+    requires { ⌜ (i < places) × (e < exits) × Ranged (tableOf (now t)) ×
+        ((counts : List ℕ) × Pending (tableOf (now t)) counts (now left) (now marks) (at (slotAt (tableOf (now t))) (exitPlace i e))) ⌝ }
+    ensures { λ _. ⌜ Withdrawn (tableOf (now (t .entry))) (now (left .entry)) (now (marks .entry)) (now (left .exit)) (now (marks .exit))
+        (at (slotAt (tableOf (now (t .entry)))) (exitPlace i e)) ⌝ }
 {
-    let j = head(targets, bits, own, p);
+    let j = words::wide(words::target_at(t, i, e));
     if j == 0 {
         return;
     }
-    let k = j as usize;
-    let n = left[k] - 1;
-    left[k] = n;
+    let b = words::bit_at(t, i, e);
+    let q = j * COUNTERS + words::wide(b);
+    let n = left[q];
     if n == 0 {
-        marks[k] = 1;
-        withdraw_step(targets, bits, own, left, marks, k);
+        left[0] = 1;
+        return;
+    }
+    left[q] = n - 1;
+    if n == 1 {
+        if b == words::own_at(t, j) {
+            marks[j] = 1;
+            withdraw_step(t, left, marks, j);
+        }
     }
 }
 
-// What is left at the beginning: for each step the counter of its own bit, which counts its strong links.
-pub fn strong_counts<'a>(counts: &'a [u16; 256], own: &'a [u16; 128]) -> [u16; 128]
-    requires { ⌜ Binary (now own) ⌝ }
-    ensures { λ r. ⌜ r ≡ strongCounts (now (counts .entry)) (now (own .entry)) ⌝ }
+// What is left at the beginning: all counters.
+fn counters_of(t: &[u16; WORDS]) -> [u16; 256]
+    ensures { λ r. ⌜ r ≡ tableOf (now (t .entry)) .counts ⌝ }
 {
-    let mut left = [0u16; 128];
-    let mut i = 0usize;
-    // Of the steps below i the counter is written.
-    while i < 128 {
-        let b = own[i];
-        left[i] = counts[i * 2 + wide(b)];
-        i += 1;
+    words::sized(t);
+    let mut left = [0u16; 256];
+    let mut q = 0usize;
+    // The counters below q are copied.
+    while q < COUNTS {
+        left[q] = words::count_in(t, q);
+        q += 1;
     }
     left
 }
 
-// The same number, as an index.
-pub fn wide(x: u16) -> usize
-    ensures { λ r. ⌜ r ≡ x ⌝ }
+// The steps that are doubtful once an exit is emptied that held the last strong link to the step `start`: 1 for each.
+pub fn doubtful_steps(t: &[u16; WORDS], start: u16) -> [u16; 128]
+    requires { ⌜ Emptied (tableOf (now t)) start ⌝ }
+    ensures { λ r. ⌜ r ≡ tabulate places (λ i. one (marked (doubtful (tableOf (now (t .entry)))) i)) ⌝ }
 {
-    x as usize
+    let mut left = counters_of(t);
+    let mut marks = [0u16; 128];
+    let i = words::wide(start);
+    marks[i] = 1;
+    withdraw_step(t, &mut left, &mut marks, i);
+    marks
 }
 
-// The steps that are doubtful in the table of these arrays, once an exit is emptied that held the last strong link to the step `start`: 1 for each.
-pub fn doubtful_steps<'a>(
-    targets: &'a [u16; 512],
-    bits: &'a [u16; 512],
-    own: &'a [u16; 128],
-    counts: &'a [u16; 256],
-    start: u16,
-) -> [u16; 128]
-    requires { ⌜ ((t : Table) × Emptied (assembled t (now own) (now targets) (now bits) (now counts)) start) ⌝ }
-    ensures { λ r. ⌜ ((t : Table) →
-        Emptied (assembled t (now (own .entry)) (now (targets .entry)) (now (bits .entry)) (now (counts .entry))) start →
-        r ≡ tabulate places (λ i. one (marked (doubtful (assembled t (now (own .entry)) (now (targets .entry)) (now (bits .entry)) (now (counts .entry)))) i))) ⌝ }
+// Whether every counter has come to 0.
+fn all_zero(left: &[u16; 256]) -> bool
+    ensures { λ r. ⌜ r ≡ all (places * counters) (λ q. eqb (getD (now (left .entry)) q 0) 0) ⌝ }
 {
-    let mut left = strong_counts(counts, own);
+    let mut some = 0u16;
+    let mut q = 0usize;
+    // Below q, so many counters are not 0.
+    while q < COUNTS {
+        if left[q] != 0 {
+            some += 1;
+        }
+        q += 1;
+    }
+    some == 0
+}
+
+// Whether the steps marked are those in use.
+fn all_used<'a>(t: &'a [u16; WORDS], marks: &'a [u16; 128]) -> bool
+    ensures { λ r. ⌜ r ≡ all places (λ i. eqb (getD (tableOf (now (t .entry)) .used) i 0) (getD (now (marks .entry)) i 0)) ⌝ }
+{
+    let mut others = 0u16;
+    let mut i = 0usize;
+    // Below i, the mark of so many steps is not that of their use.
+    while i < PLACES {
+        if words::used_at(t, i) != marks[i] {
+            others += 1;
+        }
+        i += 1;
+    }
+    others == 0
+}
+
+// Withdraws step 0 on a copy of the counters, weak links too, each from the counter of its own bit: whether every counter comes to 0, none having
+// gone below, and the steps marked are those in use.
+pub fn spans(t: &[u16; WORDS]) -> bool
+    requires { ⌜ Ranged (tableOf (now t)) ⌝ }
+    ensures { λ r. ⌜ Spans (tableOf (now (t .entry))) r ⌝ }
+{
+    words::sized(t);
+    let mut left = counters_of(t);
     let mut marks = [0u16; 128];
-    let i = wide(start);
-    marks[i] = 1;
-    withdraw_step(targets, bits, own, &mut left, &mut marks, i);
-    marks
+    marks[0] = 1;
+    withdraw_step(t, &mut left, &mut marks, 0);
+    if !all_zero(&left) {
+        return false;
+    }
+    all_used(t, &marks)
 }

@@ -1,25 +1,25 @@
 -- Words and tables: each other's inverse, and what a store into a word does to the table. Assumes nothing.
 --   words-table table-words   there and back
 --   shape-table     the lengths of the parts
+--   erased-table erased-size   the words of a blank table
 --   part-read       a word of a part
 --   store-*         a word that is stored into changes its part alone
 use mathlib.Core.Path.{_≡_, refl, sym, _∙_, ap}
 use mathlib.Core.Bool.{true, false}
 use mathlib.Core.Logic.{⊎-elim}
 use mathlib.Core.List.{List, _∷_, _++_}
-use Prim.Native.Nat.{ℕ, suc, _+_, _*_, _-_, _≤_, _<_}
+use Prim.Native.Nat.{ℕ, _+_, _*_, _-_, _≤_, _<_}
 use native.Mathlib.Omega.{arith}
-use lib.ListN.{length, getD, set, take, drop, length-take, length-drop, length-set}
+use lib.ListN.{length, getD, set, take, drop, length-drop}
 use lib.Seq.{set-out, getD-set-same, getD-set-other, getD-take, getD-drop, take-set-le, take-set-lt, drop-set-lt, drop-set-add, take-at, drop-at, take-all, take-add, drop-drop, length-take-le, drop-cons, drop-append-add}
 use lib.Dec.{eqb}
 use borrow.Author.Tests.{eq-eqb, ne-eqb}
-use Rattle.table.specs.declared.Table.{Table}
-use Rattle.table.specs.Table.{places, exits, counters, counterPlace, withLinks, withSteps}
+use Rattle.table.specs.Table.{Table, places, exits, counters, counterPlace, withLinks, withSteps}
 use Rattle.table.specs.Sound.{Shape}
 use Rattle.table.specs.Calls.{raised, lowered}
 use Rattle.finite.proofs.Bools.{test}
 use Rattle.finite.proofs.Below.{eq-or-ne, le-or-lt}
-use Rattle.words.specs.Words.{words, usedFrom, kindsFrom, contentsFrom, ownFrom, targetsFrom, bitsFrom, countsFrom, part, tableOf, wordsOf, Becomes}
+use Rattle.words.specs.Words.{words, usedFrom, kindsFrom, contentsFrom, ownFrom, targetsFrom, bitsFrom, countsFrom, part, tableOf, wordsOf, blankTable, Becomes}
 
 pub part-read : (w : List ℕ) (from n k : ℕ) → k < n → getD (part from n w) k 0 ≡ getD w (from + k) 0
 part-read w from n k l = getD-take n (drop from w) k 0 l ∙ getD-drop from w k 0
@@ -36,7 +36,8 @@ part-below w from n q x l = ap (take n) (drop-set-lt from w q x l)
 pub part-above : (w : List ℕ) (from n q x : ℕ) → from + n ≤ q → part from n (set w q x) ≡ part from n w
 part-above w from n q x l =
     let k : q ≡ from + (q - from) = omega arith in
-    ap (λ (p : ℕ). part from n (set w p x)) k ∙ ap (take n) (drop-set-add from w (q - from) x) ∙ take-set-le n (drop from w) (q - from) x (omega arith)
+    ap (λ (p : ℕ). part from n (set w p x)) k ∙ ap (take n) (drop-set-add from w (q - from) x) ∙
+    take-set-le n (drop from w) (q - from) x (omega arith)
 
 -- tables with the same fields are the same
 fields : ℕ → ℕ → List ℕ → List ℕ → List ℕ → List ℕ → List ℕ → List ℕ → List ℕ → Table
@@ -69,7 +70,9 @@ same-fields t u a b c d e f g h i =
 
 -- A store into one word changes the field that it belongs to.
 module _ (w : List ℕ) where
-  pub store-last : (x : ℕ) → 1 < length w → tableOf (set w 1 x) ≡ withSteps (tableOf w) x (tableOf w .used) (tableOf w .kinds) (tableOf w .contents) (tableOf w .own)
+  pub store-last : (x : ℕ) → 1 < length w →
+      tableOf (set w 1 x) ≡
+      withSteps (tableOf w) x (tableOf w .used) (tableOf w .kinds) (tableOf w .contents) (tableOf w .own)
   unfolding tableOf withSteps
   store-last x l =
       same-fields _ _
@@ -83,7 +86,9 @@ module _ (w : List ℕ) where
       (part-below w bitsFrom (places * exits) _ x (omega arith))
       (part-below w countsFrom (places * counters) _ x (omega arith))
 
-  pub store-used : (k x : ℕ) → k < places → tableOf (set w (usedFrom + k) x) ≡ withSteps (tableOf w) (tableOf w .last) (set (tableOf w .used) k x) (tableOf w .kinds) (tableOf w .contents) (tableOf w .own)
+  pub store-used : (k x : ℕ) → k < places →
+      tableOf (set w (usedFrom + k) x) ≡
+      withSteps (tableOf w) (tableOf w .last) (set (tableOf w .used) k x) (tableOf w .kinds) (tableOf w .contents) (tableOf w .own)
   unfolding tableOf withSteps
   store-used k x l =
       same-fields _ _
@@ -97,7 +102,9 @@ module _ (w : List ℕ) where
       (part-below w bitsFrom (places * exits) _ x (omega arith))
       (part-below w countsFrom (places * counters) _ x (omega arith))
 
-  pub store-kinds : (k x : ℕ) → k < places → tableOf (set w (kindsFrom + k) x) ≡ withSteps (tableOf w) (tableOf w .last) (tableOf w .used) (set (tableOf w .kinds) k x) (tableOf w .contents) (tableOf w .own)
+  pub store-kinds : (k x : ℕ) → k < places →
+      tableOf (set w (kindsFrom + k) x) ≡
+      withSteps (tableOf w) (tableOf w .last) (tableOf w .used) (set (tableOf w .kinds) k x) (tableOf w .contents) (tableOf w .own)
   unfolding tableOf withSteps
   store-kinds k x l =
       same-fields _ _
@@ -111,7 +118,9 @@ module _ (w : List ℕ) where
       (part-below w bitsFrom (places * exits) _ x (omega arith))
       (part-below w countsFrom (places * counters) _ x (omega arith))
 
-  pub store-contents : (k x : ℕ) → k < places → tableOf (set w (contentsFrom + k) x) ≡ withSteps (tableOf w) (tableOf w .last) (tableOf w .used) (tableOf w .kinds) (set (tableOf w .contents) k x) (tableOf w .own)
+  pub store-contents : (k x : ℕ) → k < places →
+      tableOf (set w (contentsFrom + k) x) ≡
+      withSteps (tableOf w) (tableOf w .last) (tableOf w .used) (tableOf w .kinds) (set (tableOf w .contents) k x) (tableOf w .own)
   unfolding tableOf withSteps
   store-contents k x l =
       same-fields _ _
@@ -125,7 +134,9 @@ module _ (w : List ℕ) where
       (part-below w bitsFrom (places * exits) _ x (omega arith))
       (part-below w countsFrom (places * counters) _ x (omega arith))
 
-  pub store-own : (k x : ℕ) → k < places → tableOf (set w (ownFrom + k) x) ≡ withSteps (tableOf w) (tableOf w .last) (tableOf w .used) (tableOf w .kinds) (tableOf w .contents) (set (tableOf w .own) k x)
+  pub store-own : (k x : ℕ) → k < places →
+      tableOf (set w (ownFrom + k) x) ≡
+      withSteps (tableOf w) (tableOf w .last) (tableOf w .used) (tableOf w .kinds) (tableOf w .contents) (set (tableOf w .own) k x)
   unfolding tableOf withSteps
   store-own k x l =
       same-fields _ _
@@ -139,7 +150,9 @@ module _ (w : List ℕ) where
       (part-below w bitsFrom (places * exits) _ x (omega arith))
       (part-below w countsFrom (places * counters) _ x (omega arith))
 
-  pub store-targets : (k x : ℕ) → k < (places * exits) → tableOf (set w (targetsFrom + k) x) ≡ withLinks (tableOf w) (set (tableOf w .targets) k x) (tableOf w .bits) (tableOf w .counts)
+  pub store-targets : (k x : ℕ) → k < (places * exits) →
+      tableOf (set w (targetsFrom + k) x) ≡
+      withLinks (tableOf w) (set (tableOf w .targets) k x) (tableOf w .bits) (tableOf w .counts)
   unfolding tableOf withLinks
   store-targets k x l =
       same-fields _ _
@@ -153,7 +166,9 @@ module _ (w : List ℕ) where
       (part-below w bitsFrom (places * exits) _ x (omega arith))
       (part-below w countsFrom (places * counters) _ x (omega arith))
 
-  pub store-bits : (k x : ℕ) → k < (places * exits) → tableOf (set w (bitsFrom + k) x) ≡ withLinks (tableOf w) (tableOf w .targets) (set (tableOf w .bits) k x) (tableOf w .counts)
+  pub store-bits : (k x : ℕ) → k < (places * exits) →
+      tableOf (set w (bitsFrom + k) x) ≡
+      withLinks (tableOf w) (tableOf w .targets) (set (tableOf w .bits) k x) (tableOf w .counts)
   unfolding tableOf withLinks
   store-bits k x l =
       same-fields _ _
@@ -167,7 +182,9 @@ module _ (w : List ℕ) where
       (part-store w bitsFrom (places * exits) k x l)
       (part-below w countsFrom (places * counters) _ x (omega arith))
 
-  pub store-counts : (k x : ℕ) → k < (places * counters) → tableOf (set w (countsFrom + k) x) ≡ withLinks (tableOf w) (tableOf w .targets) (tableOf w .bits) (set (tableOf w .counts) k x)
+  pub store-counts : (k x : ℕ) → k < (places * counters) →
+      tableOf (set w (countsFrom + k) x) ≡
+      withLinks (tableOf w) (tableOf w .targets) (tableOf w .bits) (set (tableOf w .counts) k x)
   unfolding tableOf withLinks
   store-counts k x l =
       same-fields _ _
@@ -208,7 +225,8 @@ words-table w l =
     let d = split w contentsFrom 128 1408 in
     let e = split w kindsFrom 128 1536 in
     let f = split w usedFrom 128 1664 in
-    ap (λ (x : List ℕ). getD w 0 0 ∷ getD w 1 0 ∷ (part 2 128 w ++ (part 130 128 w ++ (part 258 128 w ++ (part 386 128 w ++ (part 514 512 w ++ x)))))) a ∙
+    ap (λ (x : List ℕ). getD w 0 0 ∷ getD w 1 0 ∷ (part 2 128 w ++ (part 130 128 w ++ (part 258 128 w ++ (part 386 128 w ++ (part 514 512 w ++ x))))))
+    a ∙
     ap (λ (x : List ℕ). getD w 0 0 ∷ getD w 1 0 ∷ (part 2 128 w ++ (part 130 128 w ++ (part 258 128 w ++ (part 386 128 w ++ x))))) b ∙
     ap (λ (x : List ℕ). getD w 0 0 ∷ getD w 1 0 ∷ (part 2 128 w ++ (part 130 128 w ++ (part 258 128 w ++ x)))) c ∙
     ap (λ (x : List ℕ). getD w 0 0 ∷ getD w 1 0 ∷ (part 2 128 w ++ (part 130 128 w ++ x))) d ∙
@@ -229,7 +247,8 @@ table-words t s =
     refl
     (take-at (t .used) _ places (s .used))
     (ap (take places) (drop-at (t .used) _ places (s .used)) ∙ take-at (t .kinds) _ places (s .kinds))
-    (ap (take places) (past (t .used) _ places places (s .used) ∙ drop-at (t .kinds) _ places (s .kinds)) ∙ take-at (t .contents) _ places (s .contents))
+    (ap (take places) (past (t .used) _ places places (s .used) ∙ drop-at (t .kinds) _ places (s .kinds)) ∙
+    take-at (t .contents) _ places (s .contents))
     (ap (take places)
     (past (t .used) _ places 256 (s .used) ∙ past (t .kinds) _ places places (s .kinds) ∙ drop-at (t .contents) _ places (s .contents)) ∙
     take-at (t .own) _ places (s .own))
@@ -253,25 +272,39 @@ table-words t s =
 pub became : (w v : List ℕ) (t : Table) → Becomes w v t → length w ≡ words → v ≡ wordsOf t
 became w v t b l = sym (words-table v (b .size ∙ l)) ∙ ap wordsOf (b .table)
 
-pub becomes-trans : (u v w : List ℕ) (t : Table) → length v ≡ length u → Becomes v w t → Becomes u w t
-becomes-trans u v w t l b = record { table = b .table; size = b .size ∙ l }
+-- the words that are erased are those of a blank table
+blank-shape : (capacity last : ℕ) → Shape (blankTable capacity last)
+unfolding blankTable
+blank-shape capacity last = record { used = refl; kinds = refl; contents = refl; own = refl; targets = refl; bits = refl; counts = refl }
+
+pub erased-table : (w : List ℕ) (capacity last : ℕ) → w ≡ wordsOf (blankTable capacity last) → tableOf w ≡ blankTable capacity last
+erased-table w capacity last e = ap tableOf e ∙ table-words (blankTable capacity last) (blank-shape capacity last)
+
+pub erased-size : (w : List ℕ) (capacity last : ℕ) → w ≡ wordsOf (blankTable capacity last) → length w ≡ words
+unfolding wordsOf blankTable
+erased-size w capacity last e = ap length e
 
 -- a counter that rises, or falls, by a store into its word
-module _ (w : List ℕ) (j b q n : ℕ) (d : j ≡ 0 → ⊥) (e : q ≡ counterPlace j b) (l : q < places * counters) (m : n ≡ getD (tableOf w .counts) q 0) where
-  pub store-raised : tableOf (set w (countsFrom + q) (n + 1)) ≡ withLinks (tableOf w) (tableOf w .targets) (tableOf w .bits) (raised j b (tableOf w .counts))
+module _ (w : List ℕ) (j b q n : ℕ) (d : j ≡ 0 → ⊥) (e : q ≡ counterPlace j b) (l : q < places * counters)
+    (m : n ≡ getD (tableOf w .counts) q 0) where
+  pub store-raised :
+      tableOf (set w (countsFrom + q) (n + 1)) ≡ withLinks (tableOf w) (tableOf w .targets) (tableOf w .bits) (raised j b (tableOf w .counts))
   unfolding raised
   store-raised = store-counts w q (n + 1) l ∙ rw (ne-eqb j 0 d, m, e)
 
-  pub store-lowered : tableOf (set w (countsFrom + q) (n - 1)) ≡ withLinks (tableOf w) (tableOf w .targets) (tableOf w .bits) (lowered j b (tableOf w .counts))
+  pub store-lowered :
+      tableOf (set w (countsFrom + q) (n - 1)) ≡ withLinks (tableOf w) (tableOf w .targets) (tableOf w .bits) (lowered j b (tableOf w .counts))
   unfolding lowered
   store-lowered = store-counts w q (n - 1) l ∙ rw (ne-eqb j 0 d, m, e)
 
 -- step 0 stands for no step
-pub raised-none : (w : List ℕ) (j b : ℕ) → j ≡ 0 → tableOf w ≡ withLinks (tableOf w) (tableOf w .targets) (tableOf w .bits) (raised j b (tableOf w .counts))
+pub raised-none : (w : List ℕ) (j b : ℕ) → j ≡ 0 →
+    tableOf w ≡ withLinks (tableOf w) (tableOf w .targets) (tableOf w .bits) (raised j b (tableOf w .counts))
 unfolding raised withLinks
 raised-none w j b z = rw (eq-eqb j 0 z)
 
-pub lowered-none : (w : List ℕ) (j b : ℕ) → j ≡ 0 → tableOf w ≡ withLinks (tableOf w) (tableOf w .targets) (tableOf w .bits) (lowered j b (tableOf w .counts))
+pub lowered-none : (w : List ℕ) (j b : ℕ) → j ≡ 0 →
+    tableOf w ≡ withLinks (tableOf w) (tableOf w .targets) (tableOf w .bits) (lowered j b (tableOf w .counts))
 unfolding lowered withLinks
 lowered-none w j b z = rw (eq-eqb j 0 z)
 

@@ -1,2 +1,5 @@
 -- Laws of words and tables, which the crates above cite.
 pub mod Laws
+pub mod Refusals
+pub mod Formed
+pub mod Becomes

@@ -11,8 +11,7 @@ use mathlib.Core.Path.{_≡_}
 use mathlib.Core.List.{List, _∷_, _++_}
 use Prim.Native.Nat.{ℕ, _*_, _<_}
 use lib.ListN.{length, getD, take, drop, replicate}
-use Rattle.table.specs.declared.Table.{Table}
-use Rattle.table.specs.Table.{places, exits, counters, targetOf, linkBit, counterOf}
+use Rattle.table.specs.Table.{Table, places, exits, counters, targetOf, linkBit, counterOf}
 
 abbrev pub words : ℕ
 words = 1794

@@ -1,69 +1,142 @@
-//! The call plan table of a lift telephone, over the proved static library `libtelephone.a`.
+//! The call plan table of a lift telephone, over the proved static library `libtelephone.a`. It needs no standard library and allocates nothing.
 //!
-//! A `Plan` is a sound table: it is made by `fresh`, `load` or `from_table`, which test it, and only calls change it. A refused call is an `Err`
-//! and changes nothing. `Table` is a table of which nothing is known, for callers who keep one in memory of their own.
+//! A [`Table`] is always sound: it is made by [`Table::fresh`], [`Table::load`] or [`Table::from_raw`], and only calls change it, in place. A refused
+//! call is an `Err` and changes nothing. [`raw`] has the calls on any table and with any numbers, for callers who keep the memory themselves.
+//!
+//! ```
+//! use telephone::{Exit, Kind, Table};
+//!
+//! telephone::check_edition()?;
+//! let mut table = Table::fresh(128)?;
+//! let step = table.add(0, Exit::Answered, Kind::Contact(7))?;
+//! table.link(0, Exit::Answered, step, Exit::NoReply)?; // ring again where nobody replies
+//! let cleared = table.clear(0, Exit::Answered)?;
+//! assert_eq!((step, cleared.freed), (1, 1));
+//! # Ok::<(), Box<dyn std::error::Error>>(())
+//! ```
 
-mod raw;
+#![no_std]
+#![warn(missing_docs)]
 
-pub use raw::{plan_is_sound, ReadReply, Reply, Table, TrialReply, WriteReply};
+#[allow(missing_docs)]
+pub mod raw;
 
+use core::fmt;
+
+/// The lines of Rust in the README, which are run as tests.
+#[cfg(doctest)]
+#[doc = include_str!("../../../README.md")]
+struct Readme;
+
+/// The edition of the interface that this crate is written for.
+pub const EDITION: u16 = 2;
 /// Places for steps; the largest capacity.
 pub const PLACES: usize = 128;
 /// Exits of a step.
 pub const EXITS: usize = 4;
 /// Bytes of the largest image.
 pub const IMAGE_MAX: usize = 2570;
+/// Bytes of stack for any call of the library, with the caller's table.
+pub const STACK_MAX: usize = 16 * 1024;
 
-/// Why a call was refused, by the paper's number.
+/// Whether the library that is linked has the edition of this crate. A host asks once, before any other call.
+pub fn check_edition() -> Result<(), WrongEdition> {
+    match raw::edition() {
+        EDITION => Ok(()),
+        library => Err(WrongEdition { library }),
+    }
+}
+
+/// The library that is linked has another edition.
 #[derive(Clone, Copy, PartialEq, Eq, Debug)]
-#[repr(u16)]
+pub struct WrongEdition {
+    /// The edition of the library.
+    pub library: u16,
+}
+
+impl fmt::Display for WrongEdition {
+    fn fmt(&self, f: &mut fmt::Formatter<'_>) -> fmt::Result {
+        write!(f, "the library has edition {}, and {EDITION} is needed", self.library)
+    }
+}
+
+impl core::error::Error for WrongEdition {}
+
+/// Why a call was refused.
+#[derive(Clone, Copy, PartialEq, Eq, Hash, Debug)]
+#[non_exhaustive]
 pub enum Refusal {
-    NotSound = 1,
-    BadCapacity = 2,
-    NotInUse = 3,
-    BadExit = 4,
-    ExitFilled = 5,
-    ExitEmpty = 6,
-    BadKind = 7,
-    Full = 8,
-    NotKeyLine = 9,
-    BadResult = 10,
-    TooShort = 11,
-    NotAccepted = 12,
+    /// 1: table not sound.
+    NotSound,
+    /// 2: capacity not 1 to 128.
+    BadCapacity,
+    /// 3: step not in use.
+    NotInUse,
+    /// 4: exit above 3.
+    BadExit,
+    /// 5: exit to be filled holds a link.
+    ExitFilled,
+    /// 6: exit to copy or clear is empty.
+    ExitEmpty,
+    /// 7: kind not 1 to 3, or content out of range.
+    BadKind,
+    /// 8: steps in use equal the capacity.
+    Full,
+    /// 9: not a key line.
+    NotKeyLine,
+    /// 10: some line result above 3.
+    BadResult,
+    /// 11: lent buffer shorter than needed.
+    TooShort,
+    /// 12: image not accepted.
+    NotAccepted,
+    /// A number that this crate does not know. The library of this edition gives none.
+    Unknown(u16),
 }
 
 impl Refusal {
-    const ALL: [Refusal; 12] = [
-        Refusal::NotSound,
-        Refusal::BadCapacity,
-        Refusal::NotInUse,
-        Refusal::BadExit,
-        Refusal::ExitFilled,
-        Refusal::ExitEmpty,
-        Refusal::BadKind,
-        Refusal::Full,
-        Refusal::NotKeyLine,
-        Refusal::BadResult,
-        Refusal::TooShort,
-        Refusal::NotAccepted,
-    ];
-
-    /// The paper's number.
-    pub fn number(self) -> u16 {
-        self as u16
+    /// The number in document 01.
+    pub const fn number(self) -> u16 {
+        match self {
+            Refusal::NotSound => 1,
+            Refusal::BadCapacity => 2,
+            Refusal::NotInUse => 3,
+            Refusal::BadExit => 4,
+            Refusal::ExitFilled => 5,
+            Refusal::ExitEmpty => 6,
+            Refusal::BadKind => 7,
+            Refusal::Full => 8,
+            Refusal::NotKeyLine => 9,
+            Refusal::BadResult => 10,
+            Refusal::TooShort => 11,
+            Refusal::NotAccepted => 12,
+            Refusal::Unknown(number) => number,
+        }
     }
 
-    /// The refusal that a reply's number says; `Ok` for 0. The library gives no other numbers.
-    fn check(number: u16) -> Result<(), Refusal> {
-        match number {
-            0 => Ok(()),
-            _ => Err(Refusal::ALL[usize::from(number) - 1]),
-        }
+    /// What the refusal in a reply says: `Ok` for 0. No number is out of range.
+    pub const fn check(number: u16) -> Result<(), Refusal> {
+        Err(match number {
+            0 => return Ok(()),
+            1 => Refusal::NotSound,
+            2 => Refusal::BadCapacity,
+            3 => Refusal::NotInUse,
+            4 => Refusal::BadExit,
+            5 => Refusal::ExitFilled,
+            6 => Refusal::ExitEmpty,
+            7 => Refusal::BadKind,
+            8 => Refusal::Full,
+            9 => Refusal::NotKeyLine,
+            10 => Refusal::BadResult,
+            11 => Refusal::TooShort,
+            12 => Refusal::NotAccepted,
+            _ => Refusal::Unknown(number),
+        })
     }
 }
 
-impl std::fmt::Display for Refusal {
-    fn fmt(&self, f: &mut std::fmt::Formatter<'_>) -> std::fmt::Result {
+impl fmt::Display for Refusal {
+    fn fmt(&self, f: &mut fmt::Formatter<'_>) -> fmt::Result {
         f.write_str(match self {
             Refusal::NotSound => "table not sound",
             Refusal::BadCapacity => "capacity not 1 to 128",
@@ -77,164 +150,277 @@ impl std::fmt::Display for Refusal {
             Refusal::BadResult => "some line result above 3",
             Refusal::TooShort => "lent buffer shorter than needed",
             Refusal::NotAccepted => "image not accepted",
+            Refusal::Unknown(number) => return write!(f, "unknown refusal {number}"),
         })
     }
 }
 
-impl std::error::Error for Refusal {}
+impl core::error::Error for Refusal {}
+
+/// What a step does, with its content.
+#[derive(Clone, Copy, PartialEq, Eq, Hash, Debug)]
+pub enum Kind {
+    /// Step 0, and no other.
+    Alarm,
+    /// Rings a phone book entry, 0 to 99; 0 is the primary.
+    Contact(u16),
+    /// Speaks a message, 0 to 15.
+    Message(u16),
+    /// Waits for seconds, 1 to 600.
+    Wait(u16),
+    /// Any other kind and content, as numbers. No step has them, and none can be added with them.
+    Other(u16, u16),
+}
+
+impl Kind {
+    /// The kind and the content as the library has them.
+    pub const fn numbers(self) -> (u16, u16) {
+        match self {
+            Kind::Alarm => (0, 0),
+            Kind::Contact(entry) => (1, entry),
+            Kind::Message(message) => (2, message),
+            Kind::Wait(seconds) => (3, seconds),
+            Kind::Other(kind, content) => (kind, content),
+        }
+    }
+
+    /// The kind that two numbers say.
+    pub const fn of_numbers(kind: u16, content: u16) -> Kind {
+        match (kind, content) {
+            (0, 0) => Kind::Alarm,
+            (1, _) => Kind::Contact(content),
+            (2, _) => Kind::Message(content),
+            (3, _) => Kind::Wait(content),
+            _ => Kind::Other(kind, content),
+        }
+    }
+}
+
+/// An exit of a step. Line results have the same numbers.
+#[derive(Clone, Copy, PartialEq, Eq, PartialOrd, Ord, Hash, Debug)]
+#[repr(u8)]
+pub enum Exit {
+    /// 0.
+    Answered = 0,
+    /// 1.
+    Engaged = 1,
+    /// 2.
+    NoReply = 2,
+    /// 3.
+    LineFault = 3,
+}
+
+impl Exit {
+    /// All four, in the order of their numbers.
+    pub const ALL: [Exit; EXITS] = [Exit::Answered, Exit::Engaged, Exit::NoReply, Exit::LineFault];
+
+    /// The number in document 01.
+    pub const fn number(self) -> u16 {
+        self as u16
+    }
+}
+
+impl TryFrom<u16> for Exit {
+    type Error = Refusal;
+
+    fn try_from(number: u16) -> Result<Exit, Refusal> {
+        Exit::ALL.get(usize::from(number)).copied().ok_or(Refusal::BadExit)
+    }
+}
 
 /// The two counts of a clearing.
 #[derive(Clone, Copy, PartialEq, Eq, Debug)]
 pub struct Cleared {
+    /// Steps that were made doubtful.
     pub doubtful: u16,
+    /// Steps that were freed.
     pub freed: u16,
 }
 
-/// All fields of a step. Target 0 is an empty exit.
+/// The spoken counts of a table. Together they are its capacity.
+#[derive(Clone, Copy, PartialEq, Eq, Debug)]
+pub struct Counts {
+    /// Steps in use.
+    pub in_use: u16,
+    /// Free steps.
+    pub free: u16,
+}
+
+/// What an exit holds. It is strong if its bit is the target's own bit, else weak.
+#[derive(Clone, Copy, PartialEq, Eq, Debug)]
+pub struct Link {
+    /// The step that it leads to.
+    pub target: u16,
+    /// Its bit.
+    pub bit: u16,
+}
+
+/// All fields of a step.
 #[derive(Clone, Copy, PartialEq, Eq, Debug)]
 pub struct Step {
-    pub kind: u16,
-    pub content: u16,
+    /// What it does.
+    pub kind: Kind,
+    /// Its own bit.
     pub own: u16,
-    pub targets: [u16; 4],
-    pub bits: [u16; 4],
+    /// What its exits hold, by the numbers of `Exit`.
+    pub exits: [Option<Link>; EXITS],
+    /// The links to it that have bit 0, and those that have bit 1.
     pub counts: [u16; 2],
 }
 
-/// How a trial ended: at an empty exit, or with no results left.
+impl Step {
+    /// What an exit holds.
+    pub fn exit(&self, exit: Exit) -> Option<Link> {
+        self.exits[exit as usize]
+    }
+}
+
+/// How a trial ended.
 #[derive(Clone, Copy, PartialEq, Eq, Debug)]
+#[non_exhaustive]
 pub enum Ending {
+    /// At an empty exit.
     Open,
+    /// With no results left.
     Spent,
+    /// A number that this crate does not know. The library of this edition gives none.
+    Unknown(u16),
 }
 
 /// The answer of a trial. The steps entered are the first `moves` bytes of the trace.
 #[derive(Clone, Copy, PartialEq, Eq, Debug)]
 pub struct Trial {
+    /// How it ended.
     pub ending: Ending,
+    /// The step where it ended.
     pub last: u16,
+    /// The steps entered.
     pub moves: usize,
 }
 
 /// A sound table.
 #[derive(Clone, PartialEq, Eq, Debug)]
-pub struct Plan(Table);
+#[repr(transparent)]
+pub struct Table(raw::Table);
 
-impl Plan {
-    /// A plan of that capacity with step 0 alone.
-    pub fn fresh(capacity: u16) -> Result<Plan, Refusal> {
-        Plan::of(raw::plan_fresh(capacity))
+impl Table {
+    /// A table of that capacity with step 0 alone.
+    pub fn fresh(capacity: u16) -> Result<Table, Refusal> {
+        let mut table = Table(raw::Table::ZERO);
+        table.reset(capacity)?;
+        Ok(table)
     }
 
-    /// The plan of an image.
-    pub fn load(bytes: &[u8]) -> Result<Plan, Refusal> {
-        Plan::of(load_image(bytes))
+    /// The table of an image.
+    pub fn load(image: &[u8]) -> Result<Table, Refusal> {
+        let mut table = Table(raw::Table::ZERO);
+        table.reload(image)?;
+        Ok(table)
     }
 
     /// A table that the caller kept, if it is sound.
-    pub fn from_table(table: Table) -> Result<Plan, Refusal> {
-        match raw::plan_is_sound(table.clone()) {
+    pub fn from_raw(table: raw::Table) -> Result<Table, Refusal> {
+        match raw::is_sound(&table) {
             0 => Err(Refusal::NotSound),
-            _ => Ok(Plan(table)),
+            _ => Ok(Table(table)),
         }
     }
 
-    /// The table, to be looked at or kept.
-    pub fn table(&self) -> &Table {
+    /// The table as it stands in memory.
+    pub fn as_raw(&self) -> &raw::Table {
         &self.0
     }
 
-    pub fn into_table(self) -> Table {
+    /// The table as it stands in memory, to be kept.
+    pub fn into_raw(self) -> raw::Table {
         self.0
     }
 
-    /// Puts a new step at an empty exit; gives its number.
-    pub fn add(&mut self, holder: u16, exit: u16, kind: u16, content: u16) -> Result<u16, Refusal> {
-        self.take(raw::plan_add(self.0.clone(), holder, exit, kind, content))
-            .map(|(number, _)| number)
+    /// Starts again with step 0 alone, in place. Where the capacity is refused, it becomes 1.
+    pub fn reset(&mut self, capacity: u16) -> Result<(), Refusal> {
+        two(raw::fresh(&mut self.0, capacity)).map(|_| ())
     }
 
-    /// Copies the target of the source's exit into the second exit.
-    pub fn link(&mut self, source: u16, from: u16, second: u16, into: u16) -> Result<(), Refusal> {
-        self.take(raw::plan_link(self.0.clone(), source, from, second, into)).map(|_| ())
+    /// Takes the table of an image, in place. Where the image is refused, it becomes a fresh table of capacity 1.
+    pub fn reload(&mut self, image: &[u8]) -> Result<(), Refusal> {
+        two(raw::load_image(&mut self.0, image)).map(|_| ())
     }
 
-    /// Empties an exit and frees the steps that nothing reaches any more.
-    pub fn clear(&mut self, step: u16, exit: u16) -> Result<Cleared, Refusal> {
-        let counts = self.take(raw::plan_clear(self.0.clone(), step, exit))?;
-        Ok(Cleared { doubtful: counts.0, freed: counts.1 })
+    /// Puts a new step at an empty exit of the holder; gives its number.
+    pub fn add(&mut self, holder: u16, exit: Exit, kind: Kind) -> Result<u16, Refusal> {
+        let (kind, content) = kind.numbers();
+        two(raw::add(&mut self.0, holder, exit.number(), kind, content)).map(|(number, _)| number)
+    }
+
+    /// Copies the target of the source's exit into an empty exit of the second step.
+    pub fn link(
+        &mut self,
+        source: u16,
+        from: Exit,
+        second: u16,
+        into: Exit,
+    ) -> Result<(), Refusal> {
+        two(raw::link(&mut self.0, source, from.number(), second, into.number())).map(|_| ())
+    }
+
+    /// Empties an exit, and frees the steps that nothing reaches any more.
+    pub fn clear(&mut self, step: u16, exit: Exit) -> Result<Cleared, Refusal> {
+        let (doubtful, freed) = two(raw::clear(&mut self.0, step, exit.number()))?;
+        Ok(Cleared { doubtful, freed })
     }
 
     /// Carries out a key line, given without its byte 10; gives the two numbers that `keys` prints.
     pub fn key_line(&mut self, line: &[u8]) -> Result<(u16, u16), Refusal> {
-        self.take(key_line(self.0.clone(), line))
+        two(raw::key_line(&mut self.0, line))
     }
 
     /// All fields of a step.
     pub fn read(&self, step: u16) -> Result<Step, Refusal> {
-        let ReadReply { refusal, kind, content, own, targets, bits, counts } =
-            raw::plan_read(self.0.clone(), step);
+        let raw::ReadReply { refusal, kind, content, own, targets, bits, counts } =
+            raw::read(&self.0, step);
         Refusal::check(refusal)?;
-        Ok(Step { kind, content, own, targets, bits, counts })
+        let link = |exit: usize| Link { target: targets[exit], bit: bits[exit] };
+        let exits = core::array::from_fn(|exit| (targets[exit] != 0).then(|| link(exit)));
+        Ok(Step { kind: Kind::of_numbers(kind, content), own, exits, counts })
     }
 
-    /// Follows line results from step 0; writes the steps entered to the start of the trace.
+    /// Steps in use and free ones.
+    pub fn counts(&self) -> Result<Counts, Refusal> {
+        let (in_use, free) = two(raw::counts(&self.0))?;
+        Ok(Counts { in_use, free })
+    }
+
+    /// Follows line results, each 0 to 3, from step 0; writes the steps entered to the start of the trace.
     pub fn trial(&self, results: &[u8], trace: &mut [u8]) -> Result<Trial, Refusal> {
-        let reply = trial(self.0.clone(), results, trace);
+        let reply = raw::trial(&self.0, results, trace);
         Refusal::check(reply.refusal)?;
-        let ending = if reply.ending == 0 { Ending::Open } else { Ending::Spent };
+        let ending = match reply.ending {
+            0 => Ending::Open,
+            1 => Ending::Spent,
+            number => Ending::Unknown(number),
+        };
         Ok(Trial { ending, last: reply.last, moves: reply.moves })
+    }
+
+    /// The length of the image.
+    pub fn image_length(&self) -> Result<usize, Refusal> {
+        length(raw::image_length(&self.0))
     }
 
     /// Writes the image to the start of a lent buffer; gives its length.
     pub fn write_image(&self, buffer: &mut [u8]) -> Result<usize, Refusal> {
-        let reply = write_image(self.0.clone(), buffer);
-        Refusal::check(reply.refusal)?;
-        Ok(reply.length.into())
-    }
-
-    /// The plan of a reply that is not refused.
-    fn of(reply: Reply) -> Result<Plan, Refusal> {
-        Refusal::check(reply.refusal)?;
-        Ok(Plan(reply.table))
-    }
-
-    /// Takes over the table of a reply that is not refused; gives its two numbers.
-    fn take(&mut self, reply: Reply) -> Result<(u16, u16), Refusal> {
-        Refusal::check(reply.refusal)?;
-        self.0 = reply.table;
-        Ok((reply.first, reply.second))
+        length(raw::write_image(&self.0, buffer))
     }
 }
 
-// The calls on any table, sound or not, with the reply as the library gives it.
-
-pub use raw::{
-    plan_add as add, plan_clear as clear, plan_fresh as fresh, plan_link as link, plan_read as read,
-};
-
-/// Follows line results on any table.
-pub fn trial(table: Table, results: &[u8], trace: &mut [u8]) -> TrialReply {
-    // SAFETY: both slices are valid for their lengths and do not overlap, and the call keeps neither.
-    unsafe {
-        raw::plan_trial(table, results.as_ptr(), results.len(), trace.as_mut_ptr(), trace.len())
-    }
+/// The two numbers of a reply that is not refused.
+fn two(reply: raw::Reply) -> Result<(u16, u16), Refusal> {
+    Refusal::check(reply.refusal)?;
+    Ok((reply.first, reply.second))
 }
 
-/// Writes the image of any table.
-pub fn write_image(table: Table, buffer: &mut [u8]) -> WriteReply {
-    // SAFETY: the slice is valid for its length, and the call does not keep it.
-    unsafe { raw::plan_write_image(table, buffer.as_mut_ptr(), buffer.len()) }
-}
-
-/// Loads an image.
-pub fn load_image(bytes: &[u8]) -> Reply {
-    // SAFETY: the slice is valid for its length, and the call does not keep it.
-    unsafe { raw::plan_load_image(bytes.as_ptr(), bytes.len()) }
-}
-
-/// Carries out a key line on any table.
-pub fn key_line(table: Table, line: &[u8]) -> Reply {
-    // SAFETY: the slice is valid for its length, and the call does not keep it.
-    unsafe { raw::plan_key_line(table, line.as_ptr(), line.len()) }
+/// The length in a reply that is not refused.
+fn length(reply: raw::WriteReply) -> Result<usize, Refusal> {
+    Refusal::check(reply.refusal)?;
+    Ok(reply.length.into())
 }

@@ -1,31 +1,55 @@
-//! The exported functions and their structs, as `include/telephone.h` has them. Size and offsets are checked when this is compiled.
+//! The calls as `include/telephone.h` has them: any table, any numbers, and the reply as the library gives it.
+//! Sizes and offsets are checked when this is compiled.
 
-use std::mem::{align_of, offset_of, size_of};
+use core::mem::{align_of, offset_of, size_of};
 
-/// A table as it stands in memory. Every field is a number, so any bytes are a value of it.
+/// A table as it stands in memory. Every field is a number, so any bytes are a value of it; a call refuses one that is not sound with 1.
 #[repr(C)]
 #[derive(Clone, PartialEq, Eq, Debug)]
 pub struct Table {
+    /// 1 to 128 in a sound table.
     pub capacity: u16,
+    /// The number last given to a step.
     pub last: u16,
+    /// 1 for a step in use, 0 for a free one.
     pub used: [u16; 128],
     pub kinds: [u16; 128],
     pub contents: [u16; 128],
+    /// The bit of its own that each step has.
     pub own: [u16; 128],
+    /// The target of exit e of step i at i * 4 + e; 0 is an empty exit.
     pub targets: [u16; 512],
+    /// The bit of the link in the same exit.
     pub bits: [u16; 512],
+    /// Counter b of step i at i * 2 + b.
     pub counts: [u16; 256],
 }
 
+impl Table {
+    /// All fields zero. It is not sound; `fresh` or `load_image` makes a table of it.
+    pub const ZERO: Table = Table {
+        capacity: 0,
+        last: 0,
+        used: [0; 128],
+        kinds: [0; 128],
+        contents: [0; 128],
+        own: [0; 128],
+        targets: [0; 512],
+        bits: [0; 512],
+        counts: [0; 256],
+    };
+}
+
+/// A refusal, or 0, and two numbers that each call gives a meaning.
 #[repr(C)]
-#[derive(Clone, PartialEq, Eq, Debug)]
+#[derive(Clone, Copy, PartialEq, Eq, Debug, Default)]
 pub struct Reply {
     pub refusal: u16,
     pub first: u16,
     pub second: u16,
-    pub table: Table,
 }
 
+/// All fields of one step.
 #[repr(C)]
 #[derive(Clone, Copy, PartialEq, Eq, Debug, Default)]
 pub struct ReadReply {
@@ -38,6 +62,7 @@ pub struct ReadReply {
     pub counts: [u16; 2],
 }
 
+/// How a trial ended: 0 open, 1 spent.
 #[repr(C)]
 #[derive(Clone, Copy, PartialEq, Eq, Debug, Default)]
 pub struct TrialReply {
@@ -47,6 +72,7 @@ pub struct TrialReply {
     pub moves: usize,
 }
 
+/// The length of an image.
 #[repr(C)]
 #[derive(Clone, Copy, PartialEq, Eq, Debug, Default)]
 pub struct WriteReply {
@@ -65,27 +91,64 @@ const _: () = {
     assert!(offset_of!(Table, targets) == 1028);
     assert!(offset_of!(Table, bits) == 2052);
     assert!(offset_of!(Table, counts) == 3076);
-    assert!(size_of::<Reply>() == 3594 && offset_of!(Reply, table) == 6);
+    assert!(size_of::<Reply>() == 6);
     assert!(size_of::<ReadReply>() == 28 && offset_of!(ReadReply, counts) == 24);
     assert!(size_of::<TrialReply>() == 16 && offset_of!(TrialReply, moves) == 8);
     assert!(size_of::<WriteReply>() == 4);
 };
 
+// SAFETY: the signatures are those of the header; a reference is a pointer that is not null. A call marked safe reads and writes its table alone.
 unsafe extern "C" {
-    pub safe fn plan_is_sound(t: Table) -> u16;
-    pub safe fn plan_fresh(capacity: u16) -> Reply;
-    pub safe fn plan_add(t: Table, holder: u16, exit: u16, kind: u16, content: u16) -> Reply;
-    pub safe fn plan_link(t: Table, source: u16, from: u16, second: u16, into: u16) -> Reply;
-    pub safe fn plan_clear(t: Table, step: u16, exit: u16) -> Reply;
-    pub safe fn plan_read(t: Table, step: u16) -> ReadReply;
-    pub fn plan_trial(
-        t: Table,
+    #[link_name = "plan_edition"]
+    pub safe fn edition() -> u16;
+    #[link_name = "plan_is_sound"]
+    pub safe fn is_sound(t: &Table) -> u16;
+    #[link_name = "plan_fresh"]
+    pub safe fn fresh(t: &mut Table, capacity: u16) -> Reply;
+    #[link_name = "plan_add"]
+    pub safe fn add(t: &mut Table, holder: u16, exit: u16, kind: u16, content: u16) -> Reply;
+    #[link_name = "plan_link"]
+    pub safe fn link(t: &mut Table, source: u16, from: u16, second: u16, into: u16) -> Reply;
+    #[link_name = "plan_clear"]
+    pub safe fn clear(t: &mut Table, step: u16, exit: u16) -> Reply;
+    #[link_name = "plan_read"]
+    pub safe fn read(t: &Table, step: u16) -> ReadReply;
+    #[link_name = "plan_counts"]
+    pub safe fn counts(t: &Table) -> Reply;
+    #[link_name = "plan_image_length"]
+    pub safe fn image_length(t: &Table) -> WriteReply;
+    fn plan_trial(
+        t: &Table,
         results: *const u8,
         results_length: usize,
         trace: *mut u8,
         trace_length: usize,
     ) -> TrialReply;
-    pub fn plan_write_image(t: Table, buffer: *mut u8, length: usize) -> WriteReply;
-    pub fn plan_load_image(bytes: *const u8, length: usize) -> Reply;
-    pub fn plan_key_line(t: Table, line: *const u8, length: usize) -> Reply;
+    fn plan_write_image(t: &Table, buffer: *mut u8, length: usize) -> WriteReply;
+    fn plan_load_image(t: &mut Table, bytes: *const u8, length: usize) -> Reply;
+    fn plan_key_line(t: &mut Table, line: *const u8, length: usize) -> Reply;
+}
+
+/// Follows line results from step 0; writes the steps entered to the start of the trace.
+pub fn trial(t: &Table, results: &[u8], trace: &mut [u8]) -> TrialReply {
+    // SAFETY: both slices are valid for their lengths and overlap nothing that is lent, and the call keeps neither.
+    unsafe { plan_trial(t, results.as_ptr(), results.len(), trace.as_mut_ptr(), trace.len()) }
+}
+
+/// Writes the image of a table to the start of a buffer.
+pub fn write_image(t: &Table, buffer: &mut [u8]) -> WriteReply {
+    // SAFETY: the slice is valid for its length and does not overlap the table, and the call does not keep it.
+    unsafe { plan_write_image(t, buffer.as_mut_ptr(), buffer.len()) }
+}
+
+/// Makes the table of an image; a fresh one of capacity 1 where it is refused.
+pub fn load_image(t: &mut Table, bytes: &[u8]) -> Reply {
+    // SAFETY: as above.
+    unsafe { plan_load_image(t, bytes.as_ptr(), bytes.len()) }
+}
+
+/// Carries out a key line, given without its byte 10.
+pub fn key_line(t: &mut Table, line: &[u8]) -> Reply {
+    // SAFETY: as above.
+    unsafe { plan_key_line(t, line.as_ptr(), line.len()) }
 }

@@ -1,23 +1,24 @@
--- `edits::in_use` meets its contract: past the array nothing is in use. Assumes nothing.
-use mathlib.Core.Path.{refl, sym}
+-- `edits::in_use` meets its contract: past the places nothing is in use. Assumes nothing.
+use mathlib.Core.Path.{sym, _∙_, ap}
+use Prim.Native.Nat.{ℕ, _≤_}
+use Rattle.table.specs.Table.{places, inUse}
+use Rattle.words.specs.Words.{tableOf}
+use Rattle.words.proofs.Laws.{shape-table}
 use borrow.Author.Needs.{needs}
-use Rattle.edits.specs.Parts.{usedAt}
-use Rattle.edits.proofs.Laws.{used-above}
+use Rattle.edits.proofs.Laws.{unused-above}
 use Rattle.edits.proofs.in_use.Statement.{statement}
 use Rattle.edits.proofs.in_use.Tie as tie
 
 returns : tie.Need-returns
-returns c = sym (used-above _ _ (c .before .pre) (c .if1 .taken))
-
-mul-result : tie.Need-mul-result
-mul-result c = search needs
-
-element-copy-out-result : tie.Need-element-copy-out-result
-element-copy-out-result c = search needs
+returns c =
+    let l : places ≤ c .before .before .before .args .step = rw (c .before .wide .ensures) at (c .if1 .taken) in
+    sym (unused-above (shape-table _ (c .before .before .sized .ensures)) _ l)
 
 returns-2 : tie.Need-returns-2
-unfolding usedAt
-returns-2 c = refl
+returns-2 c =
+    let s = c .before .before .before .before in
+    c .in-use .ensures ∙ ap (λ (k : ℕ). inUse (tableOf (s .args .t .now)) k) (c .before .before .wide .ensures)
 
 pub in-use-spec : {M : Type 1} → statement M
-in-use-spec = tie.close (tie.spec returns mul-result element-copy-out-result returns-2)
+in-use-spec =
+    tie.close (tie.spec (λ c κs. search needs) (λ c κs. search needs) returns (λ c κs. search needs) returns-2)

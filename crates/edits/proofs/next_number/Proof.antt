@@ -5,12 +5,6 @@ use Rattle.table.specs.Calls.{after}
 use Rattle.edits.proofs.next_number.Statement.{statement}
 use Rattle.edits.proofs.next_number.Tie as tie
 
-add-if1 : tie.Need-add-if1
-add-if1 c = search needs
-
-add-result : tie.Need-add-result
-add-result c = search needs
-
 returns : tie.Need-returns
 unfolding after
 returns c = rw (lt-ltb _ _ (c .if1 .taken))
@@ -20,4 +14,4 @@ unfolding after
 returns-2 c = rw (le-ltb _ _ (c .if1 .left))
 
 pub next-number-spec : {M : Type 1} → statement M
-next-number-spec = tie.close (tie.spec add-if1 add-result returns returns-2)
+next-number-spec = tie.close (tie.spec (λ c. search needs) (λ c. search needs) returns returns-2)

@@ -1,73 +1,68 @@
 -- `edits::number_given` meets its contract. The loop's invariant: the search of the definition, from k on among the numbers left, finds the
 -- number given. The measure is how many are left. Assumes nothing.
-use mathlib.Core.Path.{_≡_, sym, _∙_}
+use mathlib.Core.Path.{_≡_, sym, _∙_, ap}
+use mathlib.Core.Bool.{Bool, false, not}
 use mathlib.Core.Logic.{⊎-elim}
-use Prim.Native.Nat.{_<_}
+use mathlib.Core.List.{List}
+use Prim.Native.Nat.{ℕ, _≤_, _<_}
 use native.Mathlib.Omega.{arith}
 use Rattle.finite.specs.Below.{find}
-use Rattle.table.specs.Table.{places}
+use Rattle.table.specs.Table.{places, inUse}
 use Rattle.table.specs.Calls.{after, numberGiven}
-use Rattle.edits.specs.Parts.{usedAt, freeAt}
+use Rattle.words.specs.Words.{tableOf}
+use borrow.Author.Needs.{needs}
 use Rattle.edits.proofs.Laws.{after-place, find-turn, find-none, find-here}
 use Rattle.edits.proofs.number_given.Statement.{statement}
 use Rattle.edits.proofs.number_given.Tie as tie
 
+abbrev free : List ℕ → ℕ → Bool
+free w k = not (inUse (tableOf w) k)
+
 abbrev Inv-loop : tie.InvT-loop
-Inv-loop used capacity last left₀ k₀ left k =
-    (k < places) × (find left (after capacity) k (freeAt used) ≡ numberGiven capacity last (freeAt used))
+Inv-loop t capacity left₀ k₀ left k =
+    (k < places) × (find left (after capacity) k (free t) ≡ numberGiven capacity (tableOf t .last) (free t))
 
 abbrev μ-loop : tie.MeasureT-loop
-μ-loop used capacity last left₀ k₀ left k = left
+μ-loop t capacity left₀ k₀ left k = left
 
-next-number-requires : tie.Need-next-number-requires Inv-loop μ-loop
-next-number-requires c κs = omega arith
+-- the capacity that the code has read is that of the table, which has a place for each step
+capacity-places : (c : tie.After-capacity Inv-loop μ-loop) → c .capacity .result ≤ places
+capacity-places c = rw (c .capacity .ensures) (c .before .pre .0)
 
 loop-holds : tie.Need-loop-holds Inv-loop μ-loop
 unfolding numberGiven
 loop-holds c =
-    let e = c .next-number .ensures in
-    let a = c .before .args in
-    (rw e (after-place (a .capacity) (a .last) (c .before .pre .0)), rw e)
-
-cast-i : tie.Need-cast-i Inv-loop μ-loop
-cast-i c = omega arith
-
-mul-if2 : tie.Need-mul-if2 Inv-loop μ-loop
-mul-if2 c = omega arith
-
-element-copy-out-if2 : tie.Need-element-copy-out-if2 Inv-loop μ-loop
-element-copy-out-if2 c = omega arith
-
-sub-left : tie.Need-sub-left Inv-loop μ-loop
-sub-left c = omega arith
-
-next-number-requires-2 : tie.Need-next-number-requires-2 Inv-loop μ-loop
-next-number-requires-2 c κs = omega arith
-
-loop-less : tie.Need-loop-less Inv-loop μ-loop
-loop-less c = omega arith
+    let at = c .before .before in
+    let n = at .capacity .result in
+    let e = c .next-number .ensures in (
+      rw e (after-place n (c .before .last .result) (capacity-places at)),
+      ap (λ (k : ℕ). find n (after n) k (free (at .before .args .t .now))) (e ∙ ap (after n) (c .before .last .ensures)),
+    )
 
 loop-again : tie.Need-loop-again Inv-loop μ-loop
-unfolding freeAt usedAt
 loop-again c =
-    let loop = c .before .before .before .before .loop in
-    let a = c .before .before .before .before .before .before .args in
+    let loop = c .before .before .before .before .before .loop in
+    let at = c .before .before .before .before .before .before .before .before in
+    let n = at .capacity .result in
     let e = c .next-number2 .ensures in
-    let free = freeAt (a .used .now) in (
-      rw e (after-place (a .capacity) (loop .k) (c .before .before .before .before .before .before .pre .0)),
-      rw e (find-turn (loop .left) (after (a .capacity)) (loop .k) free (c .before .before .before .if1 .left) (c .before .if2 .left) ∙ loop .inv .1),
+    let left = c .before .before .before .before .if1 .left in
+    let used : not (inUse (tableOf (at .before .args .t .now)) (loop .k)) ≡ false =
+    rw (sym (c .before .before .before .wide .ensures), sym (c .before .before .in-use .ensures)) (c .before .if2 .left) in (
+      rw e (after-place n (loop .k) (capacity-places at)),
+      rw e (find-turn (loop .left) (after n) (loop .k) (free (at .before .args .t .now)) left used ∙ loop .inv .1),
     )
 
 returns : tie.Need-returns Inv-loop μ-loop
-unfolding freeAt usedAt
 returns c =
     let loop = c .before .loop in
-    let a = c .before .before .before .args in
-    let next = after (a .capacity) in
-    let free = freeAt (a .used .now) in
-    ⊎-elim (λ w. sym (find-none (loop .left) next (loop .k) free (w .taken)) ∙ loop .inv .1)
-    (λ w. sym (find-here (loop .left) next (loop .k) free (w .2 .taken)) ∙ loop .inv .1)
-    (c .if1 .came)
+    let at = c .before .before .before .before in
+    let w = at .before .args .t .now in
+    let next = after (at .capacity .result) in
+    let found : loop .k ≡ find (loop .left) next (loop .k) (free w) =
+    ⊎-elim (λ x. sym (find-none (loop .left) next (loop .k) (free w) (x .taken)))
+    (λ x. sym (find-here (loop .left) next (loop .k) (free w) (rw (sym (x .1 .ensures), sym (x .2 .ensures)) (x .3 .taken))))
+    (c .if1 .came) in
+    found ∙ loop .inv .1 ∙ ap (λ (n : ℕ). numberGiven n (tableOf w .last) (free w)) (at .capacity .ensures)
 
 pub number-given-spec : {M : Type 1} → statement M
 number-given-spec =
@@ -75,13 +70,14 @@ number-given-spec =
     (tie.spec
     Inv-loop
     μ-loop
-    next-number-requires
+    (λ c κs. search needs)
+    (λ c κs. search needs)
+    (λ c κs. omega arith)
     loop-holds
-    cast-i
-    mul-if2
-    element-copy-out-if2
-    sub-left
-    next-number-requires-2
-    loop-less
+    (λ c κs. search needs)
+    (λ c κs. omega arith)
+    (λ c. omega arith)
+    (λ c κs. omega arith)
+    (λ c. omega arith)
     loop-again
     returns)

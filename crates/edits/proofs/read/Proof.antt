@@ -6,16 +6,14 @@ use Rattle.finite.proofs.Bools.{not-false-true}
 use Rattle.table.specs.Calls.{noFields, readRefusal, readCall}
 use Rattle.table.proofs.Links.{used-place}
 use Rattle.table.proofs.Calls.{nonzero, first-zero}
-use Rattle.edits.proofs.Laws.{accepted-sound}
+use Rattle.words.specs.Words.{tableOf}
+use Rattle.words.proofs.Refusals.{accepted-sound}
 use Rattle.edits.proofs.read.Statement.{statement}
 use Rattle.edits.proofs.read.Tie as tie
 
 -- read is accepted: its refusal is 0
-accepted : (c : tie.Else1) → readRefusal (c .before .before .args .t) (c .before .before .args .step) ≡ 0
+accepted : (c : tie.Else1) → readRefusal (tableOf (c .before .before .args .t .now)) (c .before .before .args .step) ≡ 0
 accepted c = sym (c .before .read-refusal .ensures) ∙ c .if1 .left
-
-read-refusal-requires : tie.Need-read-refusal-requires
-read-refusal-requires c κs = search needs
 
 returns : tie.Need-returns
 unfolding readCall noFields
@@ -26,12 +24,13 @@ returns c =
 fields-of-requires : tie.Need-fields-of-requires
 unfolding readRefusal nonzero
 fields-of-requires c κs =
-    let z = accepted c in
-    used-place (accepted-sound _ _ z .shape) _ (not-false-true _ (first-zero _ z refl 1))
+    let z = accepted (c .before) in
+    rw (c .wide .ensures) (used-place (accepted-sound _ _ z .shape) _ (not-false-true _ (first-zero _ z refl 1)))
 
 returns-2 : tie.Need-returns-2
 unfolding readCall
-returns-2 c = rw (accepted (c .before), c .before .if1 .left, c .fields-of .ensures)
+returns-2 c = rw (accepted (c .before .before), c .before .before .if1 .left, c .fields-of .ensures, c .before .wide .ensures)
 
 pub read-spec : {M : Type 1} → statement M
-read-spec = tie.close (tie.spec read-refusal-requires returns fields-of-requires returns-2)
+read-spec =
+    tie.close (tie.spec (λ c κs. search needs) returns (λ c κs. search needs) fields-of-requires returns-2)

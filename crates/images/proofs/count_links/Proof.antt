@@ -1,108 +1,77 @@
 -- `images::count_links` meets its contract: at each place the counters are those of the exits before it. Assumes nothing.
 use mathlib.Core.Path.{_≡_, refl, _∙_, ap}
 use mathlib.Core.Logic.{⊎-elim}
-use mathlib.Core.List.{List}
-use Prim.Native.Nat.{ℕ, _+_, _*_, _-_, _≤_}
+use Prim.Native.Nat.{ℕ, _*_, _-_, _≤_, _<_}
 use native.Mathlib.Omega.{arith}
-use lib.ListN.{getD, set}
+use lib.ListN.{getD}
 use borrow.Author.Needs.{needs}
-use Rattle.images.specs.Parts.{linkTable}
-use Rattle.images.proofs.Counting.{countersTo, counters-none, counters-le, counters-hit, counters-miss, counters-all}
+use Rattle.table.specs.Table.{Table}
+use Rattle.words.specs.Words.{tableOf, Becomes}
+use Rattle.images.proofs.Counting.{countedTo, counted-none, counted-hit, counted-miss, counted-le, counted-bit, counted-all}
 use Rattle.images.proofs.count_links.Statement.{statement}
 use Rattle.images.proofs.count_links.Tie as tie
 
 abbrev Inv-loop : tie.InvT-loop
-Inv-loop targets bits capacity n counts₀ p₀ counts p = (p ≤ n) × ((n ≤ 512) × (counts ≡ countersTo (linkTable capacity targets bits) p))
+Inv-loop t₀ n p₀ t p = (p ≤ n) × (n ≡ tableOf t₀ .capacity * 4) × Becomes t₀ t (countedTo (tableOf t₀) p)
 
 abbrev μ-loop : tie.MeasureT-loop
-μ-loop targets bits capacity n counts₀ p₀ counts p = n - p
+μ-loop t₀ n p₀ t p = n - p
 
-mul-n : tie.Need-mul-n Inv-loop μ-loop
-mul-n c = search needs
+-- the table at the call
+abbrev begun : tie.At-loop Inv-loop μ-loop → Table
+begun l = tableOf (l .before .before .before .before .args .t .now)
+
+-- the place is that of an exit, and its bit is 0 or 1
+below : (c : tie.In-loop Inv-loop μ-loop) → c .before .loop .p < 512
+below c = let l = c .before in omega (arith, c .loop-test .taken, l .loop .inv .1, l .before .before .before .before .pre .0)
+
+small : (l : tie.At-loop Inv-loop μ-loop) (b : ℕ) → b ≡ getD (tableOf (l .loop .t) .bits) (l .loop .p) 0 → b < 2
+small l b e = rw e (counted-bit (begun l) _ (l .loop .p) (l .loop .inv .2 .table) (l .before .before .before .before .pre .1))
 
 loop-holds : tie.Need-loop-holds Inv-loop μ-loop
-loop-holds c = (omega arith, (omega arith, counters-none (linkTable (c .args .capacity) (c .args .targets .now) (c .args .bits .now))))
+loop-holds c =
+    let s = c .before .before .before in
+    let e = c .wide .ensures ∙ c .before .capacity .ensures in
+    (omega arith, ap (λ (n : ℕ). n * 4) e, record { table = counted-none _ (s .pre .2); size = refl })
 
-mul-target : tie.Need-mul-target Inv-loop μ-loop
-mul-target c = search needs
-
-element-copy-out-target : tie.Need-element-copy-out-target Inv-loop μ-loop
-element-copy-out-target c = search needs
-
-mul-bit : tie.Need-mul-bit Inv-loop μ-loop
-mul-bit c = search needs
-
-element-copy-out-bit : tie.Need-element-copy-out-bit Inv-loop μ-loop
-element-copy-out-bit c = search needs
-
-cast-q : tie.Need-cast-q Inv-loop μ-loop
-cast-q c = search needs
-
-mul-q : tie.Need-mul-q Inv-loop μ-loop
-mul-q c = search needs
-
-cast-q-2 : tie.Need-cast-q-2 Inv-loop μ-loop
-cast-q-2 c = omega (arith, c .before .before .before .before .before .before .pre .1 (c .before .before .before .before .before .loop .p))
-
-add-q : tie.Need-add-q Inv-loop μ-loop
-add-q c = omega (arith, c .before .before .before .before .before .before .pre .1 (c .before .before .before .before .before .loop .p))
-
-mul-counts : tie.Need-mul-counts Inv-loop μ-loop
-mul-counts c = omega (arith, c .before .before .before .before .before .before .pre .1 (c .before .before .before .before .before .loop .p))
-
-array-read-counts : tie.Need-array-read-counts Inv-loop μ-loop
-array-read-counts c = omega (arith, c .before .before .before .before .before .before .pre .1 (c .before .before .before .before .before .loop .p))
-
-add-counts : tie.Need-add-counts Inv-loop μ-loop
-add-counts c =
-    let l = c .before .before .before .before .before in
-    let a = l .before .args in
-    let p = l .loop .p in
-    let u = linkTable (a .capacity) (a .targets .now) (a .bits .now) in
-    let q = getD (a .targets .now) p 0 * 2 + getD (a .bits .now) p 0 in
-    let h = l .before .pre .1 p in
-    let e : getD (l .loop .counts) q 0 ≡ getD (countersTo u p) q 0 = ap (λ (l : List ℕ). getD l q 0) (l .loop .inv .1 .1) in
-    omega (arith, counters-le u p q (omega arith), l .loop .inv .0)
-
-array-write-counts : tie.Need-array-write-counts Inv-loop μ-loop
-array-write-counts c = omega (arith, c .before .before .before .before .before .before .pre .1 (c .before .before .before .before .before .loop .p))
-
-add-p : tie.Need-add-p Inv-loop μ-loop
-add-p c = search needs
-
-loop-less : tie.Need-loop-less Inv-loop μ-loop
-loop-less c = search needs
+raise-requires : tie.Need-raise-requires Inv-loop μ-loop
+raise-requires c κs =
+    let h = c .before .before .before .before .before .before .before in
+    let l = h .before in
+    let low = rw (c .before .before .before .before .wide2 .ensures) at (c .before .before .before .if1 .taken) in
+    let bit = small l _ (c .before .bit-in .ensures) in
+    let le = counted-le (begun l) _ (l .loop .p) (l .loop .inv .2 .table) _ _ low bit in
+    (low, bit, λ d. omega (arith, le, below h))
 
 loop-again : tie.Need-loop-again Inv-loop μ-loop
-unfolding linkTable
 loop-again c =
-    let l = c .before .before .before .before in
-    let a = l .before .args in
-    let u = linkTable (a .capacity) (a .targets .now) (a .bits .now) in
+    let l = c .before .before .before .before .before in
+    let u = begun l in
     let p = l .loop .p in
     let inv = l .loop .inv in
-    let q = getD (a .targets .now) p 0 * 2 + getD (a .bits .now) p 0 in (
-      omega arith,
-      (
-        inv .1 .0,
-        ⊎-elim
-            (λ w.
-            w .2 ∙ ap (λ (l : List ℕ). set l q (getD l q 0 + 1)) (inv .1 .1) ∙ counters-hit u p q refl (w .0 .taken) (w .1 .taken) (l .before .pre .1 p))
-            (λ v.
-            ⊎-elim (λ w. w .2 ∙ inv .1 .1 ∙ counters-miss u p (λ h l. omega (arith, w .1 .left)))
-            (λ w. w .1 ∙ inv .1 .1 ∙ counters-miss u p (λ h l. omega (arith, w .0 .left)))
-            v)
-            (c .if1 .came),
-      ),
+    let e = inv .2 .table in
+    let j = c .before .before .target-in .ensures in
+    let to = c .before .wide2 .ensures in (
+      omega (arith, c .before .before .before .before .loop-test .taken),
+      inv .1,
+      ⊎-elim
+          (λ w.
+          let b = w .2 .ensures in
+          rw (w .5)
+          (record {
+            table = counted-hit u _ p e _ _ _ (w .4 .ensures .table) j b (rw to at (w .0 .taken)) (small l _ b);
+            size = w .4 .ensures .size ∙ inv .2 .size;
+          }))
+          (λ w. rw (w .1) (record { table = counted-miss u _ p e _ j (rw to at (w .0 .left)); size = inv .2 .size }))
+          (c .if1 .came),
     )
 
 returns : tie.Need-returns Inv-loop μ-loop
 returns c =
     let l = c .before in
-    let a = l .before .args in
-    let e : l .loop .p ≡ a .capacity * 4 = omega arith in
-    l .loop .inv .1 .1 ∙ ap (countersTo (linkTable (a .capacity) (a .targets .now) (a .bits .now))) e
-    ∙ counters-all (a .capacity) (a .targets .now) (a .bits .now)
+    let inv = l .loop .inv in
+    let e : l .loop .p ≡ begun l .capacity * 4 = omega (arith, c .loop-test .left, inv .0, inv .1) in
+    record { table = inv .2 .table ∙ ap (countedTo (begun l)) e ∙ counted-all (begun l); size = inv .2 .size }
 
 pub count-links-spec : {M : Type 1} → statement M
 count-links-spec =
@@ -110,21 +79,15 @@ count-links-spec =
     (tie.spec
     Inv-loop
     μ-loop
-    mul-n
+    (λ c κs. search needs)
+    (λ c κs. search needs)
+    (λ c. search needs)
     loop-holds
-    mul-target
-    element-copy-out-target
-    mul-bit
-    element-copy-out-bit
-    cast-q
-    mul-q
-    cast-q-2
-    add-q
-    mul-counts
-    array-read-counts
-    add-counts
-    array-write-counts
-    add-p
-    loop-less
+    (λ c κs. below (c .before))
+    (λ c κs. search needs)
+    (λ c κs. below (c .before .before .before .before .before))
+    raise-requires
+    (λ c. search needs)
+    (λ c. search needs)
     loop-again
     returns)

@@ -8,15 +8,6 @@ use Rattle.images.proofs.Laws.{put-more, put-eq}
 use Rattle.images.proofs.put_header.Statement.{statement}
 use Rattle.images.proofs.put_header.Tie as tie
 
-put-four-requires : tie.Need-put-four-requires
-put-four-requires c κs = search needs
-
-put-word-requires : tie.Need-put-word-requires
-put-word-requires c κs = search needs
-
-same-length : tie.Need-same-length
-same-length c = search needs
-
 returns : tie.Need-returns
 unfolding recordBytes recordSize
 returns c =
@@ -27,4 +18,4 @@ returns c =
     ∙ put-eq part (10 ∷ 1 ∷ a .capacity ∷ a .last ∷ a .steps ∷ []) (omega arith)
 
 pub put-header-spec : {M : Type 1} → statement M
-put-header-spec = tie.close (tie.spec put-four-requires put-word-requires same-length returns)
+put-header-spec = tie.close (tie.spec (λ c κs. search needs) (λ c κs. search needs) (λ c. search needs) returns)

@@ -11,50 +11,26 @@ use Rattle.images.proofs.read_header.Tie as tie
 returns : tie.Need-returns
 returns c = let bytes = c .before .before .args .bytes .now in sym (header-unfit bytes (λ f. omega (arith, f .size, c .if1 .taken)))
 
-word-at-requires : tie.Need-word-at-requires
-word-at-requires c κs = search needs
-
-cast-if2 : tie.Need-cast-if2
-cast-if2 c = search needs
-
-mul-if2 : tie.Need-mul-if2
-mul-if2 c = search needs
-
-add-if2 : tie.Need-add-if2
-add-if2 c = search needs
-
 returns-2 : tie.Need-returns-2
 returns-2 c =
     let bytes = c .before .before .before .before .args .bytes .now in
     let n = c .before .word-at .ensures in
     sym (header-unfit bytes (λ f. c .if2 .taken (f .size ∙ rw n)))
 
-word-at-requires-2 : tie.Need-word-at-requires-2
-word-at-requires-2 c κs = search needs
-
 returns-3 : tie.Need-returns-3
 returns-3 c =
     let bytes = c .before .before .before .before .before .before .args .bytes .now in
     sym (header-unfit bytes (λ f. c .if3 .taken (c .before .word-at2 .ensures ∙ f .long)))
-
-word-at-requires-3 : tie.Need-word-at-requires-3
-word-at-requires-3 c κs = search needs
 
 returns-4 : tie.Need-returns-4
 returns-4 c =
     let bytes = c .before .before .before .before .before .before .before .before .args .bytes .now in
     sym (header-unfit bytes (λ f. c .if4 .taken (c .before .word-at3 .ensures ∙ f .kind)))
 
-word-at-requires-4 : tie.Need-word-at-requires-4
-word-at-requires-4 c κs = search needs
-
 returns-5 : tie.Need-returns-5
 returns-5 c =
     let bytes = c .before .before .before .before .before .before .before .before .before .before .args .bytes .now in
     sym (header-unfit bytes (λ f. omega (arith, f .capacity, c .before .word-at4 .ensures, c .if5 .taken)))
-
-word-at-requires-5 : tie.Need-word-at-requires-5
-word-at-requires-5 c κs = search needs
 
 returns-6 : tie.Need-returns-6
 returns-6 c =
@@ -77,16 +53,16 @@ read-header-spec =
     tie.close
     (tie.spec
     returns
-    word-at-requires
-    cast-if2
-    mul-if2
-    add-if2
+    (λ c κs. search needs)
+    (λ c. search needs)
+    (λ c. search needs)
+    (λ c. search needs)
     returns-2
-    word-at-requires-2
+    (λ c κs. search needs)
     returns-3
-    word-at-requires-3
+    (λ c κs. search needs)
     returns-4
-    word-at-requires-4
+    (λ c κs. search needs)
     returns-5
-    word-at-requires-5
+    (λ c κs. search needs)
     returns-6)

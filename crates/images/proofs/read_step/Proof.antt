@@ -10,24 +10,15 @@ use Rattle.images.proofs.read_step.Tie as tie
 returns : tie.Need-returns
 returns c = let part = c .before .before .args .part .now in sym (step-nothing part (λ f. omega (arith, f .room, c .if1 .taken)))
 
-word-at-requires : tie.Need-word-at-requires
-word-at-requires c κs = search needs
-
 returns-2 : tie.Need-returns-2
 returns-2 c =
     let part = c .before .before .before .before .args .part .now in
     sym (step-nothing part (λ f. c .if2 .taken (c .before .word-at .ensures ∙ f .long)))
 
-word-at-requires-2 : tie.Need-word-at-requires-2
-word-at-requires-2 c κs = search needs
-
 returns-3 : tie.Need-returns-3
 returns-3 c =
     let part = c .before .before .before .before .before .before .args .part .now in
     sym (step-nothing part (λ f. c .if3 .taken (c .before .word-at2 .ensures ∙ f .kind)))
-
-word-at-requires-3 : tie.Need-word-at-requires-3
-word-at-requires-3 c κs = search needs
 
 returns-4 : tie.Need-returns-4
 unfolding fieldAt
@@ -35,32 +26,11 @@ returns-4 c =
     let part = c .before .before .before .before .before .before .before .before .args .part .now in
     sym (step-nothing part (λ f. omega (arith, f .number, c .before .word-at3 .ensures, c .if4 .taken)))
 
-word-at-requires-4 : tie.Need-word-at-requires-4
-word-at-requires-4 c κs = search needs
-
 returns-5 : tie.Need-returns-5
 unfolding fieldAt
 returns-5 c =
     let part = c .before .before .before .before .before .before .before .before .before .before .args .part .now in
     sym (step-nothing part (λ f. omega (arith, f .bits, c .before .word-at4 .ensures, c .if5 .taken)))
-
-word-at-requires-5 : tie.Need-word-at-requires-5
-word-at-requires-5 c κs = search needs
-
-word-at-requires-6 : tie.Need-word-at-requires-6
-word-at-requires-6 c κs = search needs
-
-word-at-requires-7 : tie.Need-word-at-requires-7
-word-at-requires-7 c κs = search needs
-
-word-at-requires-8 : tie.Need-word-at-requires-8
-word-at-requires-8 c κs = search needs
-
-word-at-requires-9 : tie.Need-word-at-requires-9
-word-at-requires-9 c κs = search needs
-
-word-at-requires-10 : tie.Need-word-at-requires-10
-word-at-requires-10 c κs = search needs
 
 returns-6 : tie.Need-returns-6
 unfolding fieldAt
@@ -90,18 +60,18 @@ read-step-spec =
     tie.close
     (tie.spec
     returns
-    word-at-requires
+    (λ c κs. search needs)
     returns-2
-    word-at-requires-2
+    (λ c κs. search needs)
     returns-3
-    word-at-requires-3
+    (λ c κs. search needs)
     returns-4
-    word-at-requires-4
+    (λ c κs. search needs)
     returns-5
-    word-at-requires-5
-    word-at-requires-6
-    word-at-requires-7
-    word-at-requires-8
-    word-at-requires-9
-    word-at-requires-10
+    (λ c κs. search needs)
+    (λ c κs. search needs)
+    (λ c κs. search needs)
+    (λ c κs. search needs)
+    (λ c κs. search needs)
+    (λ c κs. search needs)
     returns-6)

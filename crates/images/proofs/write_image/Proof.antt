@@ -8,183 +8,168 @@ use native.Mathlib.Omega.{arith}
 use lib.ListN.{length, length-drop, drop}
 use lib.Seq.{length-take-le}
 use borrow.Author.Needs.{needs}
-use Rattle.finite.proofs.Bools.{not-true-false, not-false-true}
-use Rattle.table.specs.declared.Table.{Table}
+use Rattle.finite.proofs.Below.{count-le}
 use Rattle.table.specs.declared.Answer.the-variants.{Given}
+use Rattle.table.specs.Table.{Table, inUse, stepsInUse}
 use Rattle.table.specs.Sound.{sound}
 use Rattle.table.proofs.Sound.{test-sound}
-use Rattle.images.proofs.Laws.{usedBelow, used-le}
-use Rattle.images.proofs.Writing.{Written, written-none, written-more, written-same, written-all, written-room, bits-small, write-unsound, write-short, write-fits}
+use Rattle.words.specs.Words.{tableOf}
+use Rattle.images.proofs.Writing.{Written, written-none, written-more, written-same, written-all, written-room, passed-sound, write-refused, write-short, write-fits}
 use Rattle.images.proofs.write_image.Statement.{statement}
 use Rattle.images.proofs.write_image.Tie as tie
 
 abbrev Inv-loop : tie.InvT-loop
-Inv-loop buffer₀ t capacity steps size n at₀ i₀ buffer at i =
-    (i ≤ n) × ((n ≤ 128) × ((10 + 20 * usedBelow (t .used) n ≤ length buffer₀) × ((length buffer₀ < 2 ^ 64) × Written t buffer₀ buffer at i)))
+Inv-loop t buffer₀ refusal steps size capacity n at₀ i₀ buffer at i =
+    (i ≤ n) × (n ≡ tableOf t .capacity) × (sound (tableOf t) ≡ true) ×
+    (10 + 20 * stepsInUse (tableOf t) ≤ length buffer₀) × (length buffer₀ < 2 ^ 64) × Written (tableOf t) buffer₀ buffer at i
 
 abbrev μ-loop : tie.MeasureT-loop
-μ-loop buffer₀ t capacity steps size n at₀ i₀ buffer at i = n - i
+μ-loop t buffer₀ refusal steps size capacity n at₀ i₀ buffer at i = n - i
 
 -- past the first test the table is sound
-passed : (c : tie.Else1 Inv-loop μ-loop) → sound (c .before .before .before .args .t1) ≡ true
-passed c = sym (c .before .is-sound .ensures) ∙ not-false-true _ (c .if1 .left)
+passed : (c : tie.Else1 Inv-loop μ-loop) → sound (tableOf (c .before .before .before .args .t .now)) ≡ true
+passed c = passed-sound (tableOf (c .before .before .before .args .t .now)) (sym (c .if1 .left) ∙ c .before .table-refusal .ensures)
+
+-- a sound table has no more steps in use than places
+small : (t : Table) → sound t ≡ true → stepsInUse t ≤ 128
+unfolding stepsInUse
+small t s = omega (arith, count-le (t .capacity) (inUse t), test-sound t s .most)
 
 -- the table, at the loop's head
 abbrev tableAt : tie.At-loop Inv-loop μ-loop → Table
-tableAt l = l .before .before .before .before .before .before .before .before .before .before .before .before .args .t1
+tableAt l = tableOf (l .before .before .before .before .before .before .before .before .before .before .before .before .before .before .args .t .now)
+
+-- a step below the capacity has a place
+low : (c : tie.In-loop Inv-loop μ-loop) → c .before .loop .i < 128
+low c =
+    let inv = c .before .loop .inv in
+    omega (arith, c .loop-test .taken, inv .1, test-sound (tableAt (c .before)) (inv .2) .most)
 
 -- the record of a step in use has room
 room : (c : tie.Then3 Inv-loop μ-loop) → c .before .before .before .loop .at + 20 ≤ length (c .before .before .before .loop .buffer)
+unfolding stepsInUse
 room c =
     let l = c .before .before .before in
-    let inv = l .loop .inv .1 .1 in
-    let start = l .before .before .before .put-header .last .0 in
-    written-room (tableAt l) start (l .loop .buffer) (l .loop .at) (l .loop .i) (tableAt l .capacity) (inv .1 .1)
-    (c .before .before .loop-test .taken) (c .if3 .taken) (inv .0)
-
-is-sound-requires : tie.Need-is-sound-requires Inv-loop μ-loop
-is-sound-requires c κs = search needs
+    let inv = l .loop .inv in
+    let t = tableAt l in
+    written-room t _ (l .loop .buffer) (l .loop .at) (l .loop .i) (t .capacity) (inv .5)
+    (omega (arith, c .before .before .loop-test .taken, inv .1)) (sym (c .before .in-use .ensures) ∙ c .if3 .taken) (inv .3)
 
 returns : tie.Need-returns Inv-loop μ-loop
 returns c =
-    let t = c .before .before .before .args .t1 in
-    let e = write-unsound t (c .before .before .before .args .buffer .now) (sym (c .before .is-sound .ensures) ∙ not-true-false _ (c .if1 .taken)) in
+    let a = c .before .before .before .args in
+    let e = write-refused (tableOf (a .t .now)) (a .buffer .now) _ (c .before .table-refusal .ensures) (c .if1 .taken) in
     (sym (ap (λ w. w .answer) e), sym (ap (λ w. w .buffer) e))
 
 count-used-requires : tie.Need-count-used-requires Inv-loop μ-loop
-count-used-requires c κs = test-sound (c .before .before .before .before .before .args .t1) (passed (c .before .before)) .most
+count-used-requires c κs = test-sound (tableOf (c .before .before .before .args .t .now)) (passed c) .most
 
 mul-size : tie.Need-mul-size Inv-loop μ-loop
-mul-size c =
-    let t = c .before .before .before .before .before .before .args .t1 in
-    let m = test-sound t (passed (c .before .before .before)) .most in
-    omega (arith, used-le (t .used) (t .capacity), c .count-used .ensures)
+mul-size c = omega (arith, c .count-used .ensures, small _ (passed (c .before)))
 
 add-size : tie.Need-add-size Inv-loop μ-loop
-add-size c =
-    let t = c .before .before .before .before .before .before .args .t1 in
-    let m = test-sound t (passed (c .before .before .before)) .most in
-    omega (arith, used-le (t .used) (t .capacity), c .count-used .ensures)
-
-cast-if2 : tie.Need-cast-if2 Inv-loop μ-loop
-cast-if2 c = search needs
+add-size c = omega (arith, c .count-used .ensures, small _ (passed (c .before)))
 
 returns-2 : tie.Need-returns-2 Inv-loop μ-loop
 returns-2 c =
-    let s = c .before .before .before .before .before .before .before in
-    let n = c .before .count-used .ensures in
-    let e = write-short (s .args .t1) (s .args .buffer .now) (passed (c .before .before .before .before)) (rw (← n) (c .if2 .taken)) in
+    let s = c .before .before in
+    let a = s .before .before .before .before .args in
+    let n = s .count-used .ensures in
+    let w = c .before .wide .ensures in
+    let e = write-short (tableOf (a .t .now)) (a .buffer .now) (passed (s .before)) (omega (arith, n, w, c .if2 .taken)) in
     (sym (ap (λ w. w .answer) e), sym (ap (λ w. w .buffer) e))
 
 put-header-requires : tie.Need-put-header-requires Inv-loop μ-loop
-put-header-requires c κs = search needs
-
-cast-n : tie.Need-cast-n Inv-loop μ-loop
-cast-n c = search needs
+put-header-requires c κs = omega (arith, c .before .before .before .if2 .left, c .before .before .before .before .wide .ensures)
 
 loop-holds : tie.Need-loop-holds Inv-loop μ-loop
 loop-holds c =
-    let s = c .before .before .before .before .before .before .before .before .before .before .before in
-    let t = s .args .t1 in
-    let start = c .before .before .put-header .last .0 in
-    let m = test-sound t (passed (c .before .before .before .before .before .before .before .before)) .most in
-    let n = c .before .before .before .before .before .count-used .ensures in
-    let k : length start ≡ length (s .args .buffer .now) = c .before .before .put-header .kept .0 in
-    let l = c .before .before .before .before .if2 .left in
-    (omega arith, (m, (omega arith, (omega (arith, s .good), written-none t start (omega arith)))))
-
-mul-if3 : tie.Need-mul-if3 Inv-loop μ-loop
-mul-if3 c = search needs
-
-element-copy-out-if3 : tie.Need-element-copy-out-if3 Inv-loop μ-loop
-element-copy-out-if3 c = omega arith
+    let h = c .before .before .before in
+    let w = h .before .before .before .before .before in
+    let s = w .before in
+    let a = s .before .before .before .before .args in
+    let t = tableOf (a .t .now) in
+    let start = h .put-header .last .0 in
+    let k : length start ≡ length (a .buffer .now) = h .put-header .kept .0 in
+    let enough : 10 + 20 * stepsInUse t ≤ length start =
+    omega (arith, k, s .count-used .ensures, w .wide .ensures, h .before .before .before .before .if2 .left) in (
+      omega arith,
+      c .wide2 .ensures ∙ h .before .before .before .capacity .ensures,
+      passed (s .before),
+      enough,
+      omega (arith, k, s .before .before .before .before .good),
+      written-none t start (omega arith),
+    )
 
 step-record-requires : tie.Need-step-record-requires Inv-loop μ-loop
 step-record-requires c κs =
-    let l = c .before .before .before .before .before .before .before .before .before in
-    let t = tableAt l in
-    let used = c .before .before .before .before .before .before .if3 .taken in
-    (omega (arith, l .loop .inv .1 .0, c .before .before .before .before .before .before .before .before .loop-test .taken), bits-small t (test-sound t (passed (l .before .before .before .before .before .before .before .before .before))) (l .loop .i) used)
+    (low (c .before .before), c .before .before .before .loop .inv .2, sym (c .before .in-use .ensures) ∙ c .if3 .taken)
 
 sub-put-step : tie.Need-sub-put-step Inv-loop μ-loop
-sub-put-step c = omega (arith, room (c .before .before .before .before .before .before .before))
+sub-put-step c = omega (arith, room (c .before))
 
 part-put-step-start : tie.Need-part-put-step-start Inv-loop μ-loop
-part-put-step-start c = omega (arith, room (c .before .before .before .before .before .before .before))
-
-part-put-step-end : tie.Need-part-put-step-end Inv-loop μ-loop
-part-put-step-end c = search needs
+part-put-step-start c = omega (arith, room (c .before))
 
 put-step-requires : tie.Need-put-step-requires Inv-loop μ-loop
 put-step-requires c κs =
-    let r = room (c .before .before .before .before .before .before .before .before) in
-    let bytes = c .before .before .before .before .before .before .before .before .before .before .before .loop .buffer in
-    let at = c .before .before .before .before .before .before .before .before .before .before .before .loop .at in
-    let l = length-drop at bytes in
+    let r = room (c .before .before) in
+    let l = c .before .before .before .before .before in
+    let bytes = l .loop .buffer in
+    let at = l .loop .at in
+    let k = length-drop at bytes in
     let m = length-take-le (length bytes - at) (drop at bytes) (omega arith) in
     omega arith
 
 add-at : tie.Need-add-at Inv-loop μ-loop
 add-at c =
-    let l = c .before .before .before .before .before .before .before .before .before .before .before .before .before .before in
-    let r = room (c .before .before .before .before .before .before .before .before .before .before .before) in
-    omega (arith, l .loop .inv .1 .1 .1 .1 .size, l .loop .inv .1 .1 .1 .0)
-
-add-i : tie.Need-add-i Inv-loop μ-loop
-add-i c = search needs
-
-loop-less : tie.Need-loop-less Inv-loop μ-loop
-loop-less c = search needs
+    let s = c .before .before .before .before .before in
+    let inv = s .before .before .before .loop .inv in
+    omega (arith, room s, inv .5 .size, inv .4)
 
 loop-again : tie.Need-loop-again Inv-loop μ-loop
 loop-again c =
     let l = c .before .before .before in
-    let t = l .before .before .before .before .before .before .before .before .before .before .before .before .args .t1 in
-    let start = l .before .before .before .put-header .last .0 in
+    let t = tableAt l in
     let bytes = l .loop .buffer in
     let at = l .loop .at in
     let i = l .loop .i in
     let inv = l .loop .inv in
-    let written = inv .1 .1 .1 .1 in (
-      omega arith,
-      (
-        inv .1 .0,
-        (
-          inv .1 .1 .0,
-          (
-            inv .1 .1 .1 .0,
-            ⊎-elim
-                (λ w.
-                let r = room (record { before = c .before; if3 = w .0 }) in
-                let s = written .size in
-                rw (w .12, w .13)
-                (written-more t start bytes (w .9 .last .0) at i (w .7 .result) written (w .0 .taken) (w .7 .ensures) (omega arith) (w .9 .ensures)))
-                (λ w. rw (w .1, w .2) (written-same t start bytes at i written (w .0 .left)))
-                (c .if3 .came),
-          ),
-        ),
-      ),
+    let written = inv .5 in
+    let used = c .before .in-use .ensures in (
+      omega (arith, c .before .before .loop-test .taken),
+      inv .1,
+      inv .2,
+      inv .3,
+      inv .4,
+      ⊎-elim
+          (λ w.
+          let r = room (record { before = c .before; if3 = w .0 }) in
+          rw (w .6, w .7)
+          (written-more t _ bytes (w .3 .last .0) at i (w .1 .result) written (sym used ∙ w .0 .taken) (w .1 .ensures)
+          (omega (arith, written .size)) (w .3 .ensures)))
+          (λ w. rw (w .1, w .2) (written-same t _ bytes at i written (sym used ∙ w .0 .left)))
+          (c .if3 .came),
     )
-
-same-length : tie.Need-same-length Inv-loop μ-loop
-same-length c = search needs
 
 returns-3 : tie.Need-returns-3 Inv-loop μ-loop
 returns-3 c =
     let l = c .before in
     let t = tableAt l in
-    let buffer = l .before .before .before .before .before .before .before .before .before .before .before .before .args .buffer .now in
-    let header = l .before .before .before .put-header in
-    let steps = l .before .before .before .before .before .before .count-used in
+    let h = l .before .before .before .before in
+    let s = h .before .before .before .before .before .before in
+    let buffer = s .before .before .before .before .args .buffer .now in
     let bytes = l .loop .buffer in
     let at = l .loop .at in
-    let n = steps .ensures in
-    let i : l .loop .i ≡ t .capacity = omega (arith, l .loop .inv .0, c .loop-test .left) in
-    let w : Written t (header .last .0) bytes at (t .capacity) = rw i at (l .loop .inv .1 .1 .1 .1) in
-    let h = l .before .before .before .before .before .if2 .left in
-    let e = write-fits t buffer (passed (l .before .before .before .before .before .before .before .before .before)) (omega arith) in (
+    let inv = l .loop .inv in
+    let n = s .count-used .ensures in
+    let i : l .loop .i ≡ t .capacity = omega (arith, inv .0, inv .1, c .loop-test .left) in
+    let w : Written t (h .put-header .last .0) bytes at (t .capacity) = rw i at (inv .5) in
+    let enough = h .put-header .kept .0 in
+    let e = write-fits t buffer (inv .2) (omega (arith, inv .3, enough)) in (
       ap (λ (k : ℕ). Given (10 + 20 * k) 0) n ∙ sym (ap (λ w. w .answer) e),
-      written-all t _ buffer bytes at (steps .result) w n (header .ensures) ∙ sym (ap (λ w. w .buffer) e),
+      written-all t _ buffer bytes at (s .count-used .result) w n
+          (rw (h .before .before .before .capacity .ensures, h .before .last .ensures) at (h .put-header .ensures)) ∙ sym (ap (λ w. w .buffer) e),
     )
 
 pub write-image-spec : {M : Type 1} → statement M
@@ -193,26 +178,27 @@ write-image-spec =
     (tie.spec
     Inv-loop
     μ-loop
-    is-sound-requires
+    (λ c κs. search needs)
     returns
     count-used-requires
     mul-size
     add-size
-    cast-if2
+    (λ c κs. search needs)
     returns-2
+    (λ c κs. search needs)
+    (λ c κs. search needs)
     put-header-requires
-    cast-n
+    (λ c κs. search needs)
     loop-holds
-    mul-if3
-    element-copy-out-if3
+    (λ c κs. low c)
     step-record-requires
     sub-put-step
     part-put-step-start
-    part-put-step-end
+    (λ c. search needs)
     put-step-requires
     add-at
-    add-i
-    loop-less
+    (λ c. search needs)
+    (λ c. search needs)
     loop-again
-    same-length
+    (λ c. search needs)
     returns-3)

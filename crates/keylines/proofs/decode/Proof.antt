@@ -28,9 +28,6 @@ clears c = sym (c .before .is-line3 .ensures) ∙ c .if3 .taken
 no-clear : (c : tie.Else3) → isLine (c .before .before .before .before .before .before .before .args .line .now) 3 4 ≡ false
 no-clear c = sym (c .before .is-line3 .ensures) ∙ c .if3 .left
 
-is-line-requires : tie.Need-is-line-requires
-is-line-requires c κs = search needs
-
 decimal-requires : tie.Need-decimal-requires
 decimal-requires c κs = line-spells _ _ _ (adds c) _ _ (omega arith) (omega arith) (omega arith)
 
@@ -46,9 +43,6 @@ decimal-requires-4 c κs = line-spells _ _ _ (adds (c .before .before .before)) 
 returns : tie.Need-returns
 returns c =
     decode-add _ (adds (c .before .before .before .before)) (c .before .before .before .decimal .ensures) (c .before .before .decimal2 .ensures) (c .before .decimal3 .ensures) (c .decimal4 .ensures)
-
-is-line-requires-2 : tie.Need-is-line-requires-2
-is-line-requires-2 c κs = search needs
 
 decimal-requires-5 : tie.Need-decimal-requires-5
 decimal-requires-5 c κs = line-spells _ _ _ (links c) _ _ (omega arith) (omega arith) (omega arith)
@@ -70,9 +64,6 @@ returns-2 c =
     (c .before .decimal7 .ensures)
     (c .decimal8 .ensures)
 
-is-line-requires-3 : tie.Need-is-line-requires-3
-is-line-requires-3 c κs = search needs
-
 decimal-requires-9 : tie.Need-decimal-requires-9
 decimal-requires-9 c κs = line-spells _ _ _ (clears c) _ _ (omega arith) (omega arith) (omega arith)
 
@@ -84,9 +75,6 @@ returns-3 c =
     decode-clear _ (no-add (c .before .before .before .before .before .before)) (no-link (c .before .before .before .before)) (clears (c .before .before))
     (c .before .decimal9 .ensures)
     (c .decimal10 .ensures)
-
-is-line-requires-4 : tie.Need-is-line-requires-4
-is-line-requires-4 c κs = search needs
 
 returns-4 : tie.Need-returns-4
 returns-4 c =
@@ -102,22 +90,22 @@ pub decode-spec : {M : Type 1} → statement M
 decode-spec =
     tie.close
     (tie.spec
-    is-line-requires
+    (λ c κs. search needs)
     decimal-requires
     decimal-requires-2
     decimal-requires-3
     decimal-requires-4
     returns
-    is-line-requires-2
+    (λ c κs. search needs)
     decimal-requires-5
     decimal-requires-6
     decimal-requires-7
     decimal-requires-8
     returns-2
-    is-line-requires-3
+    (λ c κs. search needs)
     decimal-requires-9
     decimal-requires-10
     returns-3
-    is-line-requires-4
+    (λ c κs. search needs)
     returns-4
     returns-5)

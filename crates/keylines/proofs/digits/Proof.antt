@@ -27,9 +27,6 @@ add-is-digit c = omega arith
 shared-slice-read-is-digit : tie.Need-shared-slice-read-is-digit Inv-loop μ-loop
 shared-slice-read-is-digit c = omega arith
 
-is-digit-requires : tie.Need-is-digit-requires Inv-loop μ-loop
-is-digit-requires c κs = search needs
-
 returns : tie.Need-returns Inv-loop μ-loop
 returns c =
     let k = c .before .before .before .before in
@@ -66,7 +63,7 @@ digits-spec =
     loop-holds
     add-is-digit
     shared-slice-read-is-digit
-    is-digit-requires
+    (λ c κs. search needs)
     returns
     add-i
     loop-less

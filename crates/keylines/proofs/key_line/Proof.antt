@@ -1,106 +1,84 @@
--- `keylines::key_line` meets its contract: refusal 1, then the decoder's answer, and for a command the call that it names. Assumes nothing.
+-- `keylines::key_line` meets its contract: where the line is decoded to nothing, refusal 1 or 9; for a command the call that it names.
+-- Assumes nothing.
 use mathlib.Core.Path.{_≡_, sym, _∙_, ap}
-use mathlib.Core.Bool.{true}
-use borrow.Author.Tests.{not-true, not-false}
-use borrow.Author.Needs.{needs}
-use Rattle.table.specs.declared.Outcome.{Outcome}
-use Rattle.table.specs.Sound.{sound}
+use mathlib.Core.List.{List}
+use Prim.Native.Nat.{ℕ}
+use Rattle.table.specs.declared.Answer.{Answer}
+use Rattle.table.specs.declared.Answer.the-variants.{Refused}
+use Rattle.table.specs.Answer.{Outcome}
+use Rattle.words.specs.Words.{wordsOf}
+use Rattle.words.proofs.Laws.{words-table}
 use Rattle.keyline.specs.declared.Command.{Command}
 use Rattle.keyline.specs.declared.Decoded.the-variants.{Line}
-use Rattle.keyline.specs.Keys.{perform, performLine, keyCall}
-use Rattle.keylines.proofs.Laws.{key-unsound, key-sound}
+use Rattle.keyline.specs.Keys.{decode}
+use Rattle.keylines.proofs.Laws.{nothing-unsound, nothing-sound, nothing-table, key-add, key-link, key-clear, key-count, counts-table}
+use borrow.Author.Needs.{needs}
 use Rattle.keylines.proofs.key_line.Statement.{statement}
 use Rattle.keylines.proofs.key_line.Tie as tie
 
--- past refusal 1 the table is sound
-passed : (c : tie.Else1) → sound (c .before .before .before .args .t) ≡ true
-passed c = sym (c .before .is-sound .ensures) ∙ not-false _ (c .if1 .left)
+-- the answer and the words of a call are those of the same call by another name
+same : {a : Answer} {v : List ℕ} {o p : Outcome} → (a ≡ o .answer) × (v ≡ wordsOf (o .table)) → o ≡ p → (a ≡ p .answer) × (v ≡ wordsOf (p .table))
+same h q = (h .0 ∙ ap (λ (o : Outcome). o .answer) q, h .1 ∙ ap (λ (o : Outcome). wordsOf (o .table)) q)
 
--- where the line is taken apart: a command whose call is the outcome
-commands : (c : tie.After-command) {d : Command} {o : Outcome} → c .command .given .0 .0 ≡ d →
-    o ≡ perform (c .before .before .before .before .before .before .args .t) d →
-    o ≡ keyCall (c .before .before .before .before .before .before .args .t) (c .before .before .before .before .before .before .args .line .now)
-unfolding performLine
-commands c q r =
-    r ∙ key-sound _ _ (passed (c .before .before .before)) (sym (ap Line q) ∙ sym (c .command .given .1) ∙ c .before .before .decode .ensures)
-
-is-sound-requires : tie.Need-is-sound-requires
-is-sound-requires c κs = search needs
+-- where the line is taken apart: a command that it is decoded to
+decoded : (c : tie.After-command) {d : Command} → c .command .given .0 .0 ≡ d → Line d ≡ decode (c .before .before .before .before .before .before .args .line .now)
+decoded c q = sym (ap Line q) ∙ sym (c .command .given .1) ∙ c .before .before .decode .ensures
 
 returns : tie.Need-returns
-returns c = key-unsound _ _ (sym (c .before .is-sound .ensures) ∙ not-true _ (c .if1 .taken))
-
-decode-requires : tie.Need-decode-requires
-decode-requires c κs = search needs
-
-enum-known-command : tie.Need-enum-known-command
-enum-known-command c = search needs
-
-enum-told : tie.Need-enum-told
-enum-told c = search needs
+returns c =
+    let s = c .before .before .before .before .before .before .before .before .before .args in
+    let e = c .before .table-refusal .ensures in
+    let q = sym (c .before .before .before .enum-told .given .1) ∙ c .before .before .before .before .before .decode .ensures in (
+      ap Refused e ∙ nothing-unsound _ _ q (λ z. c .if1 .taken (e ∙ z)),
+      sym (words-table (s .t .now) (c .before .before .before .before .before .before .sized .ensures)) ∙ ap wordsOf (sym (nothing-table _ _ q)),
+    )
 
 returns-2 : tie.Need-returns-2
-unfolding performLine
-returns-2 c = key-sound _ _ (passed (c .before .before .before)) (sym (c .enum-told .given .1) ∙ c .before .before .decode .ensures)
-
-enum-known-command-2 : tie.Need-enum-known-command-2
-enum-known-command-2 c = search needs
-
-add-requires : tie.Need-add-requires
-add-requires c κs = search needs
-
-enum-known-command-3 : tie.Need-enum-known-command-3
-enum-known-command-3 c = search needs
-
-link-requires : tie.Need-link-requires
-link-requires c κs = search needs
-
-enum-known-command-4 : tie.Need-enum-known-command-4
-enum-known-command-4 c = search needs
-
-clear-requires : tie.Need-clear-requires
-clear-requires c κs = search needs
-
-enum-told-2 : tie.Need-enum-told-2
-enum-told-2 c = search needs
-
-spoken-counts-requires : tie.Need-spoken-counts-requires
-spoken-counts-requires c κs = passed (c .before .before .before .before .before .before)
+returns-2 c =
+    let s = c .before .before .before .before .before .before .before .before .before .args in
+    let q = sym (c .before .before .before .enum-told .given .1) ∙ c .before .before .before .before .before .decode .ensures in (
+      nothing-sound _ _ q (sym (c .before .table-refusal .ensures) ∙ c .if1 .left),
+      sym (words-table (s .t .now) (c .before .before .before .before .before .before .sized .ensures)) ∙ ap wordsOf (sym (nothing-table _ _ q)),
+    )
 
 returns-3 : tie.Need-returns-3
-unfolding perform
-returns-3 c = commands (c .before .before .before .before .before) (c .before .before .command2 .given .1) (c .add .ensures)
+returns-3 c =
+    same (c .add .ensures) (key-add _ _ _ _ _ _ (decoded (c .before .before .before .before .before .before) (c .before .before .before .command2 .given .1)))
 
 returns-4 : tie.Need-returns-4
-unfolding perform
-returns-4 c = commands (c .before .before .before .before .before) (c .before .before .command3 .given .1) (c .link .ensures)
+returns-4 c =
+    same (c .link .ensures) (key-link _ _ _ _ _ _ (decoded (c .before .before .before .before .before .before) (c .before .before .before .command3 .given .1)))
 
 returns-5 : tie.Need-returns-5
-unfolding perform
-returns-5 c = commands (c .before .before .before .before .before) (c .before .before .command4 .given .1) (c .clear .ensures)
+returns-5 c =
+    same (c .clear .ensures) (key-clear _ _ _ _ (decoded (c .before .before .before .before .before .before) (c .before .before .before .command4 .given .1)))
 
 returns-6 : tie.Need-returns-6
-unfolding perform
-returns-6 c = commands (c .before .before .before .before) (c .before .enum-told2 .given .1) (c .spoken-counts .ensures)
+returns-6 c =
+    let s = c .before .before .before .before .before .before .before .before .before .before .before .args in
+    let l = c .before .before .before .before .before .before .before .before .sized .ensures in
+    same (c .counts .ensures, sym (words-table (s .t .now) l) ∙ ap wordsOf (sym (counts-table _)))
+    (key-count _ _ (decoded (c .before .before .before .before .before) (c .before .before .enum-told2 .given .1)))
 
 pub key-line-spec : {M : Type 1} → statement M
 key-line-spec =
     tie.close
     (tie.spec
-    is-sound-requires
+    (λ c κs. search needs)
+    (λ c κs. search needs)
+    (λ c. search needs)
+    (λ c. search needs)
+    (λ c κs. search needs)
     returns
-    decode-requires
-    enum-known-command
-    enum-told
     returns-2
-    enum-known-command-2
-    add-requires
-    enum-known-command-3
-    link-requires
-    enum-known-command-4
-    clear-requires
-    enum-told-2
-    spoken-counts-requires
+    (λ c. search needs)
+    (λ c κs. search needs)
+    (λ c. search needs)
+    (λ c κs. search needs)
+    (λ c. search needs)
+    (λ c κs. search needs)
+    (λ c. search needs)
+    (λ c κs. search needs)
     returns-3
     returns-4
     returns-5

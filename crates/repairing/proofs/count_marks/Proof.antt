@@ -1,11 +1,11 @@
 -- `repairing::count_marks` meets its contract. The loop's invariant: `marks` is the count below k. The measure is what is left of n. Assumes nothing.
-use mathlib.Core.Path.{_≡_, refl, sym, _∙_, ap}
+use mathlib.Core.Path.{_≡_, sym, _∙_, ap}
 use mathlib.Core.Logic.{⊎-elim}
 use Prim.Native.Nat.{ℕ, _-_, _≤_}
 use native.Mathlib.Omega.{arith}
 use Rattle.finite.specs.Below.{count}
 use Rattle.finite.proofs.Below.{count-le}
-use Rattle.finite.proofs.Loops.{count-hit, count-miss}
+use Rattle.finite.proofs.Loops.{count-zero, count-hit, count-miss}
 use Rattle.repairing.specs.Repairing.{isOne}
 use Rattle.repairing.proofs.Laws.{is-one, not-one, size-marks}
 use Rattle.repairing.proofs.count_marks.Statement.{statement}
@@ -18,24 +18,12 @@ abbrev μ-loop : tie.MeasureT-loop
 μ-loop n doubt marks₀ k₀ marks k = n - k
 
 loop-holds : tie.Need-loop-holds Inv-loop μ-loop
-loop-holds c = (omega arith, (unfold count in refl))
-
-mul-if1 : tie.Need-mul-if1 Inv-loop μ-loop
-mul-if1 c = omega arith
-
-element-copy-out-if1 : tie.Need-element-copy-out-if1 Inv-loop μ-loop
-element-copy-out-if1 c = omega arith
+loop-holds c = (omega arith, sym (count-zero _))
 
 add-marks : tie.Need-add-marks Inv-loop μ-loop
 add-marks c =
     let d = c .before .before .before .before .args .doubt .now in
     omega (arith, count-le (c .before .before .before .loop .k) (isOne d))
-
-add-k : tie.Need-add-k Inv-loop μ-loop
-add-k c = omega arith
-
-loop-less : tie.Need-loop-less Inv-loop μ-loop
-loop-less c = omega arith
 
 loop-again : tie.Need-loop-again Inv-loop μ-loop
 loop-again c =
@@ -59,10 +47,10 @@ count-marks-spec =
     Inv-loop
     μ-loop
     loop-holds
-    mul-if1
-    element-copy-out-if1
+    (λ c. omega arith)
+    (λ c. omega arith)
     add-marks
-    add-k
-    loop-less
+    (λ c. omega arith)
+    (λ c. omega arith)
     loop-again
     returns)

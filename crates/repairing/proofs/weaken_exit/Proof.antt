@@ -1,181 +1,84 @@
--- `repairing::weaken_exit` meets its contract: an empty exit and a weak link stay, and a strong link's stores are `relink`'s. Assumes nothing.
-use mathlib.Core.Path.{_≡_, refl, sym, _∙_}
-use Prim.Native.Nat.{_+_, _*_, _-_, _<_}
+-- `repairing::weaken_exit` meets its contract: an empty exit and a weak link stay, and a strong link is replaced. Assumes nothing.
+use mathlib.Core.Path.{_≡_, refl, sym, _∙_, ap, ap₂, subst}
+use Prim.Native.Nat.{ℕ, _-_, _<_}
 use native.Mathlib.Omega.{arith}
-use lib.ListN.{getD}
-use lib.Seq.{getD-set-other}
 use borrow.Author.Needs.{needs}
-use Rattle.table.specs.Table.{places, exits, counters}
-use Rattle.repairing.proofs.Laws.{weaken-none, weaken-weak, weaken-held}
+use Rattle.table.specs.Table.{Table, places, ownBit, targetOf}
+use Rattle.table.specs.Calls.{relink}
+use Rattle.words.specs.Words.{tableOf, Becomes}
+use Rattle.words.proofs.Formed.{target-place}
+use Rattle.repairing.proofs.Laws.{standing-place, standing-relinkable, weaken-none, weaken-weak, weaken-strong}
 use Rattle.repairing.proofs.weaken_exit.Statement.{statement}
 use Rattle.repairing.proofs.weaken_exit.Tie as tie
 
-mul-p : tie.Need-mul-p
-mul-p c = search needs
+-- The places that an answer looks back to: the link was read, and the bit of its target.
+abbrev begun : tie.After-wide → tie.Start
+begun c = c .before .before .before .before .before
 
-add-p : tie.Need-add-p
-add-p c = search needs
+abbrev read : tie.After-own-at → tie.After-wide
+read c = c .before .before .before
 
-mul-wide : tie.Need-mul-wide
-mul-wide c = search needs
+abbrev given : tie.After-wide → Table
+given c = tableOf (begun c .args .t .now)
 
-element-copy-out-wide : tie.Need-element-copy-out-wide
-element-copy-out-wide c = search needs
+target : (c : tie.After-wide) → c .before .before .before .target-at .result ≡ targetOf (given c) (begun c .args .k) (begun c .args .e)
+target c = c .before .before .before .target-at .ensures
 
-wide-requires : tie.Need-wide-requires
-wide-requires c κs = search needs
+target-below : (c : tie.After-wide) → c .before .before .before .target-at .result < places
+target-below c =
+    let s = begun c in
+    rw (target c) (target-place (s .pre .0 .formed) (s .args .k) (s .args .e) (s .pre .1))
 
-mul-b : tie.Need-mul-b
-mul-b c = search needs
-
-element-copy-out-b : tie.Need-element-copy-out-b
-element-copy-out-b c = search needs
+own : (c : tie.After-own-at) → let r = read c in c .own-at .result ≡ ownBit (given r) (targetOf (given r) (begun r .args .k) (begun r .args .e))
+own c = let r = read c in c .own-at .ensures ∙ ap (ownBit (given r)) (r .wide .ensures ∙ target r)
 
 returns : tie.Need-returns
 returns c =
-    λ t.
-    let s = c .before .before .before .before in
-    weaken-none t (s .args .own .now) (s .args .targets .now) (s .args .bits .now) (s .args .counts .now) (s .args .k) (s .args .e)
-    (sym (c .before .before .wide .ensures) ∙ c .if1 .taken)
-
-mul-if2 : tie.Need-mul-if2
-mul-if2 c = search needs
-
-element-copy-out-if2 : tie.Need-element-copy-out-if2
-element-copy-out-if2 c = search needs
+    let r = c .before in
+    let a = begun r .args in
+    record { table = weaken-none (given r) (a .k) (a .e) (sym (r .wide .ensures ∙ target r) ∙ c .if1 .taken); size = refl }
 
 returns-2 : tie.Need-returns-2
 returns-2 c =
-    λ t.
-    let s = c .before .before .before .before .before .before in
-    weaken-weak t (s .args .own .now) (s .args .targets .now) (s .args .bits .now) (s .args .counts .now) (s .args .k) (s .args .e)
-    (c .before .before .before .before .wide .result)
-    (c .before .before .before .before .wide .ensures)
-    (c .before .before .if1 .left)
-    (c .if2 .taken)
+    let o = c .before in
+    let r = read o in
+    let a = begun r .args in
+    record { table = weaken-weak (given r) (a .k) (a .e) (λ q. c .if2 .taken (r .before .bit-at .ensures ∙ q ∙ sym (own o))); size = refl }
 
-sub-bits : tie.Need-sub-bits
-sub-bits c = search needs
+sub-relink : tie.Need-sub-relink
+sub-relink c =
+    let r = read (c .before .before) in
+    let s = begun r in
+    let b = s .pre .0 .formed .bits (s .args .k) (s .args .e) (s .pre .0 .used) (s .pre .1) in
+    omega (arith, r .before .bit-at .ensures)
 
-mul-bits : tie.Need-mul-bits
-mul-bits c = search needs
-
-element-write-bits : tie.Need-element-write-bits
-element-write-bits c = search needs
-
-mul-counts : tie.Need-mul-counts
-mul-counts c = search needs
-
-wide-requires-2 : tie.Need-wide-requires-2
-wide-requires-2 c κs = search needs
-
-add-counts : tie.Need-add-counts
-add-counts c = search needs
-
-mul-counts-2 : tie.Need-mul-counts-2
-mul-counts-2 c = search needs
-
-element-copy-out-counts : tie.Need-element-copy-out-counts
-element-copy-out-counts c = search needs
-
-sub-counts : tie.Need-sub-counts
-sub-counts c =
-    let s = c .before .before .before .before .before .before .before .before in
-    let j : c .before .before .before .before .before .before .wide .result ≡ getD (s .args .targets .now) (s .args .k * exits + s .args .e) 0 =
-    c .before .before .before .before .before .before .wide .ensures in
-    let b : c .before .wide2 .result ≡ getD (s .args .bits .now) (s .args .k * exits + s .args .e) 0 = c .before .wide2 .ensures in
-    let h : 0 < getD (s .args .counts .now) (c .before .before .before .before .before .before .wide .result * counters + c .before .wide2 .result) 0 =
-    rw (j, b) (s .pre .counted (λ q. c .before .before .before .before .if1 .left (j ∙ q))) in
-    omega arith
-
-element-write-counts : tie.Need-element-write-counts
-element-write-counts c = search needs
-
-mul-counts-3 : tie.Need-mul-counts-3
-mul-counts-3 c = search needs
-
-sub-wide : tie.Need-sub-wide
-sub-wide c = search needs
-
-wide-requires-3 : tie.Need-wide-requires-3
-wide-requires-3 c κs = search needs
-
-add-counts-2 : tie.Need-add-counts-2
-add-counts-2 c = search needs
-
-mul-counts-4 : tie.Need-mul-counts-4
-mul-counts-4 c = search needs
-
-element-copy-out-counts-2 : tie.Need-element-copy-out-counts-2
-element-copy-out-counts-2 c = search needs
-
-add-counts-3 : tie.Need-add-counts-3
-add-counts-3 c =
-    let s = c .before .before .before .before .before .before .before .before .before .before in
-    let j = c .before .before .before .before .before .before .before .before .wide .result in
-    let f = c .before .before .before .wide2 .result in
-    let g = c .before .wide3 .result in
-    let cs = s .args .counts .now in
-    let jt : j ≡ getD (s .args .targets .now) (s .args .k * exits + s .args .e) 0 =
-    c .before .before .before .before .before .before .before .before .wide .ensures in
-    let fb : f ≡ getD (s .args .bits .now) (s .args .k * exits + s .args .e) 0 = c .before .before .before .wide2 .ensures in
-    let gb : g ≡ 1 - getD (s .args .bits .now) (s .args .k * exits + s .args .e) 0 = c .before .wide3 .ensures in
-    let lt : getD (s .args .targets .now) (s .args .k * exits + s .args .e) 0 < places = s .pre .target in
-    let lb : getD (s .args .bits .now) (s .args .k * exits + s .args .e) 0 < 2 = s .pre .bit in
-    let r = getD-set-other cs (j * counters + f) (j * counters + g) (getD cs (j * counters + f) 0 - 1) 0 (λ z. omega arith) in
-    let h = s .pre .room (j * counters + g) (omega arith) in
-    omega arith
-
-element-write-counts-2 : tie.Need-element-write-counts-2
-element-write-counts-2 c = search needs
+relink-requires : tie.Need-relink-requires
+relink-requires c κs =
+    let r = read (c .before .before) in
+    let s = begun r in
+    standing-relinkable (s .pre .0) (s .args .e) (s .pre .1) _ _ (target-below r) (omega arith)
 
 returns-3 : tie.Need-returns-3
 returns-3 c =
-    λ t.
-    let s = c .before .before .before .before .before .before .before .before .before .before in
-    weaken-held t (s .args .own .now) (s .args .targets .now) (s .args .bits .now) (s .args .counts .now) (s .args .k) (s .args .e)
-    (c .before .before .before .before .before .before .before .before .wide .result)
-    (c .before .before .before .before .before .before .before .before .wide .ensures)
-    (c .before .before .before .before .before .before .if1 .left)
-    (getD (s .args .bits .now) (s .args .k * exits + s .args .e) 0)
-    (c .before .before .before .wide2 .result)
-    (c .before .wide3 .result)
-    refl
-    (c .before .before .before .before .if2 .left)
-    (c .before .before .before .wide2 .ensures)
-    (c .before .wide3 .ensures)
+    let o = c .before .before .before in
+    let r = read o in
+    let a = begun r .args in
+    subst (Becomes (a .t .now) _)
+    (ap₂ (λ (j b : ℕ). relink (given r) (a .k) (a .e) j (1 - b)) (target r) (r .before .bit-at .ensures) ∙
+    weaken-strong (given r) (a .k) (a .e) (λ z. o .before .before .if1 .left (r .wide .ensures ∙ target r ∙ z))
+    (sym (r .before .bit-at .ensures) ∙ c .before .before .if2 .left ∙ own o))
+    (c .relink .ensures)
 
 pub weaken-exit-spec : {M : Type 1} → statement M
 weaken-exit-spec =
     tie.close
     (tie.spec
-    mul-p
-    add-p
-    mul-wide
-    element-copy-out-wide
-    wide-requires
-    mul-b
-    element-copy-out-b
+    (λ c κs. let p = c .before .pre in (standing-place (p .0), p .1))
+    (λ c κs. let p = c .before .before .before .pre in (standing-place (p .0), p .1))
+    (λ c κs. search needs)
     returns
-    mul-if2
-    element-copy-out-if2
+    (λ c κs. rw (c .before .before .wide .ensures) (target-below (c .before .before)))
     returns-2
-    sub-bits
-    mul-bits
-    element-write-bits
-    mul-counts
-    wide-requires-2
-    add-counts
-    mul-counts-2
-    element-copy-out-counts
-    sub-counts
-    element-write-counts
-    mul-counts-3
-    sub-wide
-    wide-requires-3
-    add-counts-2
-    mul-counts-4
-    element-copy-out-counts-2
-    add-counts-3
-    element-write-counts-2
+    sub-relink
+    relink-requires
     returns-3)

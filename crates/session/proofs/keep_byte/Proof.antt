@@ -7,12 +7,6 @@ use Rattle.session.proofs.Laws.{keep-short, keep-long}
 use Rattle.session.proofs.keep_byte.Statement.{statement}
 use Rattle.session.proofs.keep_byte.Tie as tie
 
-element-write-line : tie.Need-element-write-line
-element-write-line c = search needs
-
-add-result : tie.Need-add-result
-add-result c = search needs
-
 returns : tie.Need-returns
 returns c = (
   (omega arith, length-set (c .before .args .line .now) (c .before .args .kept) (c .before .args .byte) ∙ c .before .pre .1),
@@ -23,4 +17,4 @@ returns-2 : tie.Need-returns-2
 returns-2 c = (c .before .pre, keep-long (c .before .args .line .now) (c .before .args .kept) (c .before .args .byte) (c .before .pre .1) (omega arith))
 
 pub keep-byte-spec : {M : Type 1} → statement M
-keep-byte-spec = tie.close (tie.spec element-write-line add-result returns returns-2)
+keep-byte-spec = tie.close (tie.spec (λ c. search needs) (λ c. search needs) returns returns-2)

@@ -16,9 +16,6 @@ put-byte-requires c κs =
     let b = k .before .before .before in
     omega (arith, k .put-number .kept .0, k .put-number .ensures .0, spelled-five (b .args .n) (b .fits .n .fits))
 
-same-length : tie.Need-same-length
-same-length c = search needs
-
 returns : tie.Need-returns
 unfolding numberThen
 returns c =
@@ -32,4 +29,4 @@ returns c =
 
 pub put-number-then-spec : {M : Type 1} → statement M
 put-number-then-spec =
-    tie.close (tie.spec put-number-requires put-byte-requires same-length returns)
+    tie.close (tie.spec put-number-requires put-byte-requires (λ c. search needs) returns)

@@ -7,18 +7,6 @@ use Rattle.session.proofs.Laws.{stored-more}
 use Rattle.session.proofs.put_numbers.Statement.{statement}
 use Rattle.session.proofs.put_numbers.Tie as tie
 
-put-number-then-requires : tie.Need-put-number-then-requires
-put-number-then-requires c κs = search needs
-
-put-number-then-requires-2 : tie.Need-put-number-then-requires-2
-put-number-then-requires-2 c κs = search needs
-
-put-number-then-requires-3 : tie.Need-put-number-then-requires-3
-put-number-then-requires-3 c κs = search needs
-
-same-length : tie.Need-same-length
-same-length c = search needs
-
 returns : tie.Need-returns
 unfolding threeNumbers
 returns c =
@@ -37,8 +25,8 @@ pub put-numbers-spec : {M : Type 1} → statement M
 put-numbers-spec =
     tie.close
     (tie.spec
-    put-number-then-requires
-    put-number-then-requires-2
-    put-number-then-requires-3
-    same-length
+    (λ c κs. search needs)
+    (λ c κs. search needs)
+    (λ c κs. search needs)
+    (λ c. search needs)
     returns)

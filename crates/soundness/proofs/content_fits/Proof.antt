@@ -1,5 +1,4 @@
 -- `content_fits` is the range of contents by kind. Assumes nothing.
-use Prim.Native.Nat.{_-_}
 use borrow.Author.Tests.{ne-eqb, le-leb, lt-leb}
 use Rattle.table.specs.Sound.{contentFits}
 use Rattle.soundness.proofs.content_fits.Statement.{statement}

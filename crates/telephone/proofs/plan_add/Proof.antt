@@ -1,18 +1,12 @@
--- `telephone::plan_add` meets its contract: the numbers and the table of the call's answer. Assumes nothing.
+-- `telephone::plan_add` meets its contract: the numbers of the call's answer, and the table as the call left it. Assumes nothing.
 use mathlib.Core.Path.{_∙_, ap}
-use borrow.Author.Needs.{needs}
 use Rattle.telephone.specs.Replies.{replyOf}
+use borrow.Author.Needs.{needs}
 use Rattle.telephone.proofs.plan_add.Statement.{statement}
 use Rattle.telephone.proofs.plan_add.Tie as tie
 
-add-requires : tie.Need-add-requires
-add-requires c κs = search needs
-
-reply-of-requires : tie.Need-reply-of-requires
-reply-of-requires c κs = search needs
-
 returns : tie.Need-returns
-returns c = c .reply-of .ensures ∙ ap replyOf (c .before .add .ensures)
+returns c = (c .reply-of .ensures ∙ ap replyOf (c .before .add .ensures .0), c .before .add .ensures .1)
 
 pub plan-add-spec : {M : Type 1} → statement M
-plan-add-spec = tie.close (tie.spec add-requires reply-of-requires returns)
+plan-add-spec = tie.close (tie.spec (λ c κs. search needs) (λ c κs. search needs) returns)

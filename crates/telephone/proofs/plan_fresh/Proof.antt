@@ -1,18 +1,12 @@
--- `telephone::plan_fresh` meets its contract: the numbers and the table of the call's answer. Assumes nothing.
+-- `telephone::plan_fresh` meets its contract: the numbers of the call's answer, and the table as the call left it. Assumes nothing.
 use mathlib.Core.Path.{_∙_, ap}
-use borrow.Author.Needs.{needs}
 use Rattle.telephone.specs.Replies.{replyOf}
+use borrow.Author.Needs.{needs}
 use Rattle.telephone.proofs.plan_fresh.Statement.{statement}
 use Rattle.telephone.proofs.plan_fresh.Tie as tie
 
-fresh-requires : tie.Need-fresh-requires
-fresh-requires c κs = search needs
-
-reply-of-requires : tie.Need-reply-of-requires
-reply-of-requires c κs = search needs
-
 returns : tie.Need-returns
-returns c = c .reply-of .ensures ∙ ap replyOf (c .before .fresh .ensures)
+returns c = (c .reply-of .ensures ∙ ap replyOf (c .before .fresh .ensures .0), c .before .fresh .ensures .1)
 
 pub plan-fresh-spec : {M : Type 1} → statement M
-plan-fresh-spec = tie.close (tie.spec fresh-requires reply-of-requires returns)
+plan-fresh-spec = tie.close (tie.spec (λ c κs. search needs) (λ c κs. search needs) returns)

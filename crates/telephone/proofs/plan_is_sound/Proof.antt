@@ -9,9 +9,6 @@ use Rattle.telephone.proofs.plan_is_sound.Tie as tie
 number : {a b : Bool} → a ≡ b → cond {A = ℕ} a 1 0 ≡ cond {A = ℕ} b 1 0
 number same = ap (λ (x : Bool). cond {A = ℕ} x 1 0) same
 
-is-sound-requires : tie.Need-is-sound-requires
-is-sound-requires c κs = search needs
-
 returns : tie.Need-returns
 returns c = number {a = true} (sym (c .if1 .taken) ∙ c .before .is-sound .ensures)
 
@@ -19,4 +16,4 @@ returns-2 : tie.Need-returns-2
 returns-2 c = number {a = false} (sym (c .if1 .left) ∙ c .before .is-sound .ensures)
 
 pub plan-is-sound-spec : {M : Type 1} → statement M
-plan-is-sound-spec = tie.close (tie.spec is-sound-requires returns returns-2)
+plan-is-sound-spec = tie.close (tie.spec (λ c κs. search needs) returns returns-2)

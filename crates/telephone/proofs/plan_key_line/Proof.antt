@@ -1,18 +1,12 @@
--- `telephone::plan_key_line` meets its contract: the numbers and the table of the call's answer. Assumes nothing.
+-- `telephone::plan_key_line` meets its contract: the numbers of the call's answer, and the table as the call left it. Assumes nothing.
 use mathlib.Core.Path.{_∙_, ap}
-use borrow.Author.Needs.{needs}
 use Rattle.telephone.specs.Replies.{replyOf}
+use borrow.Author.Needs.{needs}
 use Rattle.telephone.proofs.plan_key_line.Statement.{statement}
 use Rattle.telephone.proofs.plan_key_line.Tie as tie
 
-key-line-requires : tie.Need-key-line-requires
-key-line-requires c κs = search needs
-
-reply-of-requires : tie.Need-reply-of-requires
-reply-of-requires c κs = search needs
-
 returns : tie.Need-returns
-returns c = c .reply-of .ensures ∙ ap replyOf (c .before .key-line .ensures)
+returns c = (c .reply-of .ensures ∙ ap replyOf (c .before .key-line .ensures .0), c .before .key-line .ensures .1)
 
 pub plan-key-line-spec : {M : Type 1} → statement M
-plan-key-line-spec = tie.close (tie.spec key-line-requires reply-of-requires returns)
+plan-key-line-spec = tie.close (tie.spec (λ c κs. search needs) (λ c κs. search needs) returns)

@@ -1,18 +1,12 @@
--- `telephone::plan_load_image` meets its contract: the numbers and the table of the call's answer. Assumes nothing.
+-- `telephone::plan_load_image` meets its contract: the numbers of the call's answer, and the table as the call left it. Assumes nothing.
 use mathlib.Core.Path.{_∙_, ap}
-use borrow.Author.Needs.{needs}
 use Rattle.telephone.specs.Replies.{replyOf}
+use borrow.Author.Needs.{needs}
 use Rattle.telephone.proofs.plan_load_image.Statement.{statement}
 use Rattle.telephone.proofs.plan_load_image.Tie as tie
 
-load-image-requires : tie.Need-load-image-requires
-load-image-requires c κs = search needs
-
-reply-of-requires : tie.Need-reply-of-requires
-reply-of-requires c κs = search needs
-
 returns : tie.Need-returns
-returns c = c .reply-of .ensures ∙ ap replyOf (c .before .load-image .ensures)
+returns c = (c .reply-of .ensures ∙ ap replyOf (c .before .load-image .ensures .0), c .before .load-image .ensures .1)
 
 pub plan-load-image-spec : {M : Type 1} → statement M
-plan-load-image-spec = tie.close (tie.spec load-image-requires reply-of-requires returns)
+plan-load-image-spec = tie.close (tie.spec (λ c κs. search needs) (λ c κs. search needs) returns)

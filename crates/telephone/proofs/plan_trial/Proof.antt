@@ -5,17 +5,8 @@ use Rattle.telephone.specs.Replies.{trialReply}
 use Rattle.telephone.proofs.plan_trial.Statement.{statement}
 use Rattle.telephone.proofs.plan_trial.Tie as tie
 
-trial-requires : tie.Need-trial-requires
-trial-requires c κs = search needs
-
-trial-reply-requires : tie.Need-trial-reply-requires
-trial-reply-requires c κs = search needs
-
-same-length : tie.Need-same-length
-same-length c = search needs
-
 returns : tie.Need-returns
 returns c = (c .trial-reply .ensures ∙ ap trialReply (c .before .before .before .trial .ensures .0), c .before .before .before .trial .ensures .1)
 
 pub plan-trial-spec : {M : Type 1} → statement M
-plan-trial-spec = tie.close (tie.spec trial-requires trial-reply-requires same-length returns)
+plan-trial-spec = tie.close (tie.spec (λ c κs. search needs) (λ c κs. search needs) (λ c. search needs) returns)

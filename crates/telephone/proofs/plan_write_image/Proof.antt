@@ -5,18 +5,9 @@ use Rattle.telephone.specs.Replies.{writeReply}
 use Rattle.telephone.proofs.plan_write_image.Statement.{statement}
 use Rattle.telephone.proofs.plan_write_image.Tie as tie
 
-write-image-requires : tie.Need-write-image-requires
-write-image-requires c κs = search needs
-
-write-reply-requires : tie.Need-write-reply-requires
-write-reply-requires c κs = search needs
-
-same-length : tie.Need-same-length
-same-length c = search needs
-
 returns : tie.Need-returns
 returns c =
     (c .write-reply .ensures ∙ ap writeReply (c .before .before .before .write-image .ensures .0), c .before .before .before .write-image .ensures .1)
 
 pub plan-write-image-spec : {M : Type 1} → statement M
-plan-write-image-spec = tie.close (tie.spec write-image-requires write-reply-requires same-length returns)
+plan-write-image-spec = tie.close (tie.spec (λ c κs. search needs) (λ c κs. search needs) (λ c. search needs) returns)

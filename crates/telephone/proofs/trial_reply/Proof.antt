@@ -13,15 +13,6 @@ ended : {n m : ℕ} (last moves : ℕ) → n ≡ m →
     _≡_ {A = TrialReply} (record { refusal = 0; ending = n; last = last; moves = moves }) (record { refusal = 0; ending = m; last = last; moves = moves })
 ended last moves same = λ i. record { refusal = 0; ending = same i; last = last; moves = moves }
 
-enum-known-a : tie.Need-enum-known-a
-enum-known-a c = search needs
-
-enum-known-a-2 : tie.Need-enum-known-a-2
-enum-known-a-2 c = search needs
-
-ending-number-requires : tie.Need-ending-number-requires
-ending-number-requires c κs = search needs
-
 returns : tie.Need-returns
 unfolding trialReply triedRefusal endingOf lastOf movesOf
 returns c = sym (ap trialReply (c .before .a .given .1))
@@ -31,4 +22,4 @@ unfolding trialReply triedRefusal endingOf lastOf movesOf
 returns-2 c = ended _ _ (c .ending-number .ensures) ∙ sym (ap trialReply (c .before .before .a2 .given .1))
 
 pub trial-reply-spec : {M : Type 1} → statement M
-trial-reply-spec = tie.close (tie.spec enum-known-a enum-known-a-2 ending-number-requires returns returns-2)
+trial-reply-spec = tie.close (tie.spec (λ c. search needs) (λ c. search needs) (λ c κs. search needs) returns returns-2)

@@ -6,12 +6,6 @@ use Rattle.telephone.specs.Replies.{writeReply}
 use Rattle.telephone.proofs.write_reply.Statement.{statement}
 use Rattle.telephone.proofs.write_reply.Tie as tie
 
-enum-known-a : tie.Need-enum-known-a
-enum-known-a c = search needs
-
-enum-known-a-2 : tie.Need-enum-known-a-2
-enum-known-a-2 c = search needs
-
 returns : tie.Need-returns
 unfolding writeReply refusalOf firstOf
 returns c = sym (ap writeReply (c .before .a .given .1))
@@ -21,4 +15,4 @@ unfolding writeReply refusalOf firstOf
 returns-2 c = sym (ap writeReply (c .before .a2 .given .1))
 
 pub write-reply-spec : {M : Type 1} → statement M
-write-reply-spec = tie.close (tie.spec enum-known-a enum-known-a-2 returns returns-2)
+write-reply-spec = tie.close (tie.spec (λ c. search needs) (λ c. search needs) returns returns-2)

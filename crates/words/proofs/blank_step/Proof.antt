@@ -4,8 +4,7 @@ use Prim.Native.Nat.{_+_, _*_, _<_}
 use native.Mathlib.Omega.{arith}
 use native.Mathlib.Nat.{add-zero}
 use lib.ListN.{set, length-set}
-use Rattle.table.specs.declared.Table.{Table}
-use Rattle.table.specs.Table.{places, counters, counterPlace, withLinks, withSteps}
+use Rattle.table.specs.Table.{Table, places, counters, counterPlace, withLinks, withSteps}
 use Rattle.table.specs.Clear.{blanked}
 use Rattle.words.specs.Words.{usedFrom, kindsFrom, contentsFrom, ownFrom, countsFrom}
 use Rattle.words.proofs.Laws.{store-used, store-kinds, store-contents, store-own, store-counts}

@@ -1,5 +1,5 @@
 -- `words::flip` meets its contract. Assumes nothing.
-use lib.ListN.{set, length-set}
+use lib.ListN.{length-set}
 use Rattle.table.specs.Table.{withSteps}
 use Rattle.table.specs.Clear.{flipped}
 use Rattle.words.proofs.Laws.{store-own}

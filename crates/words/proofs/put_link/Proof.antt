@@ -3,8 +3,7 @@ use mathlib.Core.Path.{_∙_, ap}
 use Prim.Native.Nat.{_+_, _*_, _<_}
 use native.Mathlib.Omega.{arith}
 use lib.ListN.{set, length-set}
-use Rattle.table.specs.declared.Table.{Table}
-use Rattle.table.specs.Table.{places, exits, exitPlace, withLinks}
+use Rattle.table.specs.Table.{Table, places, exits, exitPlace, withLinks}
 use Rattle.words.specs.Words.{targetsFrom}
 use Rattle.words.proofs.Laws.{store-targets, store-bits}
 use borrow.Author.Needs.{needs}
@@ -27,4 +26,13 @@ returns c =
 pub put-link-spec : {M : Type 1} → statement M
 put-link-spec =
     tie.close
-    (tie.spec (λ c. search needs) (λ c. search needs) (λ c. search needs) (λ c. search needs) (λ c. search needs) (λ c. search needs) (λ c. search needs) (λ c. search needs) returns)
+    (tie.spec
+    (λ c. search needs)
+    (λ c. search needs)
+    (λ c. search needs)
+    (λ c. search needs)
+    (λ c. search needs)
+    (λ c. search needs)
+    (λ c. search needs)
+    (λ c. search needs)
+    returns)

@@ -2,8 +2,7 @@
 use mathlib.Core.Path.{_∙_, ap}
 use Prim.Native.Nat.{_+_}
 use lib.ListN.{set, length-set}
-use Rattle.table.specs.declared.Table.{Table}
-use Rattle.table.specs.Table.{withSteps}
+use Rattle.table.specs.Table.{Table, withSteps}
 use Rattle.words.specs.Words.{usedFrom, kindsFrom, contentsFrom}
 use Rattle.words.proofs.Laws.{store-used, store-kinds, store-contents, store-own}
 use borrow.Author.Needs.{needs}

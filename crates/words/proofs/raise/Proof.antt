@@ -1,6 +1,5 @@
 -- `words::raise` meets its contract. Assumes nothing.
 use mathlib.Core.Path.{refl}
-use Prim.Native.Nat.{ℕ}
 use native.Mathlib.Omega.{arith}
 use lib.ListN.{length-set}
 use Rattle.table.specs.Table.{counterPlace, counterOf}
@@ -28,7 +27,9 @@ returns c =
     let l = s .pre .0 in
     let k = s .pre .1 in
     record {
-      table = store-raised w (s .args .j) (s .args .b) _ _ (c .before .before .before .before .if1 .taken) (rw (e₁, e₂)) (rw (e₁, e₂) (omega arith)) (c .count-in .ensures);
+      table =
+          store-raised w (s .args .j) (s .args .b) _ _ (c .before .before .before .before .if1 .taken) (rw (e₁, e₂)) (rw (e₁, e₂) (omega arith))
+          (c .count-in .ensures);
       size = length-set w _ _;
     }
 

@@ -1,8 +1,7 @@
 -- `words::relink` meets its contract. Assumes nothing.
 use mathlib.Core.Path.{_∙_, ap}
 use lib.ListN.{set}
-use Rattle.table.specs.declared.Table.{Table}
-use Rattle.table.specs.Table.{exitPlace, counterOf, withLinks}
+use Rattle.table.specs.Table.{Table, exitPlace, counterOf, withLinks}
 use Rattle.table.specs.Calls.{raised, relink}
 use Rattle.words.proofs.Laws.{lowered-below}
 use borrow.Author.Needs.{needs}
@@ -36,8 +35,12 @@ returns c =
           c .put-link .ensures .table ∙
           ap (λ (t : Table). withLinks t (set (t .targets) (exitPlace i e) j) (set (t .bits) (exitPlace i e) b) (t .counts))
           (c .before .before .raise .ensures .table ∙
-          ap (λ (t : Table). withLinks t (t .targets) (t .bits) (raised j b (t .counts))) (c .before .before .before .before .lower .ensures .table)) ∙
-          rw (c .before .before .before .before .before .before .bit-at .ensures, c .before .before .before .before .before .before .before .before .target-at .ensures);
+          ap (λ (t : Table). withLinks t (t .targets) (t .bits) (raised j b (t .counts)))
+          (c .before .before .before .before .lower .ensures .table)) ∙
+          rw (
+            c .before .before .before .before .before .before .bit-at .ensures,
+            c .before .before .before .before .before .before .before .before .target-at .ensures,
+          );
       size = c .put-link .ensures .size ∙ c .before .before .raise .ensures .size ∙ c .before .before .before .before .lower .ensures .size;
     }
 

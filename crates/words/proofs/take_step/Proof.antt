@@ -3,8 +3,7 @@ use mathlib.Core.Path.{_≡_, _∙_, ap}
 use Prim.Native.Nat.{ℕ, _+_, _<_}
 use native.Mathlib.Omega.{arith}
 use lib.ListN.{set, length-set}
-use Rattle.table.specs.declared.Table.{Table}
-use Rattle.table.specs.Table.{places, withSteps}
+use Rattle.table.specs.Table.{Table, places, withSteps}
 use Rattle.table.specs.Calls.{withStep}
 use Rattle.words.specs.Words.{usedFrom, kindsFrom, tableOf}
 use Rattle.words.proofs.Laws.{store-last, store-used, store-kinds, store-contents}

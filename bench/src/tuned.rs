@@ -1,0 +1,311 @@
+//! (d) The same job as (b) on the same table, in safe Rust written for speed. Ranges are tested over whole arrays with no branch, so that the
+//! compiler uses vectors; then one search withdraws every link from a copy of the counters. Sets of steps are the bits of a number.
+
+#![forbid(unsafe_code)]
+
+use telephone::raw::Table;
+
+const PLACES: usize = 128;
+const EXITS: usize = 4;
+const LINKS: usize = PLACES * EXITS;
+const COUNTERS: usize = PLACES * 2;
+
+/// Set in a counter of weak links while a search runs, so that it never comes to 0.
+const WEAK: u16 = 0x8000;
+/// The bits that a counter may have: there are 512 links.
+const COUNT: u16 = 0x03FF;
+
+/// The counter that an empty exit is withdrawn from. It stands past those of the steps; there are four, so that few exits wait for the same one.
+const NO_LINK: [u16; LINKS] = {
+    let mut counters = [0; LINKS];
+    let mut place = 0;
+    while place < LINKS {
+        counters[place] = (COUNTERS + place % EXITS) as u16;
+        place += 1;
+    }
+    counters
+};
+
+/// All bits if it holds, else none.
+fn mask(holds: bool) -> u16 {
+    0u16.wrapping_sub(u16::from(holds))
+}
+
+/// Whether a table is sound.
+#[inline(never)]
+pub fn sound(t: &Table) -> bool {
+    let capacity = usize::from(t.capacity);
+    if !(1..=PLACES).contains(&capacity) || t.last >= t.capacity || t.used[0] != 1 {
+        return false;
+    }
+
+    // Single fields. For each counter of a step, `marks` gets WEAK if it counts weak links, and COUNT if the step is in use.
+    let mut marks = [0u16; COUNTERS];
+    let (mut bad, mut any_used, mut any_kind) = (t.kinds[0] | t.contents[0], 0, 0);
+    let (mut size, mut differ) = (0u16, 0u16);
+    for i in 0..PLACES {
+        let (used, kind, content, own) = (t.used[i], t.kinds[i], t.contents[i], t.own[i]);
+        // A wait has 1 to 600, which is 0 to 599 from 1 on.
+        let wait = mask(kind == 3);
+        let most = mask(kind == 1) & 99 | mask(kind == 2) & 15 | wait & 599;
+        bad |= own.saturating_sub(used) | content.wrapping_add(wait).saturating_sub(most);
+        any_used |= used;
+        any_kind |= kind;
+        // Step 0, and no other, is in use without a kind.
+        differ = differ.wrapping_sub(mask(used == 0) ^ mask(kind == 0));
+        size = size.wrapping_add(used);
+        let zero = own << 15 | 0u16.wrapping_sub(used) & COUNT;
+        (marks[2 * i], marks[2 * i + 1]) = (zero, zero ^ WEAK);
+    }
+    bad |= t.used[capacity..].iter().fold(any_used & !1 | any_kind & !3, |bad, used| bad | used);
+
+    // Links: for each exit, the counter that its link stands in.
+    let (mut any_target, mut any_bit, mut empty) = (0, 0, 0u16);
+    let counter: [u16; LINKS] = std::array::from_fn(|place| {
+        let (target, bit) = (t.targets[place], t.bits[place]);
+        let none = mask(target == 0);
+        any_target |= target;
+        any_bit |= bit;
+        bad |= bit.saturating_sub(target);
+        empty = empty.wrapping_sub(none);
+        target.wrapping_add(target).wrapping_add(bit) | none & NO_LINK[place]
+    });
+    bad |= any_bit & !1 | any_target & !(PLACES as u16 - 1);
+
+    // Counters: the steps in use have as many as there are links.
+    let mut left = [WEAK; 2 * COUNTERS];
+    let (mut any_count, mut counted) = (0, 0u16);
+    for place in 0..COUNTERS {
+        let (count, mark) = (t.counts[place], marks[place]);
+        any_count |= count;
+        counted = counted.wrapping_add(count & mark);
+        left[place] = count | mark & WEAK;
+    }
+    bad |= any_count & !COUNT;
+    if bad != 0 || differ != 1 || counted != LINKS as u16 - empty {
+        return false;
+    }
+
+    // Every link is withdrawn, from step 0 on; a step is entered at its last strong link. The table is sound exactly if all steps in use are entered
+    // and all counters come to 0: none can pass 0 and come back, and then the counters of free steps are 0 too, and their exits empty.
+    let entered = withdraw(&counter, &mut left);
+    let rest = left[..COUNTERS].iter().fold(0, |rest, count| rest | count);
+    entered == size && rest & !WEAK == 0
+}
+
+/// Withdraws the exits of step 0 and of each step whose last strong link is withdrawn; gives how many steps that are. The step to go on with is
+/// kept beside the stack, at the bottom of which stands a 0.
+#[inline(always)]
+fn withdraw(counter: &[u16; LINKS], left: &mut [u16; 2 * COUNTERS]) -> u16 {
+    let mut stack = [0u8; 256];
+    let (mut next, mut height, mut entered) = (0u8, 1u8, 1);
+    loop {
+        let exits = usize::from(next >> 1) * EXITS;
+        height = height.wrapping_sub(1);
+        next = stack[usize::from(height)];
+        for &place in &counter[exits..exits + EXITS] {
+            let count = &mut left[usize::from(place) % (2 * COUNTERS)];
+            *count = count.wrapping_sub(1);
+            if *count == 0 {
+                stack[usize::from(height)] = next;
+                height = height.wrapping_add(1);
+                next = place as u8;
+                entered += 1;
+            }
+        }
+        if next == 0 {
+            return entered;
+        }
+    }
+}
+
+fn content_fits(kind: u16, content: u16) -> bool {
+    match kind {
+        1 => content <= 99,
+        2 => content <= 15,
+        3 => (1..=600).contains(&content),
+        _ => false,
+    }
+}
+
+/// The place of an exit of a step in use, or refusal 3 or 4.
+fn place(t: &Table, step: u16, exit: u16) -> Result<usize, u16> {
+    if usize::from(step) >= PLACES || t.used[usize::from(step)] == 0 {
+        return Err(3);
+    }
+    if usize::from(exit) >= EXITS {
+        return Err(4);
+    }
+    Ok(usize::from(step) * EXITS + usize::from(exit))
+}
+
+/// Steps in use and free ones.
+pub fn counts(t: &Table) -> Result<(u16, u16), u16> {
+    if !sound(t) {
+        return Err(1);
+    }
+    let size = t.used.iter().sum();
+    Ok((size, t.capacity - size))
+}
+
+#[inline(never)]
+pub fn add(t: &mut Table, holder: u16, exit: u16, kind: u16, content: u16) -> Result<u16, u16> {
+    if !sound(t) {
+        return Err(1);
+    }
+    let at = place(t, holder, exit)?;
+    if t.targets[at] != 0 {
+        return Err(5);
+    }
+    if !content_fits(kind, content) {
+        return Err(7);
+    }
+    let free = |number: &u16| t.used[usize::from(*number)] == 0;
+    let number =
+        (t.last + 1..t.capacity).find(free).or_else(|| (1..=t.last).find(free)).ok_or(8u16)?;
+    let step = usize::from(number);
+    (t.used[step], t.kinds[step], t.contents[step]) = (1, kind, content);
+    (t.last, t.targets[at], t.counts[step * 2]) = (number, number, 1);
+    Ok(number)
+}
+
+#[inline(never)]
+pub fn link(t: &mut Table, source: u16, from: u16, second: u16, into: u16) -> Result<(), u16> {
+    if !sound(t) {
+        return Err(1);
+    }
+    let target = t.targets[place(t, source, from)?];
+    if target == 0 {
+        return Err(6);
+    }
+    let at = place(t, second, into)?;
+    if t.targets[at] != 0 {
+        return Err(5);
+    }
+    let weak = t.own[usize::from(target)] ^ 1;
+    (t.targets[at], t.bits[at]) = (target, weak);
+    t.counts[usize::from(target * 2 + weak)] += 1;
+    Ok(())
+}
+
+/// Gives the steps made doubtful and those freed.
+#[inline(never)]
+pub fn clear(t: &mut Table, step: u16, exit: u16) -> Result<(u16, u16), u16> {
+    if !sound(t) {
+        return Err(1);
+    }
+    let at = place(t, step, exit)?;
+    let (target, bit) = (usize::from(t.targets[at]) % PLACES, t.bits[at]);
+    if target == 0 {
+        return Err(6);
+    }
+    let count = &mut t.counts[target * 2 + usize::from(bit & 1)];
+    *count -= 1;
+    let last = *count == 0;
+    (t.targets[at], t.bits[at]) = (0, 0);
+    if bit != t.own[target] || !last {
+        return Ok((0, 0));
+    }
+    let (doubtful, held) = doubtful(t, target);
+    let lost = take_back(t, doubtful, held);
+    free(t, lost);
+    Ok((doubtful.count_ones() as u16, lost.count_ones() as u16))
+}
+
+/// The set of one step.
+#[inline(always)]
+fn one(step: usize) -> u128 {
+    let bit = u128::from(1u64 << (step % 64));
+    if step < 64 {
+        bit
+    } else {
+        bit << 64
+    }
+}
+
+/// The lowest step of a set that has one.
+#[inline(always)]
+fn lowest(set: u128) -> usize {
+    let (low, high) = (set as u64, (set >> 64) as u64);
+    let lowest = if low != 0 { low.trailing_zeros() } else { 64 + high.trailing_zeros() };
+    lowest as usize % PLACES
+}
+
+/// Rule 2: the steps that lose their last strong link, from one that has. All their links are withdrawn, so that a link left to one of them comes
+/// from a step that is not doubtful; those are the second set.
+#[inline(never)]
+fn doubtful(t: &Table, first: usize) -> (u128, u128) {
+    let mut left = t.counts;
+    let mut stack = [0u8; PLACES];
+    let (mut next, mut height) = (first, 1);
+    let (mut found, mut held) = (0, 0);
+    while next != 0 {
+        let step = next % PLACES;
+        found |= one(step);
+        height -= 1;
+        next = stack[height % PLACES].into();
+        for place in step * EXITS..(step + 1) * EXITS {
+            let (target, bit) = (usize::from(t.targets[place]) % PLACES, t.bits[place]);
+            if target != 0 {
+                let count = &mut left[target * 2 + usize::from(bit & 1)];
+                *count = count.wrapping_sub(1);
+                if *count == 0 && bit == t.own[target] {
+                    stack[height % PLACES] = next as u8;
+                    height += 1;
+                    next = target;
+                }
+            }
+        }
+    }
+    let mut rest = found;
+    while rest != 0 {
+        let step = lowest(rest);
+        rest &= rest - 1;
+        if left[step * 2] | left[step * 2 + 1] != 0 {
+            held |= one(step);
+        }
+    }
+    (found, held)
+}
+
+/// Rule 3: takes the lowest held step back as long as there is one; gives the steps still doubtful.
+#[inline(never)]
+fn take_back(t: &mut Table, mut doubtful: u128, mut held: u128) -> u128 {
+    while held != 0 {
+        let step = lowest(held);
+        t.own[step] ^= 1;
+        doubtful &= !one(step);
+        for place in step * EXITS..(step + 1) * EXITS {
+            let target = usize::from(t.targets[place]) % PLACES;
+            if target != 0 {
+                held |= one(target);
+                let (bit, weak) = (t.bits[place], t.own[target] ^ 1);
+                if bit != weak {
+                    t.bits[place] = weak;
+                    t.counts[target * 2 + usize::from(bit & 1)] -= 1;
+                    t.counts[target * 2 + usize::from(weak & 1)] += 1;
+                }
+            }
+        }
+        held &= doubtful;
+    }
+    doubtful
+}
+
+/// Rule 4: the links of the steps leave the counters, and their records become zero.
+#[inline(never)]
+fn free(t: &mut Table, steps: u128) {
+    let mut rest = steps;
+    while rest != 0 {
+        let step = lowest(rest);
+        rest &= rest - 1;
+        for place in step * EXITS..(step + 1) * EXITS {
+            let (target, bit) = (usize::from(t.targets[place]) % PLACES, t.bits[place]);
+            if target != 0 {
+                t.counts[target * 2 + usize::from(bit & 1)] -= 1;
+                (t.targets[place], t.bits[place]) = (0, 0);
+            }
+        }
+        (t.used[step], t.kinds[step], t.contents[step], t.own[step]) = (0, 0, 0, 0);
+    }
+}

@@ -1,0 +1,199 @@
+-- Everything that is claimed, and where it is proved. A reader needs this file and specs/, and no proof. Assumes nothing.
+--   test-sound sound-test     the test and the statement of soundness are one
+--   demand-1                  every call, refused or not
+--   demand-3 history-*        every history
+--   demand-2-* trial-demand   every accepted call
+--   examples-shown ..         P1 to P10, each refusal of each call, key lines byte by byte, a table for each clause of soundness
+--   keys-demand keys-blocks   the program `keys`
+--   words-table table-words   the table in memory
+--   plan-*                    each exported function meets its contract, which is the equation with its definition (crates/telephone/src/lib.rt)
+use mathlib.Core.Path.{_≡_}
+use mathlib.Core.Bool.{true}
+use mathlib.Core.List.{List, _∷_, _++_, flatten, List·Memᴰ}
+use Prim.Native.Nat.{ℕ, _≤_, _<_}
+use lib.ListN.{length}
+use Rattle.table.specs.Table.{Table, places, counters, inUse, counterOf, linksTo, stepsInUse, StrongChain}
+use Rattle.table.specs.Sound.{Sound, sound, Shape}
+use Rattle.table.specs.Calls.{addRefusal, addCall, linkRefusal, linkCall, trialRefusal, trialCall}
+use Rattle.table.specs.Clear.{clearRefusal, clearCall}
+use Rattle.table.specs.Plan.{planOf}
+use Rattle.table.proofs.Sound as Soundness
+use Rattle.image.specs.Image.{imageLength, writeCall, accepted, loadCall, Bytes}
+use Rattle.keyline.specs.Keys.{spokenCounts}
+use Rattle.history.specs.History.{First, Call, tableAfter, heardBy, planAfter, drawnBy, firstRefusal, planFirstRefusal, firstTable, firstPlan}
+use Rattle.history.specs.Acts.{Act}
+use Rattle.history.specs.Demands.{Demand1, Demand3, AddDemand, LinkDemand, ClearDemand, CountDemand, WriteDemand, LoadDemand}
+use Rattle.table.specs.Trial.{TrialDemand}
+use Rattle.history.proofs.Demand1 as Refusals
+use Rattle.history.proofs.Demand2
+use Rattle.table.proofs.Trials
+use Rattle.history.proofs.Demand3 as Histories
+use Rattle.examples.specs.Examples.{Run, Entry, Shown, tableLeft, examples, refusals, keyLines, Decodes, unsound, failAsSaid}
+use Rattle.examples.proofs.Examples as Cases
+use Rattle.words.specs.Words.{words, tableOf, wordsOf}
+use Rattle.words.proofs.Laws as Memory
+use Rattle.session.specs.Session.{blocksOutput, firstState, keysOutput}
+use Rattle.session.proofs.Output as Blocks
+use Rattle.claims.specs.Keys.{KeysDemand}
+use Rattle.claims.proofs.Keys
+use Rattle.telephone.proofs.plan_fresh.Statement as fresh-contract
+use Rattle.telephone.proofs.plan_fresh.Met as fresh-met
+use Rattle.telephone.proofs.plan_add.Statement as add-contract
+use Rattle.telephone.proofs.plan_add.Met as add-met
+use Rattle.telephone.proofs.plan_link.Statement as link-contract
+use Rattle.telephone.proofs.plan_link.Met as link-met
+use Rattle.telephone.proofs.plan_clear.Statement as clear-contract
+use Rattle.telephone.proofs.plan_clear.Met as clear-met
+use Rattle.telephone.proofs.plan_read.Statement as read-contract
+use Rattle.telephone.proofs.plan_read.Met as read-met
+use Rattle.telephone.proofs.plan_trial.Statement as trial-contract
+use Rattle.telephone.proofs.plan_trial.Met as trial-met
+use Rattle.telephone.proofs.plan_write_image.Statement as write-image-contract
+use Rattle.telephone.proofs.plan_write_image.Met as write-image-met
+use Rattle.telephone.proofs.plan_load_image.Statement as load-image-contract
+use Rattle.telephone.proofs.plan_load_image.Met as load-image-met
+use Rattle.telephone.proofs.plan_key_line.Statement as key-line-contract
+use Rattle.telephone.proofs.plan_key_line.Met as key-line-met
+use Rattle.telephone.proofs.plan_is_sound.Statement as is-sound-contract
+use Rattle.telephone.proofs.plan_is_sound.Met as is-sound-met
+use Rattle.telephone.proofs.plan_counts.Statement as counts-contract
+use Rattle.telephone.proofs.plan_counts.Met as counts-met
+use Rattle.telephone.proofs.plan_image_length.Statement as image-length-contract
+use Rattle.telephone.proofs.plan_image_length.Met as image-length-met
+use Rattle.telephone.proofs.plan_edition.Statement as edition-contract
+use Rattle.telephone.proofs.plan_edition.Met as edition-met
+
+-- The test and the statement of soundness are one.
+pub test-sound : (t : Table) → sound t ≡ true → Sound t
+test-sound = Soundness.test-sound
+
+pub sound-test : (t : Table) → Sound t → sound t ≡ true
+sound-test = Soundness.sound-test
+
+-- Demand 1: for every table, call and argument, and for fresh and load.
+pub demand-1 : (t : Table) (a : Act) → Demand1 t a
+demand-1 = Refusals.demand-1
+
+-- Demand 3: for every list of calls with any arguments, from fresh with any capacity and from load with any bytes, refused or not.
+pub demand-3 : (f : First) (cs : List Call) → Demand3 f cs
+demand-3 = Histories.demand-3
+
+-- and each of its parts by itself
+module _ (f : First) (cs : List Call) where
+  abbrev left : Table
+  left = tableAfter (firstTable f) cs
+
+  pub history-sound : sound left ≡ true
+  history-sound = Histories.history-sound f cs
+
+  pub history-short : (a b n : ℕ) → StrongChain left a b n → n < stepsInUse left
+  history-short = Histories.history-short f cs
+
+  pub history-reached : (i : ℕ) → inUse left i ≡ true → (i ≡ 0 → ⊥) → (n : ℕ) × StrongChain left 0 i n
+  history-reached = Histories.history-reached f cs
+
+  pub history-plan : planOf left ≡ planAfter (firstPlan f) cs
+  history-plan = Histories.history-plan f cs
+
+  pub history-begun : firstRefusal f ≡ planFirstRefusal f
+  history-begun = Histories.history-begun f cs
+
+  pub history-heard : heardBy (firstTable f) cs ≡ drawnBy (firstPlan f) cs
+  history-heard = Histories.history-heard f cs
+
+  pub history-counts : (i b : ℕ) → i < places → b < counters → counterOf left i b ≡ linksTo left i b
+  history-counts = Histories.history-counts f cs
+
+-- Demand 2: an accepted add, link and clear on a sound table, and the spoken counts.
+pub demand-2-add : (t : Table) → Sound t → (holder e kind content : ℕ) → addRefusal t holder e kind content ≡ 0 →
+    AddDemand t holder e kind content (addCall t holder e kind content)
+demand-2-add = Demand2.add-demand
+
+pub demand-2-link : (t : Table) → Sound t → (source e second f : ℕ) → linkRefusal t source e second f ≡ 0 →
+    LinkDemand t source e second f (linkCall t source e second f)
+demand-2-link = Demand2.link-demand
+
+pub demand-2-clear : (t : Table) → Sound t → (i e : ℕ) → clearRefusal t i e ≡ 0 → ClearDemand t i e (clearCall t i e)
+demand-2-clear = Demand2.clear-demand
+
+pub demand-2-counts : (t : Table) → Sound t → CountDemand t (spokenCounts t)
+demand-2-counts = Demand2.count-demand
+
+-- Demand 2: "A sound table written as an image loads as the same table", in a buffer that has the room
+pub demand-2-written : (t : Table) → Sound t → (buffer : List ℕ) → imageLength t ≤ length buffer → WriteDemand t buffer (writeCall t buffer)
+demand-2-written = Demand2.write-demand
+
+-- "and an accepted image is written with the same records."
+pub demand-2-loaded : (bs : List ℕ) → Bytes bs → accepted bs ≡ true → (buffer : List ℕ) → length bs ≤ length buffer →
+    LoadDemand bs (writeCall (loadCall bs .table) buffer)
+demand-2-loaded = Demand2.load-demand
+
+-- A trial that is not refused: its moves, and what it writes.
+pub trial-demand : (t : Table) (results trace : List ℕ) → trialRefusal t results trace ≡ 0 → TrialDemand t results trace (trialCall t results trace)
+trial-demand = Trials.trial-demand
+
+-- The examples: every entry says what it states, of the table that the entries before it in its run leave.
+pub examples-shown : (r : Run) → List·Memᴰ r (examples ++ refusals) → (before : List Entry) (x : Entry) (after : List Entry) →
+    r .entries ≡ before ++ (x ∷ after) → Shown (tableLeft (r .table) before) x
+examples-shown = Cases.examples-shown
+
+pub lines-decoded : Decodes keyLines
+lines-decoded = Cases.lines-decoded
+
+pub unsound-fail : failAsSaid unsound ≡ true
+unsound-fail = Cases.unsound-fail
+
+-- The program `keys`: for every input it prints what the plan draws for its lines, in whatever blocks the input comes.
+pub keys-demand : (bs : List ℕ) → KeysDemand bs
+keys-demand = Keys.keys-demand
+
+pub keys-blocks : (blocks : List (List ℕ)) → blocksOutput firstState blocks ≡ keysOutput (flatten blocks)
+keys-blocks = Blocks.keys-blocks
+
+-- The table in memory: words and tables are each other's inverse.
+pub words-table : (w : List ℕ) → length w ≡ words → wordsOf (tableOf w) ≡ w
+words-table = Memory.words-table
+
+pub table-words : (t : Table) → Shape t → tableOf (wordsOf t) ≡ t
+table-words = Memory.table-words
+
+-- Each exported function is its definition.
+module _ {M : Type 1} where
+  pub plan-fresh : fresh-contract.statement M
+  plan-fresh = fresh-met.met
+
+  pub plan-add : add-contract.statement M
+  plan-add = add-met.met
+
+  pub plan-link : link-contract.statement M
+  plan-link = link-met.met
+
+  pub plan-clear : clear-contract.statement M
+  plan-clear = clear-met.met
+
+  pub plan-read : read-contract.statement M
+  plan-read = read-met.met
+
+  pub plan-trial : trial-contract.statement M
+  plan-trial = trial-met.met
+
+  pub plan-write-image : write-image-contract.statement M
+  plan-write-image = write-image-met.met
+
+  pub plan-load-image : load-image-contract.statement M
+  plan-load-image = load-image-met.met
+
+  pub plan-key-line : key-line-contract.statement M
+  plan-key-line = key-line-met.met
+
+  pub plan-is-sound : is-sound-contract.statement M
+  plan-is-sound = is-sound-met.met
+
+  pub plan-counts : counts-contract.statement M
+  plan-counts = counts-met.met
+
+  pub plan-image-length : image-length-contract.statement M
+  plan-image-length = image-length-met.met
+
+  pub plan-edition : edition-contract.statement M
+  plan-edition = edition-met.met

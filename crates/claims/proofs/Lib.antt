@@ -1,0 +1,3 @@
+-- Everything that is claimed.
+pub mod Keys
+pub mod Claims

@@ -1,0 +1,2 @@
+-- What is claimed of the program `keys`.
+pub mod Keys

@@ -1,0 +1,1 @@
+// Everything that is claimed, in one place. All of it is in proofs/.

@@ -1,2 +1,0 @@
--- What the functions of clear work on.
-pub mod Clearing

@@ -1,0 +1,99 @@
+-- What a call does, in numbers: its answer, the lent bytes as it leaves them, the table handed back; and what a refused call does (document 01,
+-- "Reasons for no"). Assumes nothing.
+--   Act                fresh or load begins a table, any other call is made on the table at hand
+--   Done, doneBy       the answer of an act in the paper's numbers, the lent bytes as it leaves them, and the table handed back
+--   refusedBy n        an act refused with the number n
+--   conditionsOf       the conditions of its refusals with their numbers, in their order
+use mathlib.Core.Bool.{Bool}
+use mathlib.Core.List.{List, [], _∷_, _++_}
+use Prim.Native.Nat.{ℕ}
+use lib.ListN.{length, replicate}
+use Rattle.table.specs.Table.{Table}
+use Rattle.table.specs.declared.Fields.{Fields}
+use Rattle.table.specs.declared.Tried.{Tried}
+use Rattle.table.specs.Answer.{Outcome, refusalOf, firstOf, secondOf, triedRefusal, endingOf, lastOf, movesOf}
+use Rattle.table.specs.Calls.{freshTable, freshConditions, freshCall, addConditions, addCall, linkConditions, linkCall, readConditions, readCall, trialConditions, trialCall}
+use Rattle.table.specs.Clear.{clearConditions, clearCall}
+use Rattle.image.specs.Image.{writeConditions, writeCall, loadConditions, loadCall}
+use Rattle.keyline.specs.Keys.{keyConditions, keyCall}
+use Rattle.history.specs.History.{First, fresh, load, Call, add, link, clear, read, trial, write, keyLine}
+
+pub data Act : Type 0 where
+  begin : First → Act
+  call : Call → Act
+
+-- the refusal or 0, the other numbers of the answer, what was lent, the table handed back
+pub record Done : Type 0 where
+  pub refusal : ℕ
+  pub numbers : List ℕ
+  pub lent : List ℕ
+  pub table : Table
+
+-- the answer of a call that is lent nothing has two numbers
+unfoldable pub told : Outcome → Done
+told o = record { refusal = refusalOf (o .answer); numbers = firstOf (o .answer) ∷ secondOf (o .answer) ∷ []; lent = []; table = o .table }
+
+-- "all its fields": kind, content, own bit, four targets, their four bits, two counters
+unfoldable pub fieldNumbers : Fields → List ℕ
+fieldNumbers f = f .kind ∷ f .content ∷ f .own ∷ (f .targets ++ f .bits ++ f .counts)
+
+-- "answers which, the last step and the moves made": open is 0, spent is 1
+unfoldable pub triedNumbers : Tried → List ℕ
+triedNumbers a = endingOf a ∷ lastOf a ∷ movesOf a ∷ []
+
+unfoldable pub callDone : Table → Call → Done
+callDone t (add holder e kind content) = told (addCall t holder e kind content)
+callDone t (link source e second f) = told (linkCall t source e second f)
+callDone t (clear i e) = told (clearCall t i e)
+callDone t (read i) =
+    let r = readCall t i in
+    record { refusal = r .refusal; numbers = fieldNumbers (r .fields); lent = []; table = t }
+callDone t (trial results trace) =
+    let o = trialCall t results trace in
+    record { refusal = triedRefusal (o .answer); numbers = triedNumbers (o .answer); lent = o .trace; table = t }
+callDone t (write buffer) =
+    let o = writeCall t buffer in
+    record { refusal = refusalOf (o .answer); numbers = firstOf (o .answer) ∷ secondOf (o .answer) ∷ []; lent = o .buffer; table = t }
+callDone t (keyLine bs) = told (keyCall t bs)
+
+unfoldable pub doneBy : Table → Act → Done
+doneBy t (begin (fresh c)) = told (freshCall c)
+doneBy t (begin (load bs)) = told (loadCall bs)
+doneBy t (call c) = callDone t c
+
+-- how many numbers the answer of a call has, and what the call is lent
+unfoldable pub answerSize : Call → ℕ
+answerSize (add holder e kind content) = 2
+answerSize (link source e second f) = 2
+answerSize (clear i e) = 2
+answerSize (read i) = 13
+answerSize (trial results trace) = 3
+answerSize (write buffer) = 2
+answerSize (keyLine bs) = 2
+
+unfoldable pub lentTo : Call → List ℕ
+lentTo (add holder e kind content) = []
+lentTo (link source e second f) = []
+lentTo (clear i e) = []
+lentTo (read i) = []
+lentTo (trial results trace) = trace
+lentTo (write buffer) = buffer
+lentTo (keyLine bs) = []
+
+-- "A refusal answers its number with all other numbers zero, and changes no table or buffer. Refused fresh and load hand back a fresh table of
+-- capacity 1."
+unfoldable pub refusedBy : ℕ → Table → Act → Done
+refusedBy n t (begin f) = record { refusal = n; numbers = replicate 2 0; lent = []; table = freshTable 1 }
+refusedBy n t (call c) = record { refusal = n; numbers = replicate (answerSize c) 0; lent = lentTo c; table = t }
+
+-- "a call is refused, by number, in the listed cases and in no other"
+unfoldable pub conditionsOf : Table → Act → List (Bool × ℕ)
+conditionsOf t (begin (fresh c)) = freshConditions c
+conditionsOf t (begin (load bs)) = loadConditions bs
+conditionsOf t (call (add holder e kind content)) = addConditions t holder e kind content
+conditionsOf t (call (link source e second f)) = linkConditions t source e second f
+conditionsOf t (call (clear i e)) = clearConditions t i e
+conditionsOf t (call (read i)) = readConditions t i
+conditionsOf t (call (trial results trace)) = trialConditions t results trace
+conditionsOf t (call (write buffer)) = writeConditions t (length buffer)
+conditionsOf t (call (keyLine bs)) = keyConditions t bs

@@ -1,0 +1,2 @@
+-- The law of the spoken counts.
+pub mod Laws

@@ -1,0 +1,66 @@
+-- `arrays_fit` looks at the faults of all passes. Assumes nothing.
+use mathlib.Core.Path.{_≡_, sym, _∙_}
+use mathlib.Core.Bool.{true}
+use Prim.Native.Nat.{_*_}
+use borrow.Author.Tests.{eq-eqb, ne-eqb}
+use borrow.Author.Needs.{needs}
+use Rattle.finite.specs.Below.{all}
+use Rattle.table.specs.Table.{places, exits}
+use Rattle.words.specs.Words.{tableOf}
+use Rattle.soundness.specs.Parts.{stepFits, exitFits, countersFit, arraysFit}
+use Rattle.soundness.proofs.Totals.{no-faults}
+use Rattle.soundness.proofs.arrays_fit.Statement.{statement}
+use Rattle.soundness.proofs.arrays_fit.Tie as tie
+
+-- the passes made so far found no fault
+steps : (c : tie.Else1) → all places (stepFits (tableOf (c .before .before .args .t .now))) ≡ true
+steps c = sym (no-faults _ _ _ (c .before .step-faults .ensures)) ∙ eq-eqb _ _ (c .if1 .left)
+
+links : (c : tie.Else2) → all (places * exits) (exitFits (tableOf (c .before .before .before .before .args .t .now))) ≡ true
+links c = sym (no-faults _ _ _ (c .before .link-faults .ensures)) ∙ eq-eqb _ _ (c .if2 .left)
+
+counts : (c : tie.Else3) → all places (countersFit (tableOf (c .before .before .before .before .before .before .args .t .now))) ≡ true
+counts c = sym (no-faults _ _ _ (c .before .count-faults .ensures)) ∙ eq-eqb _ _ (c .if3 .left)
+
+returns : tie.Need-returns
+unfolding arraysFit
+returns c = rw (sym (no-faults _ _ _ (c .before .step-faults .ensures)) ∙ ne-eqb _ _ (c .if1 .taken))
+
+returns-2 : tie.Need-returns-2
+unfolding arraysFit
+returns-2 c = rw (steps (c .before .before), sym (no-faults _ _ _ (c .before .link-faults .ensures)) ∙ ne-eqb _ _ (c .if2 .taken))
+
+returns-3 : tie.Need-returns-3
+unfolding arraysFit
+returns-3 c =
+    rw (
+      steps (c .before .before .before .before),
+      links (c .before .before),
+      sym (no-faults _ _ _ (c .before .count-faults .ensures)) ∙ ne-eqb _ _ (c .if3 .taken),
+    )
+
+used-above-requires : tie.Need-used-above-requires
+used-above-requires c κs =
+    rw (c .wide .ensures, c .before .capacity .ensures) (c .before .before .before .before .before .before .before .before .pre)
+
+returns-4 : tie.Need-returns-4
+unfolding arraysFit
+returns-4 c =
+    let c3 = c .before .before .before in
+    rw (steps (c3 .before .before .before .before), links (c3 .before .before), counts c3)
+    (no-faults _ _ _ (rw (c .before .wide .ensures, c .before .before .capacity .ensures) at (c .used-above .ensures)))
+
+pub arrays-fit-spec : {M : Type 1} → statement M
+arrays-fit-spec =
+    tie.close
+    (tie.spec
+    (λ c κs. search needs)
+    returns
+    (λ c κs. search needs)
+    returns-2
+    (λ c κs. search needs)
+    returns-3
+    (λ c κs. search needs)
+    (λ c κs. search needs)
+    used-above-requires
+    returns-4)
