@@ -23,14 +23,14 @@
  * Stack. A call and the table lent to it together take at most PLAN_STACK_MAX bytes of stack; a table that stands elsewhere takes none of them.
  * Measured, without the caller's table of 3,588 bytes:
  *
- *     <<TO BE MEASURED, bytes: by `cargo test --release --test stack -- --nocapture` in compare/>>
- *     plan_edition, plan_fresh                                            <<...>>
- *     plan_is_sound, plan_counts, plan_image_length, plan_read            <<...>>
- *     plan_add, plan_link                                                 <<...>>
- *     plan_clear                                                          <<...>>
- *     plan_trial, plan_write_image                                        <<...>>
- *     plan_load_image                                                     <<...>>
- *     plan_key_line                                                       <<...>>
+ *     plan_edition, plan_fresh                                                     72 bytes
+ *     plan_is_sound, plan_counts, plan_image_length, plan_read                  7,024
+ *     plan_add, plan_link                                                       7,056
+ *     plan_clear                                                                8,336
+ *     plan_trial, plan_write_image, plan_load_image                             7,040
+ *     plan_key_line                                                             8,400
+ *
+ * `cargo test --release --test stack -- --nocapture` in compare/ prints them.
  */
 #ifndef TELEPHONE_H
 #define TELEPHONE_H

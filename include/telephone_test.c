@@ -1,6 +1,6 @@
 /* Links libtelephone.a and tries each call from C, or from C++: edition, names and words, the worked examples P1 to P10, every refusal of every call,
- * the case of `keys`, and bytes that are no sound table. A table is lent with bytes around it, which have to stay; a refused call has to leave every
- * byte. Prints a line for each case that fails, and 'N passed, M failed' last. */
+ * the case of `keys`, fields that all differ, lengths past 16 bits, and bytes that are no sound table. A table is lent with bytes around it, which
+ * have to stay; a refused call has to leave every byte. Prints a line for each case that fails, and 'N passed, M failed' last. */
 #include "telephone.h"
 #include <stdio.h>
 #include <string.h>
@@ -104,6 +104,73 @@ static void edits(void) {
     m = p1();
     expect(gave(plan_link(t, 0, 0, 0, 1), 0, 0, 0) && gave(plan_clear(t, 0, 0), 0, 1, 0) && t->bits[1] == t->own[1], "P9");
     expect(edges_stand(&m), "after P9");
+}
+
+/* A table in which the fields of step 2 and the numbers of the table all differ. The bits are those of step 2's links, which are all strong. */
+static plan_table different(const uint16_t bits[4]) {
+    static const uint16_t steps[8][3] = {{0, 0, 0}, {1, 1, 11}, {2, 3, 600}, {3, 1, 12}, {4, 2, 13}, {6, 3, 14}, {8, 1, 15}, {10, 2, 7}};
+    static const uint16_t targets[4] = {4, 6, 8, 10};
+    plan_table t;
+    memset(&t, 0, sizeof t);
+    t.capacity = 11;
+    t.last = 9;
+    for (int i = 0; i < 8; i++) {
+        t.used[steps[i][0]] = 1;
+        t.kinds[steps[i][0]] = steps[i][1];
+        t.contents[steps[i][0]] = steps[i][2];
+    }
+    t.own[2] = 1;
+    for (int i = 0; i < 4; i++) {
+        t.targets[2 * 4 + i] = targets[i];
+        t.bits[2 * 4 + i] = t.own[targets[i]] = bits[i];
+        t.counts[targets[i] * 2 + bits[i]] = 1;
+    }
+    for (int i = 0; i < 3; i++) t.targets[i] = (uint16_t)(i + 1);
+    t.bits[1] = 1;
+    t.counts[1 * 2] = t.counts[3 * 2] = 1;
+    /* seven strong links to step 2, with step 0's, and five weak ones */
+    for (int i = 0; i < 4; i++) t.targets[1 * 4 + i] = t.targets[4 * 4 + i] = 2, t.bits[1 * 4 + i] = 1;
+    for (int i = 0; i < 2; i++) t.targets[3 * 4 + i] = 2, t.bits[3 * 4 + i] = 1;
+    t.targets[6 * 4] = 2;
+    t.counts[2 * 2] = 5;
+    t.counts[2 * 2 + 1] = 7;
+    return t;
+}
+
+/* Every field of every reply and every argument has a number of its own, so that no two can be exchanged unseen. */
+static void fields(void) {
+    static const uint16_t patterns[3][4] = {{0, 1, 0, 1}, {0, 0, 1, 1}, {1, 0, 0, 1}};
+    static const uint8_t spent[4] = {1, 1, 0, 2}, open[5] = {2, 0, 3, 0, 1};
+    static const uint8_t spent_trace[5] = {2, 6, 2, 8, UNTOUCHED}, open_trace[5] = {3, 2, 10, 8, UNTOUCHED};
+    uint8_t trace[5];
+    plan_table t;
+    for (int p = 0; p < 3; p++) {
+        const uint16_t *bits = patterns[p];
+        t = different(bits);
+        plan_read_reply s = plan_read(&t, 2);
+        expect(s.refusal == 0 && s.kind == 3 && s.content == 600 && s.own == 1 && s.counts[0] == 5 && s.counts[1] == 7, "fields of a step");
+        expect(s.targets[0] == 4 && s.targets[1] == 6 && s.targets[2] == 8 && s.targets[3] == 10, "targets of a step");
+        expect(memcmp(s.bits, bits, sizeof s.bits) == 0, "bits of a step");
+        expect(gave(plan_counts(&t), 0, 8, 3) && gave(plan_key_line(&t, (const uint8_t *)"H*4A", 4), 0, 8, 3), "8 in use, 3 free");
+        memset(trace, UNTOUCHED, sizeof trace);
+        plan_trial_reply r = plan_trial(&t, spent, 4, trace, 5);
+        expect(r.refusal == 0 && r.ending == PLAN_SPENT && r.last == 8 && r.moves == 4 && memcmp(trace, spent_trace, 5) == 0, "spent at 8 after 4");
+        r = plan_trial(&t, open, 5, trace, 5);
+        expect(r.refusal == 0 && r.ending == PLAN_OPEN && r.last == 10 && r.moves == 3 && memcmp(trace, open_trace, 5) == 0, "open at 10 after 3");
+        expect(gave(plan_add(&t, 10, PLAN_NO_REPLY, PLAN_CONTACT, 99), 0, 5, 0) && t.targets[10 * 4 + 2] == 5, "add 10, 2, 1, 99");
+        expect(t.kinds[5] == PLAN_CONTACT && t.contents[5] == 99 && t.last == 5, "the step added");
+        expect(gave(plan_link(&t, 2, PLAN_LINE_FAULT, 8, PLAN_ENGAGED), 0, 0, 0) && t.targets[8 * 4 + 1] == 10, "link 2, 3 to 8, 1");
+        expect(gave(plan_clear(&t, 8, PLAN_ENGAGED), 0, 0, 0) && gave(plan_clear(&t, 10, PLAN_NO_REPLY), 0, 1, 1), "both cleared");
+        plan_table as_was = different(bits);
+        as_was.last = 5;
+        expect(same(&t, &as_was), "the table but for its last number");
+    }
+    plan_fresh(&t, 9);
+    plan_add(&t, 0, 0, PLAN_CONTACT, 0);
+    plan_add(&t, 1, 1, PLAN_CONTACT, 0);
+    plan_add(&t, 2, 3, PLAN_CONTACT, 0);
+    plan_link(&t, 1, 1, 0, 2);
+    expect(gave(plan_clear(&t, 0, 0), 0, 3, 1) && gave(plan_counts(&t), 0, 3, 6), "a clearing with 3 doubtful and 1 freed");
 }
 
 static void images(void) {
@@ -218,6 +285,38 @@ static void refusals(void) {
     expect(all, "a refused call leaves every byte, and so does a call that reads");
 }
 
+/* Lengths that 8 or 16 bits do not hold: results, traces, buffers, images and key lines. */
+static void lengths(void) {
+    enum { MOST = 70000, LINE = 1000000 };
+    static const size_t moves[6] = {256, 300, 65535, 65536, 65537, MOST};
+    static uint8_t results[MOST], lent_bytes[MOST + 1], line[LINE];
+    lent m = p1();
+    plan_fresh(&m.table, 4);
+    plan_add(&m.table, 0, 0, PLAN_CONTACT, 0);
+    plan_link(&m.table, 0, 0, 1, 0);
+    const lent was = m;
+    for (int i = 0; i < 6; i++) {
+        const size_t n = moves[i];
+        size_t entered = 0;
+        memset(lent_bytes, UNTOUCHED, sizeof lent_bytes);
+        plan_trial_reply r = plan_trial(&m.table, results, n, lent_bytes, n - 1);
+        expect(r.refusal == PLAN_TOO_SHORT && r.moves == 0 && all_untouched(lent_bytes, sizeof lent_bytes), "a long trace, one byte short");
+        r = plan_trial(&m.table, results, n, lent_bytes, sizeof lent_bytes);
+        while (entered < sizeof lent_bytes && lent_bytes[entered] == 1) entered++;
+        expect(r.refusal == 0 && r.ending == PLAN_SPENT && r.last == 1 && r.moves == n, "a long trial");
+        expect(entered == n && all_untouched(lent_bytes + n, sizeof lent_bytes - n), "its trace");
+    }
+    memset(lent_bytes, UNTOUCHED, sizeof lent_bytes);
+    plan_write_reply w = plan_write_image(&m.table, lent_bytes, 65536);
+    expect(w.refusal == 0 && w.length == 50 && all_untouched(lent_bytes + 50, sizeof lent_bytes - 50), "an image into 65,536 bytes");
+    expect(memcmp(&m, &was, sizeof m) == 0, "the table after them");
+    memcpy(line, "H*4A", 4);
+    REFUSED(9, m, plan_key_line(&m.table, line, 65536 + 4));
+    REFUSED(9, m, plan_key_line(&m.table, line, LINE));
+    expect(gave(plan_load_image(&m.table, lent_bytes, 65536 + 50), PLAN_NOT_ACCEPTED, 0, 0), "an image and 65,536 bytes");
+    expect(gave(plan_load_image(&m.table, lent_bytes, 50), 0, 0, 0) && same(&m.table, &was.table), "the image alone");
+}
+
 static void trials(void) {
     static const uint8_t fits[2] = {PLAN_ANSWERED, PLAN_LINE_FAULT}, unfit[2] = {0, 4};
     lent m = p1();
@@ -263,8 +362,10 @@ static void wild(void) {
 int main(void) {
     names();
     edits();
+    fields();
     images();
     refusals();
+    lengths();
     trials();
     keys();
     wild();

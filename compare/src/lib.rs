@@ -2,11 +2,14 @@
 //! The interface is lent a table and buffers with bytes around them; after each call the answers, the lent bytes, the tables and the bytes around are
 //! compared whole.
 
+pub mod process;
 pub mod stack;
 
-use reference::calls::{Command, Fault};
-use reference::history::{run, Call, Outcome, UNTOUCHED};
+use reference::calls::{add, fresh, link, Command};
+use reference::faults::Fault;
+use reference::history::{self, Call, Outcome, Start, UNTOUCHED};
 use reference::table::Table;
+use std::fmt::{self, Debug};
 use telephone::raw;
 
 /// The same table for the interface.
@@ -62,12 +65,32 @@ impl Lent {
 }
 
 /// Lends a buffer of that length to a call, with bytes on both sides that have to stay; gives what the call gives, and the buffer.
-pub fn with_buffer<R>(length: usize, call: impl FnOnce(&mut [u8]) -> R) -> (R, Vec<u8>) {
+fn with_buffer<R>(length: usize, call: impl FnOnce(&mut [u8]) -> R) -> (R, Vec<u8>) {
     let mut bytes = vec![UNTOUCHED; EDGE + length + EDGE];
     let given = call(&mut bytes[EDGE..EDGE + length]);
     let edges = [&bytes[..EDGE], &bytes[EDGE + length..]].concat();
     assert!(edges == [UNTOUCHED; 2 * EDGE], "a byte beside a lent buffer was written");
     (given, bytes[EDGE..EDGE + length].to_vec())
+}
+
+/// Lends bytes to be read, with bytes on both sides; none of them may change.
+fn with_bytes<R>(bytes: &[u8], call: impl FnOnce(&[u8]) -> R) -> R {
+    let edge = [UNTOUCHED; EDGE];
+    let lent = [&edge[..], bytes, &edge].concat();
+    let given = call(&lent[EDGE..EDGE + bytes.len()]);
+    // the bytes are looked at again, whatever the compiler knows of a slice that is only read
+    let after = std::hint::black_box(&lent);
+    let stand = after[..EDGE] == edge && after[EDGE + bytes.len()..] == edge;
+    assert!(stand && after[EDGE..EDGE + bytes.len()] == *bytes, "lent bytes to be read changed");
+    given
+}
+
+/// Makes the first call of a history through the interface.
+pub fn begin(table: &mut raw::Table, start: &Start) -> Outcome {
+    match start {
+        Start::Fresh { capacity } => two(raw::fresh(table, *capacity)),
+        Start::Load { image } => two(with_bytes(image, |image| raw::load_image(table, image))),
+    }
 }
 
 /// Makes a call through the interface.
@@ -81,14 +104,16 @@ pub fn call(table: &mut raw::Table, call: &Call) -> Outcome {
         }
         Call::Edit(Command::Clear { step, exit }) => two(raw::clear(table, *step, *exit)),
         Call::Edit(Command::Count) => two(raw::counts(table)),
-        Call::KeyLine(line) => two(raw::key_line(table, line)),
+        Call::KeyLine(line) => two(with_bytes(line, |line| raw::key_line(table, line))),
         Call::Write { buffer } => {
             let (reply, lent) = with_buffer(*buffer, |bytes| raw::write_image(table, bytes));
             Outcome { lent, ..length(reply) }
         }
         Call::ImageLength => length(raw::image_length(table)),
         Call::Trial { results, trace } => {
-            let (reply, lent) = with_buffer(*trace, |bytes| raw::trial(table, results, bytes));
+            let (reply, lent) = with_buffer(*trace, |trace| {
+                with_bytes(results, |results| raw::trial(table, results, trace))
+            });
             let numbers = vec![reply.ending.into(), reply.last.into(), reply.moves];
             Outcome { refusal: reply.refusal, numbers, lent }
         }
@@ -113,6 +138,33 @@ fn length(reply: raw::WriteReply) -> Outcome {
     two(raw::Reply { refusal: reply.refusal, first: reply.length, second: 0 })
 }
 
+/// What of a call's effects differs between two programs.
+#[derive(Clone, Copy, PartialEq, Eq, PartialOrd, Ord, Debug)]
+pub enum Evidence {
+    Refusal,
+    /// One of the other numbers answered, counted from 0.
+    Number(usize),
+    /// A byte of a lent trace or buffer.
+    Lent,
+    /// The table handed back.
+    Table,
+    /// A byte beside the table.
+    Beside,
+}
+
+/// All that differs after a call, and in words what was called and what differs.
+#[derive(Clone, PartialEq, Eq)]
+pub struct Difference {
+    pub evidence: Vec<Evidence>,
+    words: String,
+}
+
+impl Debug for Difference {
+    fn fmt(&self, f: &mut fmt::Formatter<'_>) -> fmt::Result {
+        f.write_str(&self.words)
+    }
+}
+
 /// Two tables that start the same, one behind the interface and one in the second program, with a fault in it or none.
 pub struct Pair {
     pub proved: Lent,
@@ -125,21 +177,60 @@ impl Pair {
         Pair { proved: Lent::new(lend(table)), second: table.clone(), fault }
     }
 
+    /// Makes the first call of a history on both, over memory in which no table stands. Gives the pair, and the outcome or what differs.
+    pub fn begin(start: &Start, fault: Fault) -> (Pair, Result<Outcome, Difference>) {
+        let mut lent = Lent::unmade();
+        let proved = begin(&mut lent.table, start);
+        let (table, second) = history::begin(start, fault);
+        let pair = Pair { proved: lent, second: table, fault };
+        let compared = pair.compared(start, proved, &second);
+        (pair, compared)
+    }
+
     /// Makes a call on both. Gives the outcome, or what differs.
-    pub fn call(&mut self, made: &Call) -> Result<Outcome, String> {
+    pub fn call(&mut self, made: &Call) -> Result<Outcome, Difference> {
         let proved = call(&mut self.proved.table, made);
-        let second = run(&mut self.second, made, self.fault);
-        if proved != second {
-            return Err(format!("{made:?}: proved {proved:?}, second {second:?}"));
+        let second = history::run(&mut self.second, made, self.fault);
+        self.compared(made, proved, &second)
+    }
+
+    /// Compares all that a call gave: the answers, the lent bytes, the tables and the bytes beside.
+    fn compared(
+        &self,
+        made: &dyn Debug,
+        proved: Outcome,
+        second: &Outcome,
+    ) -> Result<Outcome, Difference> {
+        let mut found = Vec::new();
+        if proved.refusal != second.refusal {
+            let words = format!("refusal: proved {}, second {}", proved.refusal, second.refusal);
+            found.push((Evidence::Refusal, words));
+        }
+        assert_eq!(proved.numbers.len(), second.numbers.len(), "{made:?}");
+        for (i, (a, b)) in proved.numbers.iter().zip(&second.numbers).enumerate() {
+            if a != b {
+                let words = format!("number {i}: proved {a}, second {b}");
+                found.push((Evidence::Number(i), words));
+            }
+        }
+        if proved.lent != second.lent {
+            let at = (0..proved.lent.len()).find(|&i| proved.lent.get(i) != second.lent.get(i));
+            let [a, b] = [&proved.lent, &second.lent].map(|lent| at.and_then(|i| lent.get(i)));
+            found.push((Evidence::Lent, format!("lent byte {at:?}: proved {a:?}, second {b:?}")));
         }
         let table = kept(&self.proved.table);
         if table != self.second {
-            return Err(format!("{made:?}: other table, {}", difference(&table, &self.second)));
+            found.push((Evidence::Table, difference(&table, &self.second)));
         }
         if !self.proved.edges_stand() {
-            return Err(format!("{made:?}: a byte beside the table was written"));
+            found.push((Evidence::Beside, "a byte beside the table was written".to_string()));
         }
-        Ok(proved)
+        if found.is_empty() {
+            return Ok(proved);
+        }
+        let start: String = format!("{made:?}").chars().take(200).collect();
+        let (evidence, words): (_, Vec<_>) = found.into_iter().unzip();
+        Err(Difference { evidence, words: format!("{start}: {}", words.join("; ")) })
     }
 }
 
@@ -151,7 +242,23 @@ pub fn difference(proved: &Table, second: &Table) -> String {
     };
     let (proved, second) = (fields(proved), fields(second));
     match (0..proved.len()).find(|&i| proved[i] != second[i]) {
-        Some(i) => format!("word {i}: proved {}, second {}", proved[i], second[i]),
+        Some(i) => format!("word {i} of the table: proved {}, second {}", proved[i], second[i]),
         None => "none".to_string(),
     }
+}
+
+/// A table of capacity 128 with a ring of steps 1 up to so many, which step 0 leads to. Step i leads to the next by exit i % 4.
+pub fn ring(steps: u16) -> Table {
+    let (mut table, _) = fresh(128);
+    for step in 0..steps {
+        assert_eq!(add(&mut table, step, step % 4, 1, step % 100).refusal, 0);
+    }
+    assert_eq!(link(&mut table, 0, 0, steps, steps % 4).refusal, 0);
+    table
+}
+
+/// So many results that go round in that ring.
+pub fn rounds(steps: u16, results: usize) -> Vec<u8> {
+    let round = (1..=steps).map(|step| (step % 4) as u8);
+    [0].into_iter().chain(round.cycle()).take(results).collect()
 }

@@ -1,51 +1,36 @@
 //! Images: written, loaded, damaged a byte at a time, cut, extended, with their records in any order; into buffers one byte short, exact and longer.
 
-use compare::{kept, lend, with_buffer, Lent};
+use compare::{kept, Pair};
 use reference::calls::fresh;
+use reference::faults::Fault;
 use reference::generate::Random;
-use reference::history::UNTOUCHED;
-use reference::image::{length, load, write, HEADER, RECORD};
+use reference::history::{Call, Start, UNTOUCHED};
+use reference::image::{HEADER, RECORD};
 use reference::table::Table;
-use telephone::raw;
 
-/// Loads an image over memory in which no table stands.
-fn loaded(bytes: &[u8]) -> (Table, raw::Reply) {
-    let mut lent = Lent::unmade();
-    let reply = raw::load_image(&mut lent.table, bytes);
-    assert!(lent.edges_stand(), "a byte beside the table was written");
-    (kept(&lent.table), reply)
+/// Loads an image in both programs. Gives the table, or nothing where it was refused.
+fn loaded(bytes: &[u8]) -> Option<Table> {
+    let (pair, compared) = Pair::begin(&Start::Load { image: bytes.to_vec() }, Fault::None);
+    let outcome = compared.unwrap();
+    assert_eq!(outcome.numbers, [0, 0]);
+    (outcome.refusal == 0).then(|| kept(&pair.proved.table))
 }
 
-/// Whether both programs answer a load alike; gives whether the image was accepted.
-fn loads_alike(bytes: &[u8]) -> bool {
-    let (proved, reply) = loaded(bytes);
-    let (table, answer) = load(bytes);
-    assert_eq!((reply.refusal, reply.first, reply.second), (answer.refusal, 0, 0), "{bytes:?}");
-    assert!(proved == table, "another table of {bytes:?}");
-    answer.refusal == 0
-}
-
-/// The image that the proved code writes, held to the second program's, with the buffer one byte short, exact and longer.
+/// The image that both programs write, with the buffer one byte short, exact and longer.
 fn image_of(table: &Table) -> Vec<u8> {
-    let proved = lend(table);
     let needed = HEADER + RECORD * usize::from(table.size());
-    let reply = raw::image_length(&proved);
-    assert_eq!((reply.refusal, reply.length), (0, length(table).first));
-    assert_eq!(usize::from(reply.length), needed);
-    for room in [0, needed - 1, needed, needed + 1, needed + 77] {
-        let (reply, lent) = with_buffer(room, |bytes| raw::write_image(&proved, bytes));
-        let mut second = vec![UNTOUCHED; room];
-        let answer = write(table, &mut second);
-        assert_eq!((reply.refusal, reply.length), (answer.refusal, answer.first));
-        assert_eq!(reply.refusal, if room < needed { 11 } else { 0 });
-        assert!(lent == second, "lent bytes differ");
-        let past = if room < needed { 0 } else { needed };
-        assert!(lent[past..].iter().all(|&byte| byte == UNTOUCHED));
+    let mut pair = Pair::new(table, Fault::None);
+    assert_eq!(pair.call(&Call::ImageLength).unwrap().numbers, [needed, 0]);
+    for buffer in [0, needed - 1, needed + 1, needed + 77] {
+        let outcome = pair.call(&Call::Write { buffer }).unwrap();
+        assert_eq!(outcome.refusal, if buffer < needed { 11 } else { 0 });
+        let past = if buffer < needed { 0 } else { needed };
+        assert!(outcome.lent[past..].iter().all(|&byte| byte == UNTOUCHED));
     }
-    let mut image = vec![0; needed];
-    assert_eq!(raw::write_image(&proved, &mut image).refusal, 0);
-    assert!(kept(&proved) == *table, "writing changed the table");
-    image
+    let outcome = pair.call(&Call::Write { buffer: needed }).unwrap();
+    assert_eq!((outcome.refusal, outcome.numbers), (0, vec![needed, 0]));
+    assert!(kept(&pair.proved.table) == *table, "writing changed the table");
+    outcome.lent
 }
 
 /// Made-up tables of all sizes, with strengths that no history from a fresh table gives.
@@ -58,8 +43,7 @@ fn tables(seeds: std::ops::Range<u64>) -> impl Iterator<Item = Table> {
 fn images_written_and_loaded() {
     for table in tables(0..300) {
         let image = image_of(&table);
-        assert!(loads_alike(&image));
-        assert!(loaded(&image).0 == table, "the image loads as another table");
+        assert!(loaded(&image) == Some(table), "the image loads as another table");
     }
 }
 
@@ -72,8 +56,7 @@ fn records_in_any_order() {
         let mut records: Vec<&[u8]> = steps.chunks(RECORD).collect();
         random.shuffle(&mut records);
         let shuffled = [header, &records.concat()].concat();
-        assert!(loads_alike(&shuffled));
-        assert!(loaded(&shuffled).0 == table, "the order of records matters");
+        assert!(loaded(&shuffled) == Some(table), "the order of records matters");
     }
 }
 
@@ -97,7 +80,7 @@ fn images_damaged() {
                 255,
             ] {
                 image[at] = now;
-                *if loads_alike(&image) { &mut accepted } else { &mut refused } += 1;
+                *if loaded(&image).is_some() { &mut accepted } else { &mut refused } += 1;
             }
             image[at] = was;
         }
@@ -111,22 +94,22 @@ fn images_cut_and_extended() {
     for table in tables(560..580) {
         let image = image_of(&table);
         for length in 0..image.len().min(200) {
-            assert!(!loads_alike(&image[..length]));
-            assert!(!loads_alike(&image[..image.len() - 1 - length]));
+            assert_eq!(loaded(&image[..length]), None);
+            assert_eq!(loaded(&image[..image.len() - 1 - length]), None);
         }
         for more in [1, 2, 9, 10, 19, 20, 21, 40, 5000] {
             let tail: Vec<u8> = (0..more).map(|_| random.below(256) as u8).collect();
-            assert!(!loads_alike(&[&image[..], &tail].concat()));
-            assert!(!loads_alike(&[&image[..], &vec![0; more]].concat()));
+            assert_eq!(loaded(&[&image[..], &tail].concat()), None);
+            assert_eq!(loaded(&[&image[..], &vec![0; more]].concat()), None);
         }
         let last = &image[image.len() - RECORD..];
-        assert!(!loads_alike(&[&image[..], last].concat()), "a step twice");
-        assert!(!loads_alike(&[&image[..], &image[..HEADER]].concat()), "a second header");
+        assert_eq!(loaded(&[&image[..], last].concat()), None, "a step twice");
+        assert_eq!(loaded(&[&image[..], &image[..HEADER]].concat()), None, "a second header");
     }
     let mut bytes = vec![0; 3000];
     for _ in 0..300 {
         let length = random.below(bytes.len());
         bytes[..length].iter_mut().for_each(|byte| *byte = random.below(4) as u8);
-        loads_alike(&bytes[..length]);
+        loaded(&bytes[..length]);
     }
 }

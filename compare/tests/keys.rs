@@ -1,41 +1,49 @@
 //! The program `keys` on whole inputs, as the gate built it, beside the second program's: visits that fill the table, make rings, clear and refill,
 //! malformed lines, blank lines, a last line without its byte 10, and no input at all.
 
+use compare::process::{keys_program, output};
 use reference::calls::fresh;
-use reference::generate::{key_text, Generator};
+use reference::generate::{key_text, Generator, Random};
 use reference::history::Call;
 use reference::keys::{answer_lines, key_line};
 use reference::plan::plan_of;
-use std::io::Write;
+use std::fs::File;
 use std::path::Path;
-use std::process::{Command, Stdio};
+use std::process::{Command, Output};
 
-/// What the program writes for an input.
+/// What the program writes for an input. It ends with status 0 and says nothing on standard error.
 fn keys(input: &[u8]) -> Vec<u8> {
-    let program = Path::new(env!("CARGO_MANIFEST_DIR")).join("../target/bin/keys");
-    let started = Command::new(&program).stdin(Stdio::piped()).stdout(Stdio::piped()).spawn();
-    let mut child = started.unwrap_or_else(|error| {
-        panic!("{}: {error}: run `rt check keys` first", program.display())
-    });
-    let mut stdin = child.stdin.take().unwrap();
-    std::thread::scope(|scope| {
-        scope.spawn(move || stdin.write_all(input).unwrap());
-        let output = child.wait_with_output().unwrap();
-        assert!(output.status.success());
-        output.stdout
-    })
+    answers(output(&mut Command::new(keys_program()), Some(input)))
+}
+
+fn answers(output: Output) -> Vec<u8> {
+    assert!(output.status.success(), "{}", output.status);
+    assert_eq!(String::from_utf8_lossy(&output.stderr), "");
+    output.stdout
+}
+
+/// The answers of the second program.
+fn second(input: &[u8]) -> Vec<u8> {
+    let mut answers = Vec::new();
+    answer_lines(input, &mut answers).unwrap();
+    answers
+}
+
+/// Compares answers line by line.
+fn same_lines(proved: &[u8], second: &[u8]) {
+    let lines = |answers: &[u8]| {
+        let text = String::from_utf8(answers.to_vec()).unwrap();
+        text.split('\n').map(str::to_string).collect::<Vec<_>>()
+    };
+    let (proved, second) = (lines(proved), lines(second));
+    for (i, (proved, second)) in proved.iter().zip(&second).enumerate() {
+        assert_eq!(proved, second, "line {i}");
+    }
+    assert_eq!(proved.len(), second.len(), "the number of lines");
 }
 
 fn agrees(input: &[u8]) {
-    let mut second = Vec::new();
-    answer_lines(input, &mut second).unwrap();
-    let proved = keys(input);
-    assert!(
-        proved == second,
-        "{}\nand\n{}",
-        String::from_utf8_lossy(&proved),
-        String::from_utf8_lossy(&second)
-    );
+    same_lines(&keys(input), &second(input));
 }
 
 /// The lines of a visit, each ended by byte 10 but perhaps the last.
@@ -88,4 +96,42 @@ fn odd_inputs() {
         agrees(input);
     }
     agrees(&[&long[..], b"\nH*4A\n", &long, b"\n\nH*4A"].concat());
+}
+
+/// Over 5 MB of lines: visits one after the other, and among them blank lines and long ones with any bytes.
+fn long_input() -> Vec<u8> {
+    let visits: Vec<Vec<u8>> = (3000..3012).map(|seed| visit(2 * seed, 1500)).collect();
+    let mut random = Random(3);
+    let mut input = Vec::new();
+    while input.len() < 5_000_000 {
+        input.extend(random.pick(&visits.iter().collect::<Vec<_>>()));
+        let long = random.pick(&[0, 13, 4095, 4096, 4097, 9000]);
+        input.extend((0..long).map(|_| random.below(256) as u8).filter(|&byte| byte != 10));
+        input.extend(b"\n\n");
+    }
+    input.extend(b"H*4A");
+    input
+}
+
+/// An input of more than 1,000 blocks of 4,096 bytes, from a pipe and from a file. The part past them has its share of all sorts of answers.
+#[test]
+fn long_inputs() {
+    let input = long_input();
+    let expected = second(&input);
+    let lines_before = input[..4_096_000].iter().filter(|&&byte| byte == 10).count();
+    let late: Vec<&[u8]> = expected.split(|&byte| byte == 10).skip(lines_before).collect();
+    for refusal in [0, 3, 4, 5, 6, 7, 8, 9] {
+        let start = format!("{refusal} ");
+        let count = late.iter().filter(|line| line.starts_with(start.as_bytes())).count();
+        assert!(count > 10, "refusal {refusal} came up {count} times past 1,000 blocks");
+    }
+    let steps: std::collections::BTreeSet<&[u8]> = late.iter().copied().collect();
+    assert!(steps.len() > 100, "{} different answers past 1,000 blocks", steps.len());
+    same_lines(&keys(&input), &expected);
+    let path = Path::new(env!("CARGO_TARGET_TMPDIR")).join("long_input");
+    std::fs::write(&path, &input).unwrap();
+    let mut command = Command::new(keys_program());
+    let given = output(command.stdin(File::open(&path).unwrap()), None);
+    std::fs::remove_file(&path).unwrap();
+    same_lines(&answers(given), &expected);
 }

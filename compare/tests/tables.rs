@@ -1,9 +1,10 @@
 //! Single calls on chosen tables: the cases of document 01, every refusal's order on wild tables, and trials with traces of each length.
 
-use compare::{kept, lend, Lent, Pair};
-use reference::calls::{fresh, Command, Fault};
+use compare::{lend, Pair};
+use reference::calls::{fresh, Command};
+use reference::faults::Fault;
 use reference::generate::{key_text, Random};
-use reference::history::Call;
+use reference::history::{Call, Start};
 use reference::sound::sound;
 use reference::table::Table;
 use telephone::raw;
@@ -39,11 +40,9 @@ fn edition_fits() {
 #[test]
 fn fresh_agrees() {
     for capacity in (0..=300).chain([32767, 32768, 65408, 65535]) {
-        let mut lent = Lent::unmade();
-        let reply = raw::fresh(&mut lent.table, capacity);
-        let (table, answer) = fresh(capacity);
-        assert_eq!((reply.refusal, reply.first, reply.second), (answer.refusal, 0, 0));
-        assert!(kept(&lent.table) == table && lent.edges_stand(), "fresh {capacity}");
+        let (_, compared) = Pair::begin(&Start::Fresh { capacity }, Fault::None);
+        let accepted = (1..=128).contains(&capacity);
+        assert_eq!(compared.unwrap().refusal, if accepted { 0 } else { 2 }, "fresh {capacity}");
     }
 }
 

@@ -3,6 +3,7 @@
 //! Renders "Calls" and "Reasons for no" of document 01.
 
 use crate::clearing;
+use crate::faults::Fault;
 use crate::sound::{fits, sound};
 use crate::table::{place, Table, EXITS, PLACES};
 
@@ -50,23 +51,6 @@ pub enum Command {
     Link { source: u16, source_exit: u16, second: u16, second_exit: u16 },
     Clear { step: u16, exit: u16 },
     Count,
-}
-
-/// A deliberate error in the edits.
-#[derive(Clone, Copy, PartialEq, Eq, Debug)]
-pub enum Fault {
-    /// No error.
-    None,
-    /// A copy takes the bit of its original.
-    CopyKeepsStrength,
-    /// Clearing empties the exit and does nothing else.
-    SkipRepair,
-    /// Linking counts the copy twice.
-    CounterOffByOne,
-    /// Add looks at the kind before the exit to be filled.
-    SwappedRefusals,
-    /// Clearing takes the highest doubtful step first.
-    HighestFirst,
 }
 
 /// A fresh table; of capacity 1 where the capacity is refused.

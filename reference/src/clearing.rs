@@ -1,7 +1,7 @@
 //! The repair after an exit is emptied: doubtful steps found by marking, taken back, freed.
 //! Renders "Clearing an exit" of document 01; nothing is withdrawn and no counter is read.
 
-use crate::calls::Fault;
+use crate::faults::Fault;
 use crate::table::{after, mark, members, place, Set, Table, EXITS};
 
 /// Empties the exit at a place of a sound table and repairs the table.
@@ -15,7 +15,7 @@ pub fn clear_exit(table: &mut Table, exit: usize, fault: Fault) -> (u16, u16) {
     if fault != Fault::SkipRepair {
         let doubtful = table.in_use() & !mark(1, &table.strong_links());
         let unreached = take_back(table, doubtful, fault);
-        members(unreached).for_each(|step| free(table, step));
+        members(unreached).for_each(|step| free(table, step, fault));
         counts = (doubtful.count_ones() as u16, unreached.count_ones() as u16);
     }
     table.counts = table.counted();
@@ -45,11 +45,13 @@ fn take_back(table: &mut Table, mut doubtful: Set, fault: Fault) -> Set {
 }
 
 /// Rule 4: makes a step's record zero and empty.
-fn free(table: &mut Table, step: usize) {
+fn free(table: &mut Table, step: usize, fault: Fault) {
     table.used[step] = 0;
     table.kinds[step] = 0;
     table.contents[step] = 0;
-    table.own[step] = 0;
+    if fault != Fault::FreedKeepsBit {
+        table.own[step] = 0;
+    }
     table.targets[place(step, 0)..place(step, EXITS)].fill(0);
     table.bits[place(step, 0)..place(step, EXITS)].fill(0);
 }

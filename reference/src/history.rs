@@ -1,8 +1,9 @@
 //! The calls of a history as values, run on a table, and the comparison with the plain plan.
 //! Renders "A history is a list" and demand 3's list of what has to agree.
 
-use crate::calls::{edit, read, trial, Answer, Command, Fault};
-use crate::image::{length, write};
+use crate::calls::{edit, fresh, read, trial, Answer, Command};
+use crate::faults::{cut, spoil, Fault, Length, Sort};
+use crate::image::{length, load, write};
 use crate::keys::key_line_with;
 use crate::table::Table;
 
@@ -18,6 +19,13 @@ pub enum Call {
     KeyLine(Vec<u8>),
 }
 
+/// The first call of a history, from which it has its table.
+#[derive(Clone, PartialEq, Eq, Debug)]
+pub enum Start {
+    Fresh { capacity: u16 },
+    Load { image: Vec<u8> },
+}
+
 /// All that a caller is given: the refusal, the other numbers, the lent bytes.
 #[derive(Clone, PartialEq, Eq, Debug)]
 pub struct Outcome {
@@ -29,19 +37,35 @@ pub struct Outcome {
 /// What a lent byte holds before a call. No step has this number.
 pub const UNTOUCHED: u8 = 0xEE;
 
+/// Runs the first call, with a fault or without.
+pub fn begin(start: &Start, fault: Fault) -> (Table, Outcome) {
+    let (mut table, answer) = match start {
+        Start::Fresh { capacity } => fresh(*capacity),
+        Start::Load { image } => load(&image[..cut(fault, Length::Image, image.len())]),
+    };
+    let mut outcome = plain(answer, Vec::new());
+    spoil(fault, Sort::of_start(start), &mut table, &mut outcome);
+    (table, outcome)
+}
+
 /// Runs a call on a table, with a fault or without.
 pub fn run(table: &mut Table, call: &Call, fault: Fault) -> Outcome {
-    match call {
+    let mut outcome = match call {
         Call::Edit(command) => plain(edit(table, *command, fault), Vec::new()),
-        Call::KeyLine(line) => plain(key_line_with(table, line, fault), Vec::new()),
+        Call::KeyLine(line) => {
+            let line = &line[..cut(fault, Length::Line, line.len())];
+            plain(key_line_with(table, line, fault), Vec::new())
+        }
         Call::Write { buffer } => {
             let mut lent = vec![UNTOUCHED; *buffer];
-            plain(write(table, &mut lent), lent)
+            let answer = write(table, &mut lent[..cut(fault, Length::Buffer, *buffer)]);
+            plain(answer, lent)
         }
         Call::ImageLength => plain(length(table), Vec::new()),
         Call::Trial { results, trace } => {
+            let results = &results[..cut(fault, Length::Results, results.len())];
             let mut lent = vec![UNTOUCHED; *trace];
-            let answer = trial(table, results, &mut lent);
+            let answer = trial(table, results, &mut lent[..cut(fault, Length::Trace, *trace)]);
             Outcome {
                 refusal: answer.refusal,
                 numbers: vec![answer.ending as usize, answer.last.into(), answer.moves],
@@ -58,7 +82,9 @@ pub fn run(table: &mut Table, call: &Call, fault: Fault) -> Outcome {
                 lent: Vec::new(),
             }
         }
-    }
+    };
+    spoil(fault, Sort::of(call), table, &mut outcome);
+    outcome
 }
 
 /// An outcome with two numbers.

@@ -3,7 +3,8 @@
 
 use std::io::{self, ErrorKind, Read, Write};
 
-use crate::calls::{bare, edit, fresh, Answer, Command, Fault};
+use crate::calls::{bare, edit, fresh, Answer, Command};
+use crate::faults::Fault;
 use crate::sound::sound;
 use crate::table::Table;
 

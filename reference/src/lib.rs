@@ -1,10 +1,12 @@
 //! The call plan table of document 01, written a second time to compare with the product.
 //! Reach is marked afresh and counters are recounted from the links; no search works on counters.
 //! `table`, `sound`, `calls`, `clearing`, `image` and `keys` keep a table; `plan` draws the plain
-//! plan; `history` runs calls given as values; `generate` makes up calls, key lines and tables.
+//! plan; `history` runs calls given as values; `generate` makes up calls, key lines and tables;
+//! `faults` has deliberate errors.
 
 pub mod calls;
 pub mod clearing;
+pub mod faults;
 pub mod generate;
 pub mod history;
 pub mod image;

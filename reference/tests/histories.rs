@@ -6,7 +6,8 @@ mod common;
 use std::collections::BTreeSet;
 
 use common::image_of;
-use reference::calls::{fresh, Command, Fault};
+use reference::calls::{fresh, Command};
+use reference::faults::{Fault, Sort};
 use reference::generate::{Generator, Random};
 use reference::history::{agrees, run, Call, Outcome};
 use reference::image::load;
@@ -127,10 +128,32 @@ fn every_fault_is_found() {
         Fault::CounterOffByOne,
         Fault::SwappedRefusals,
         Fault::HighestFirst,
+        Fault::FreedKeepsBit,
+        Fault::DoubtfulSaidFreed,
+        Fault::CountsExchanged,
+        Fault::CountersExchanged,
+        Fault::SpentSaidOpen,
+        Fault::TraceOneBehind,
     ];
     for fault in faults {
         let found = (0..54).filter_map(|seed| first_difference(seed, 200, fault)).count();
         assert!(found >= 9, "{fault:?} is found by {found} histories of 54");
     }
     assert_eq!((0..54).find_map(|seed| first_difference(seed, 200, Fault::None)), None);
+}
+
+/// What is wrong in one part of one sort of call is found too, but where no history has such a
+/// call: in a first call, and in a count or an image's length that is refused.
+#[test]
+fn every_spoiled_part_is_found() {
+    for fault in Fault::spoiled() {
+        let Fault::Spoiled { sort, refused, .. } = fault else { unreachable!() };
+        let met = match sort {
+            Sort::Fresh | Sort::Load => false,
+            Sort::Count | Sort::ImageLength => !refused,
+            _ => true,
+        };
+        let found = (0..54).any(|seed| first_difference(seed, 200, fault).is_some());
+        assert_eq!(found, met, "{fault:?}");
+    }
 }

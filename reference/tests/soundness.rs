@@ -1,7 +1,8 @@
 //! The soundness test: each item of document 01's list broken alone, any values in the fields,
 //! and its graph half against marking from each step alone.
 
-use reference::calls::{add, fresh, link, Command, Fault};
+use reference::calls::{add, fresh, link, Command};
+use reference::faults::Fault;
 use reference::generate::Random;
 use reference::history::{agrees, run, Call};
 use reference::sound::sound;

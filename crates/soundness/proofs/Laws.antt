@@ -25,7 +25,7 @@ use Rattle.table.proofs.Spine.{Spine, sound-spine, spine-sound}
 use Rattle.withdraw.specs.Search.{slotAt, lands, isMarked, landing, landingKept, Ranged, Exact, Spans}
 use Rattle.withdraw.proofs.Slots.{lands-intro, landing-zero, exit-here, exit-place-step, slot-some, slot-zero, slot-below, lands-held, link-lands, landing-some, landing-linked, landing-links, shape-ranged, source-used, formed-ranged, formed-exact}
 use Rattle.withdraw.proofs.Found.{up-marked, kept-parent}
-use Rattle.soundness.specs.Parts.{numbersFit, alarmFits, stepFits, exitFits, countersFit, freeAbove, arraysFit, emptyAt, faults, total}
+use Rattle.soundness.specs.Parts.{numbersFit, alarmFits, fieldsAt, stepFits, exitFits, countersFit, freeAbove, arraysFit, emptyAt, faults, total}
 use Rattle.soundness.proofs.Parts.{fields-used, used-fields, fields-free, free-fields, link-fits, empty-fits, filled-fits, counts-free, used-counts, free-counts}
 use Rattle.soundness.proofs.Totals.{total-same, total-ext, total-landing}
 
@@ -114,12 +114,12 @@ module _ {t : Table} (k : Facts t) where
   link-at p l = link-fits _ _ (k .links p l)
 
   used-step : (i : ℕ) → i < places → (i ≡ 0 → ⊥) → inUse t i ≡ true → (contentFits (kindOf t i) (contentOf t i) ≡ true) × (ownBit t i < counters)
-  unfolding stepFits inUse
+  unfolding fieldsAt stepFits inUse
   used-step i l d u =
       ⊎-elim (λ z. absurd (d (eqb-true _ _ z))) (λ h. fields-used _ _ _ _ h u) (or-elim (eqb i 0) _ (k .steps i l))
 
   free-step : (i : ℕ) → i < places → inUse t i ≡ false → (getD (t .used) i 0 ≡ 0) × (kindOf t i ≡ 0) × (contentOf t i ≡ 0) × (ownBit t i ≡ 0)
-  unfolding stepFits inUse
+  unfolding fieldsAt stepFits inUse
   free-step i l f =
       ⊎-elim
       (λ z. let u : inUse t i ≡ true = rw (eqb-true i 0 z) (k .alarm) in clash u f)
@@ -322,7 +322,7 @@ module _ {t : Table} (s : Sound t) where
   counted = formed-exact t g
 
   sound-facts : Facts t
-  unfolding stepFits exitFits countersFit freeAbove inUse kindFits
+  unfolding fieldsAt stepFits exitFits countersFit freeAbove inUse kindFits
   sound-facts =
       record {
         shape = g .shape;

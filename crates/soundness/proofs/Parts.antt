@@ -9,7 +9,7 @@ use Rattle.finite.proofs.Bools.{and-intro, and-left, and-right}
 use Rattle.finite.proofs.Below.{eq-or-ne}
 use Rattle.table.specs.Table.{places, counters}
 use Rattle.table.specs.Sound.{capacityFits, contentFits}
-use Rattle.soundness.specs.Parts.{numbersFit, fieldsFit, linkFits, countsFit}
+use Rattle.soundness.specs.Parts.{numbersFit, alarmFits, fieldsFit, linkFits, countsFit}
 
 pub numbers-most : (capacity last : ℕ) → numbersFit capacity last ≡ true → capacity ≤ places
 unfolding numbersFit capacityFits
@@ -41,6 +41,15 @@ module _ (used kind content own : ℕ) where
   pub free-fields : used ≡ 0 → kind ≡ 0 → content ≡ 0 → own ≡ 0 → fieldsFit used kind content own ≡ true
   unfolding fieldsFit
   free-fields a b c d = rw (a, b, c, d)
+
+-- the alarm does not fit as the other steps
+pub alarm-apart : (used kind content own count : ℕ) → alarmFits used kind content own count ≡ true → fieldsFit used kind content own ≡ false
+unfolding alarmFits fieldsFit contentFits
+alarm-apart used kind content own count h =
+    let four = and-left (eqb used 1 && eqb kind 0 && eqb content 0 && ltb own counters) _ h in
+    let three = and-left (eqb used 1 && eqb kind 0 && eqb content 0) _ four in
+    let two = and-left (eqb used 1 && eqb kind 0) _ three in
+    rw (and-left (eqb used 1) _ two, eqb-true kind 0 (and-right (eqb used 1) _ two))
 
 module _ (target bit : ℕ) where
   pub link-fits : linkFits target bit ≡ true → ((target ≡ 0) × (bit ≡ 0)) ⊎ ((target ≡ 0 → ⊥) × (target < places) × (bit < counters))

@@ -1,5 +1,5 @@
 -- Faults and totals: loops that count what does not pass, and sums. Assumes nothing.
---   no-faults faults-zero     no fault exactly where all pass
+--   no-faults one-fault       no fault exactly where all pass, and one where one must not
 --   faults-none faults-pass faults-fail total-next   a loop that counts what does not pass, or sums: at the start, each time round
 --   total-same      terms that are no higher, with the same total, are the same
 --   total-landing   every link lands in one counter: the totals of landings and of links are the same
@@ -11,10 +11,10 @@ use native.Mathlib.Nat.{not-suc-le-zero}
 use native.Mathlib.Numerals.{add-one}
 use native.Mathlib.Omega.{arith}
 use lib.Dec.{eqb}
-use borrow.Author.Tests.{eq-eqb, ne-eqb}
+use borrow.Author.Tests.{eqb-true, eq-eqb, ne-eqb}
 use Rattle.finite.specs.Below.{one, all, count}
-use Rattle.finite.proofs.Bools.{refute}
-use Rattle.finite.proofs.Below.{eq-or-ne, below-suc, count-le, count-none}
+use Rattle.finite.proofs.Bools.{refute, same-test}
+use Rattle.finite.proofs.Below.{eq-or-ne, below-suc, count-le, count-change, count-none}
 use Rattle.finite.proofs.Loops.{count-zero, count-hit, count-miss, none-fail}
 use Rattle.withdraw.specs.Search.{lands}
 use Rattle.withdraw.proofs.Slots.{lands-target, lands-intro}
@@ -32,6 +32,20 @@ faults-zero n p h = count-none n _ (λ k l. ap not (h k l))
 pub faults-none : (p : ℕ → Bool) → faults 0 p ≡ 0
 unfolding faults
 faults-none p = count-zero _
+
+-- one fault that must be: all others pass
+pub one-fault : (n : ℕ) (p q : ℕ → Bool) (k : ℕ) → k < n → p k ≡ false → q k ≡ true → ((i : ℕ) → (i ≡ k → ⊥) → p i ≡ q i) →
+    (x : ℕ) → x ≡ faults n p → eqb x 1 ≡ all n q
+unfolding faults
+one-fault n p q k l f y same x e =
+    let c = count-change n (λ i. not (q i)) (λ i. not (p i)) k l (λ i b d. ap not (same i d)) in
+    let a : one (not (p k)) ≡ 1 = rw f in
+    let b : one (not (q k)) ≡ 0 = rw y in
+    let more : x ≡ faults n q + 1 = omega arith in
+    same-test (eqb x 1) (eqb (faults n q) 0)
+    (λ t. let z = eqb-true x 1 t in eq-eqb (faults n q) 0 (omega arith))
+    (λ t. let z = eqb-true (faults n q) 0 t in eq-eqb x 1 (omega arith))
+    ∙ no-faults n q (faults n q) refl
 
 -- no more faults than numbers
 pub faults-le : (n : ℕ) (p : ℕ → Bool) → faults n p ≤ n

@@ -5,7 +5,8 @@
 --   fieldsFit         a step other than 0: in use with a content that its kind may hold and a bit, or free with every field zero
 --   linkFits          an exit: empty with bit 0, or a target that is a place and a bit
 --   countsFit         the counters of a step: those of a free step are zero
---   stepFits exitFits countersFit   the same at the places of a table
+--   fieldsAt exitFits countersFit   the same at the places of a table
+--   stepFits t i      step i fits, or is step 0, which `alarmFits` looks at
 --   freeAbove t c i   step i is below c, or free
 --   arraysFit t       all of these, at all places
 --   emptyAt t p       the exit at place p is empty
@@ -35,8 +36,11 @@ linkFits target bit = cond (eqb target 0) (eqb bit 0) (ltb target places && ltb 
 unfoldable pub countsFit : ℕ → ℕ → ℕ → Bool
 countsFit used a b = cond (eqb used 1) true (eqb a 0 && eqb b 0)
 
+unfoldable pub fieldsAt : Table → ℕ → Bool
+fieldsAt t i = fieldsFit (getD (t .used) i 0) (kindOf t i) (contentOf t i) (ownBit t i)
+
 unfoldable pub stepFits : Table → ℕ → Bool
-stepFits t i = eqb i 0 || fieldsFit (getD (t .used) i 0) (kindOf t i) (contentOf t i) (ownBit t i)
+stepFits t i = eqb i 0 || fieldsAt t i
 
 unfoldable pub exitFits : Table → ℕ → Bool
 exitFits t p = linkFits (getD (t .targets) p 0) (getD (t .bits) p 0)

@@ -1,5 +1,6 @@
 // The soundness test: passes over whole arrays that count what does not fit, then the counters and the strong links by one search.
 ghost use mathlib.Core.Path.{_≡_};
+ghost use mathlib.Core.Bool.{false};
 ghost use Prim.Native.Nat.{_*_, _≤_};
 ghost use lib.ListN.{getD};
 ghost use Rattle.table.specs.Table.{places, exits, counters};
@@ -7,7 +8,7 @@ ghost use Rattle.table.specs.Sound.{contentFits, sound};
 ghost use Rattle.table.specs.Answer.{first};
 ghost use Rattle.table.specs.Calls.{tableTests};
 ghost use Rattle.words.specs.Words.{tableOf};
-ghost use Rattle.soundness.specs.Parts.{numbersFit, alarmFits, fieldsFit, linkFits, countsFit, stepFits, exitFits, countersFit, freeAbove, arraysFit, emptyAt, faults, total};
+ghost use Rattle.soundness.specs.Parts.{numbersFit, alarmFits, fieldsFit, linkFits, countsFit, fieldsAt, exitFits, countersFit, freeAbove, arraysFit, emptyAt, faults, total};
 use words::WORDS;
 
 // The contents that each kind may hold: 1 contact, 2 spoken message, 3 wait; no other kind can be added.
@@ -33,12 +34,12 @@ fn fields_fit(used: u16, kind: u16, content: u16, own: u16) -> bool
     }
 }
 
-// The steps other than 0 that do not fit.
+// The steps that do not fit as every step but 0 must.
 fn step_faults(t: &[u16; WORDS]) -> u16
-    ensures { λ r. ⌜ r ≡ faults places (stepFits (tableOf (now (t .entry)))) ⌝ }
+    ensures { λ r. ⌜ r ≡ faults places (fieldsAt (tableOf (now (t .entry)))) ⌝ }
 {
     let mut n = 0u16;
-    let mut i = 1usize;
+    let mut i = 0usize;
     // n steps below i do not fit.
     while i < words::PLACES {
         n += if fields_fit(
@@ -130,10 +131,10 @@ fn used_above(t: &[u16; WORDS], capacity: usize) -> u16
 }
 
 // The exits that hold a link.
-fn filled(t: &[u16; WORDS]) -> u32
+fn filled(t: &[u16; WORDS]) -> u16
     ensures { λ r. ⌜ r ≡ faults (places * exits) (emptyAt (tableOf (now (t .entry)))) ⌝ }
 {
-    let mut n = 0u32;
+    let mut n = 0u16;
     let mut p = 0usize;
     // n exits below place p hold a link.
     while p < words::LINKS {
@@ -171,12 +172,13 @@ fn alarm_fits(used: u16, kind: u16, content: u16, own: u16, count: u16) -> bool
     used == 1 && kind == 0 && content == 0 && own < 2 && count == 0
 }
 
-// All steps, exits and counters fit, each alone.
+// All steps, exits and counters fit, each alone. Step 0 has been looked at: it is the alarm, so it is the one step that must not fit as the others,
+// of which none is of kind 0.
 fn arrays_fit(t: &[u16; WORDS]) -> bool
-    requires { ⌜ tableOf (now t) .capacity ≤ places ⌝ }
+    requires { ⌜ (tableOf (now t) .capacity ≤ places) × (fieldsAt (tableOf (now t)) 0 ≡ false) ⌝ }
     ensures { λ r. ⌜ r ≡ arraysFit (tableOf (now (t .entry))) ⌝ }
 {
-    if step_faults(t) != 0 {
+    if step_faults(t) != 1 {
         return false;
     }
     if link_faults(t) != 0 {
@@ -208,7 +210,7 @@ pub fn is_sound(t: &[u16; WORDS]) -> bool
     if !arrays_fit(t) {
         return false;
     }
-    if counted(t) != filled(t) {
+    if counted(t) != filled(t) as u32 {
         return false;
     }
     withdraw::spans(t)

@@ -10,30 +10,144 @@ fn edition_fits() {
     assert_eq!(wrong.to_string(), "the library has edition 3, and 2 is needed");
 }
 
+/// A table in which the fields of step 2 and the numbers of the table all differ, the bits but for a few. These are the bits of step 2's links, which
+/// are all strong.
+fn different(bits: [u16; 4]) -> raw::Table {
+    let mut table = raw::Table { capacity: 11, last: 9, ..raw::Table::ZERO };
+    let kinds = [(0, 0, 0), (1, 1, 11), (2, 3, 600), (3, 1, 12), (4, 2, 13), (6, 3, 14)];
+    for (step, kind, content) in kinds.into_iter().chain([(8, 1, 15), (10, 2, 7)]) {
+        (table.used[step], table.kinds[step], table.contents[step]) = (1, kind, content);
+    }
+    table.own[2] = 1;
+    for (exit, target) in [4, 6, 8, 10].into_iter().enumerate() {
+        (table.targets[2 * 4 + exit], table.bits[2 * 4 + exit]) = (target as u16, bits[exit]);
+        table.own[target] = bits[exit];
+        table.counts[target * 2 + usize::from(bits[exit])] = 1;
+    }
+    table.targets[..4].copy_from_slice(&[1, 2, 3, 0]);
+    table.bits[1] = 1;
+    (table.counts[2], table.counts[6]) = (1, 1);
+    // seven strong links to step 2, with step 0's, and five weak ones
+    table.targets[4..8].fill(2);
+    table.bits[4..8].fill(1);
+    table.targets[12..14].fill(2);
+    table.bits[12..14].fill(1);
+    table.targets[16..20].fill(2);
+    table.targets[24] = 2;
+    (table.counts[4], table.counts[5]) = (5, 7);
+    table
+}
+
+/// Every field of every answer, and every argument, with a number of its own, so that no two can be exchanged unseen. Any two exits of step 2 have
+/// different bits in one of the tables.
 #[test]
-fn calls_change_a_table_in_place() {
+fn no_field_is_exchanged() {
+    for bits in [[0, 1, 0, 1], [0, 0, 1, 1], [1, 0, 0, 1]] {
+        let given = different(bits);
+        let mut table = Table::from_raw(given.clone()).unwrap();
+        let fields = raw::read(&given, 2);
+        let expected = raw::ReadReply {
+            refusal: 0,
+            kind: 3,
+            content: 600,
+            own: 1,
+            targets: [4, 6, 8, 10],
+            bits,
+            counts: [5, 7],
+        };
+        assert_eq!(fields, expected);
+        let step = table.read(2).unwrap();
+        assert_eq!((step.kind, step.own, step.counts), (Kind::Wait(600), 1, [5, 7]));
+        let link = |exit: usize, target| Some(Link { target, bit: bits[exit] });
+        assert_eq!(step.exits, [link(0, 4), link(1, 6), link(2, 8), link(3, 10)]);
+        for exit in Exit::ALL {
+            assert_eq!(step.exit(exit), step.exits[usize::from(exit.number())]);
+        }
+        let kinds = [1, 3, 4, 6].map(|step| table.read(step).unwrap().kind);
+        let [one, three, four, six] = kinds;
+        assert_eq!((one, three), (Kind::Contact(11), Kind::Contact(12)));
+        assert_eq!((four, six), (Kind::Message(13), Kind::Wait(14)));
+        assert_eq!(table.counts(), Ok(Counts { in_use: 8, free: 3 }));
+        assert_eq!(table.key_line(b"H*4A"), Ok((8, 3)));
+        trials(&table);
+        let image = images_of(&table, bits);
+        assert_eq!(Table::load(&image), Ok(table.clone()));
+        // past the top, to the first free number
+        assert_eq!(table.add(10, Exit::NoReply, Kind::Contact(99)), Ok(5));
+        assert_eq!(table.read(10).unwrap().exits[2], Some(Link { target: 5, bit: 0 }));
+        assert_eq!(table.read(5).unwrap().kind, Kind::Contact(99));
+        assert_eq!(table.link(2, Exit::LineFault, 8, Exit::Engaged), Ok(()));
+        let copy = Link { target: 10, bit: 1 - bits[3] };
+        assert_eq!(table.read(8).unwrap().exits, [None, Some(copy), None, None]);
+        assert_eq!(table.clear(8, Exit::Engaged), Ok(Cleared { doubtful: 0, freed: 0 }));
+        assert_eq!(table.clear(10, Exit::NoReply), Ok(Cleared { doubtful: 1, freed: 1 }));
+        let last = raw::Table { last: 5, ..given };
+        assert_eq!(*table.as_raw(), last);
+    }
+}
+
+/// Trials on such a table: how they end, where, after how many moves, and their trace.
+fn trials(table: &Table) {
+    let mut trace = [99; 5];
+    let trial = table.trial(&[1, 1, 0, 2], &mut trace).unwrap();
+    assert_eq!((trial.ending, trial.last, trial.moves), (Ending::Spent, 8, 4));
+    assert_eq!(trace, [2, 6, 2, 8, 99]);
+    let reply = raw::trial(table.as_raw(), &[1, 2, 3, 3], &mut trace);
+    assert_eq!(reply, raw::TrialReply { refusal: 0, ending: 0, last: 8, moves: 2 });
+    assert_eq!(trace, [2, 8, 2, 8, 99]);
+    let trial = table.trial(&[2, 0, 3, 0, 1], &mut trace).unwrap();
+    assert_eq!((trial.ending, trial.last, trial.moves), (Ending::Open, 10, 3));
+    assert_eq!(trace, [3, 2, 10, 8, 99]);
+}
+
+/// The image of such a table, its header and its record of step 2 by their fields.
+fn images_of(table: &Table, bits: [u16; 4]) -> Vec<u8> {
+    let mut image = vec![0; 170];
+    assert_eq!((table.image_length(), table.write_image(&mut image)), (Ok(170), Ok(170)));
+    let words = |bytes: &[u8]| -> Vec<u16> {
+        bytes.chunks(2).map(|two| u16::from_le_bytes([two[0], two[1]])).collect()
+    };
+    assert_eq!(words(&image[..10]), [10, 1, 11, 9, 8]);
+    let record = image[10..].chunks(20).map(words).find(|record| record[2] == 2).unwrap();
+    let sum = bits[0] + 2 * bits[1] + 4 * bits[2] + 8 * bits[3] + 16;
+    assert_eq!(record, [20, 2, 2, 3, 600, sum, 4, 6, 8, 10]);
+    image
+}
+
+/// A clearing with three doubtful steps and one freed, by its call and by a key line.
+#[test]
+fn counts_of_a_clearing() {
+    let mut table = Table::fresh(9).unwrap();
+    for (holder, exit) in [(0, Exit::Answered), (1, Exit::Engaged), (2, Exit::LineFault)] {
+        table.add(holder, exit, Kind::Message(holder)).unwrap();
+    }
+    table.link(1, Exit::Engaged, 0, Exit::NoReply).unwrap();
+    let mut other = table.clone();
+    assert_eq!(table.clear(0, Exit::Answered), Ok(Cleared { doubtful: 3, freed: 1 }));
+    assert_eq!(other.key_line(b"H*30000A"), Ok((3, 1)));
+    assert_eq!(table, other);
+    assert_eq!(table.counts(), Ok(Counts { in_use: 3, free: 6 }));
+    assert_eq!(table.key_line(b"H*100222042A"), Err(Refusal::BadKind));
+    assert_eq!(table.key_line(b"H*100222015A"), Ok((4, 0)));
+    assert_eq!(table.read(4).unwrap().kind, Kind::Message(15));
+    assert_eq!(table.read(2).unwrap().exit(Exit::NoReply), Some(Link { target: 4, bit: 0 }));
+}
+
+/// More moves than 16 bits count, and a buffer as long.
+#[test]
+fn long_lengths() {
     let mut table = Table::fresh(4).unwrap();
-    assert_eq!(table.add(0, Exit::Answered, Kind::Contact(0)), Ok(1));
-    assert_eq!(table.link(0, Exit::Answered, 1, Exit::LineFault), Ok(()));
-    let step = table.read(1).unwrap();
-    assert_eq!((step.kind, step.own, step.counts), (Kind::Contact(0), 0, [1, 1]));
-    assert_eq!(step.exits, [None, None, None, Some(Link { target: 1, bit: 1 })]);
-    assert_eq!((step.exit(Exit::Answered), step.exit(Exit::LineFault)), (None, step.exits[3]));
-    assert_eq!(table.read(0).map(|step| step.kind), Ok(Kind::Alarm));
-    assert_eq!(table.counts(), Ok(Counts { in_use: 2, free: 2 }));
-    assert_eq!(table.key_line(b"H*4A"), Ok((2, 2)));
-    let mut trace = [9; 4];
-    let trial = table.trial(&[0, 3, 3], &mut trace).unwrap();
-    assert_eq!((trial.ending, trial.last, trial.moves, trace), (Ending::Spent, 1, 3, [1, 1, 1, 9]));
-    let trial = table.trial(&[0, 0], &mut trace).unwrap();
-    assert_eq!((trial.ending, trial.last, trial.moves, trace), (Ending::Open, 1, 1, [1, 1, 1, 9]));
-    assert_eq!(table.clear(0, Exit::Answered), Ok(Cleared { doubtful: 1, freed: 1 }));
-    assert_eq!(table.add(0, Exit::Engaged, Kind::Message(15)), Ok(2));
-    assert_eq!(table.add(2, Exit::NoReply, Kind::Wait(600)), Ok(3));
-    assert_eq!(table.read(3).map(|step| step.kind), Ok(Kind::Wait(600)));
-    assert_eq!(table.key_line(b"H*10020142A"), Err(Refusal::NotKeyLine));
-    assert_eq!(table.key_line(b"H*100231042A"), Ok((1, 0)));
-    assert_eq!(table.counts(), Ok(Counts { in_use: 4, free: 0 }));
+    table.add(0, Exit::Engaged, Kind::Contact(0)).unwrap();
+    table.link(0, Exit::Engaged, 1, Exit::Engaged).unwrap();
+    let mut lent = vec![99; 70_001];
+    let trial = table.trial(&[1; 70_000], &mut lent).unwrap();
+    assert_eq!((trial.ending, trial.last, trial.moves), (Ending::Spent, 1, 70_000));
+    assert!(lent[..70_000].iter().all(|&step| step == 1) && lent[70_000] == 99);
+    assert_eq!(table.trial(&[1; 70_000], &mut lent[1..70_000]), Err(Refusal::TooShort));
+    assert_eq!(table.write_image(&mut lent[..65_536]), Ok(50));
+    assert_eq!(Table::load(&lent[..50]), Ok(table.clone()));
+    assert_eq!(Table::load(&lent[..50 + 65_536]), Err(Refusal::NotAccepted));
+    assert_eq!(table.key_line(&b"H*4A".repeat(250_000)), Err(Refusal::NotKeyLine));
 }
 
 #[test]

@@ -1,20 +1,27 @@
 -- `arrays_fit` looks at the faults of all passes. Assumes nothing.
-use mathlib.Core.Path.{_≡_, sym, _∙_}
-use mathlib.Core.Bool.{true}
-use Prim.Native.Nat.{_*_}
+use mathlib.Core.Path.{_≡_, refl, sym, _∙_}
+use mathlib.Core.Bool.{true, false}
+use Prim.Native.Nat.{ℕ, _*_}
+use native.Mathlib.Omega.{arith}
+use lib.Dec.{eqb}
 use borrow.Author.Tests.{eq-eqb, ne-eqb}
 use borrow.Author.Needs.{needs}
 use Rattle.finite.specs.Below.{all}
-use Rattle.table.specs.Table.{places, exits}
+use Rattle.table.specs.Table.{Table, places, exits}
 use Rattle.words.specs.Words.{tableOf}
-use Rattle.soundness.specs.Parts.{stepFits, exitFits, countersFit, arraysFit}
-use Rattle.soundness.proofs.Totals.{no-faults}
+use Rattle.soundness.specs.Parts.{fieldsAt, stepFits, faults, exitFits, countersFit, arraysFit}
+use Rattle.soundness.proofs.Totals.{no-faults, one-fault}
 use Rattle.soundness.proofs.arrays_fit.Statement.{statement}
 use Rattle.soundness.proofs.arrays_fit.Tie as tie
 
--- the passes made so far found no fault
+-- step 0 alone does not fit as the others
+steps-fit : (t : Table) → fieldsAt t 0 ≡ false → (x : ℕ) → x ≡ faults places (fieldsAt t) → eqb x 1 ≡ all places (stepFits t)
+unfolding stepFits
+steps-fit t z x e = one-fault places (fieldsAt t) (stepFits t) 0 (omega arith) z refl (λ i d. rw (ne-eqb i 0 d)) x e
+
+-- the passes made so far found no other fault
 steps : (c : tie.Else1) → all places (stepFits (tableOf (c .before .before .args .t .now))) ≡ true
-steps c = sym (no-faults _ _ _ (c .before .step-faults .ensures)) ∙ eq-eqb _ _ (c .if1 .left)
+steps c = sym (steps-fit _ (c .before .before .pre .1) _ (c .before .step-faults .ensures)) ∙ eq-eqb _ _ (c .if1 .left)
 
 links : (c : tie.Else2) → all (places * exits) (exitFits (tableOf (c .before .before .before .before .args .t .now))) ≡ true
 links c = sym (no-faults _ _ _ (c .before .link-faults .ensures)) ∙ eq-eqb _ _ (c .if2 .left)
@@ -24,7 +31,7 @@ counts c = sym (no-faults _ _ _ (c .before .count-faults .ensures)) ∙ eq-eqb _
 
 returns : tie.Need-returns
 unfolding arraysFit
-returns c = rw (sym (no-faults _ _ _ (c .before .step-faults .ensures)) ∙ ne-eqb _ _ (c .if1 .taken))
+returns c = rw (sym (steps-fit _ (c .before .before .pre .1) _ (c .before .step-faults .ensures)) ∙ ne-eqb _ _ (c .if1 .taken))
 
 returns-2 : tie.Need-returns-2
 unfolding arraysFit
@@ -41,7 +48,7 @@ returns-3 c =
 
 used-above-requires : tie.Need-used-above-requires
 used-above-requires c κs =
-    rw (c .wide .ensures, c .before .capacity .ensures) (c .before .before .before .before .before .before .before .before .pre)
+    rw (c .wide .ensures, c .before .capacity .ensures) (c .before .before .before .before .before .before .before .before .pre .0)
 
 returns-4 : tie.Need-returns-4
 unfolding arraysFit

@@ -8,8 +8,8 @@ use Rattle.finite.proofs.Bools.{clash}
 use Rattle.table.specs.Table.{Table, kindOf, contentOf, ownBit}
 use Rattle.words.specs.Words.{tableOf}
 use Rattle.words.proofs.Laws.{shape-table}
-use Rattle.soundness.specs.Parts.{numbersFit, alarmFits}
-use Rattle.soundness.proofs.Parts.{numbers-most}
+use Rattle.soundness.specs.Parts.{numbersFit, alarmFits, fieldsAt}
+use Rattle.soundness.proofs.Parts.{numbers-most, alarm-apart}
 use Rattle.soundness.proofs.Laws.{Checked, checked-ranged, checked-spans, unsound}
 use Rattle.soundness.proofs.is_sound.Statement.{statement}
 use Rattle.soundness.proofs.is_sound.Tie as tie
@@ -62,7 +62,11 @@ returns-2 : tie.Need-returns-2
 returns-2 c = unsound _ (λ k. clash (k .alarm) (sym (alarm (c .before)) ∙ not-true _ (c .if2 .taken)))
 
 arrays-fit-requires : tie.Need-arrays-fit-requires
-arrays-fit-requires c κs = numbers-most _ _ (sym (numbers (ranged c .before)) ∙ not-false _ (ranged c .if1 .left))
+unfolding fieldsAt
+arrays-fit-requires c κs = (
+  numbers-most _ _ (sym (numbers (ranged c .before)) ∙ not-false _ (ranged c .if1 .left)),
+  alarm-apart _ _ _ _ _ (sym (alarm (c .before)) ∙ not-false _ (c .if2 .left)),
+)
 
 returns-3 : tie.Need-returns-3
 returns-3 c = unsound _ (λ k. clash (k .arrays) (sym (c .before .arrays-fit .ensures) ∙ not-true _ (c .if3 .taken)))
@@ -96,6 +100,7 @@ is-sound-spec =
     returns-3
     (λ c κs. search needs)
     (λ c κs. search needs)
+    (λ c. search needs)
     returns-4
     spans-requires
     returns-5)

@@ -1,51 +1,47 @@
--- `step_faults` counts the steps other than 0 that do not fit. Assumes nothing.
+-- `step_faults` counts the steps that do not fit as every step but 0 must. Assumes nothing.
 use mathlib.Core.Path.{_≡_, sym, _∙_}
 use mathlib.Core.Logic.{⊎-elim}
-use Prim.Native.Nat.{_+_, _-_, _≤_, _<_}
+use Prim.Native.Nat.{_+_, _-_, _≤_}
 use native.Mathlib.Omega.{arith}
-use borrow.Author.Tests.{eq-eqb, ne-eqb}
 use borrow.Author.Needs.{needs}
-use Rattle.finite.proofs.Bools.{or-left}
 use Rattle.table.specs.Table.{places}
 use Rattle.words.specs.Words.{tableOf}
-use Rattle.soundness.specs.Parts.{stepFits, faults}
-use Rattle.soundness.proofs.Totals.{faults-zero, faults-le, faults-pass, faults-fail}
+use Rattle.soundness.specs.Parts.{fieldsAt, faults}
+use Rattle.soundness.proofs.Totals.{faults-none, faults-le, faults-pass, faults-fail}
 use Rattle.soundness.proofs.step_faults.Statement.{statement}
 use Rattle.soundness.proofs.step_faults.Tie as tie
 
 abbrev Inv-loop : tie.InvT-loop
-Inv-loop t n₀ i₀ n i = (0 < i) × (i ≤ places) × (n ≡ faults i (stepFits (tableOf t)))
+Inv-loop t n₀ i₀ n i = (i ≤ places) × (n ≡ faults i (fieldsAt (tableOf t)))
 
 abbrev μ-loop : tie.MeasureT-loop
 μ-loop t n₀ i₀ n i = places - i
 
 loop-holds : tie.Need-loop-holds Inv-loop μ-loop
-unfolding stepFits
-loop-holds c = (omega arith, omega arith, sym (faults-zero 1 _ (λ k l. or-left _ _ (eq-eqb k 0 (omega arith)))))
+loop-holds c = (omega arith, sym (faults-none _))
 
 -- the step just looked at
 fits : (c : tie.After-fields-fit Inv-loop μ-loop) →
     let loop = c .before .before .before .before .before .before in
-    c .fields-fit .result ≡ stepFits (tableOf (loop .before .args .t .now)) (loop .loop .i)
-unfolding stepFits
+    c .fields-fit .result ≡ fieldsAt (tableOf (loop .before .args .t .now)) (loop .loop .i)
+unfolding fieldsAt
 fits c =
-    rw (ne-eqb (c .before .before .before .before .before .before .loop .i) 0 (λ z. omega arith))
-    (rw (
+    rw (
       c .before .own-at .ensures,
       c .before .before .content-at .ensures,
       c .before .before .before .kind-at .ensures,
       c .before .before .before .before .used-at .ensures,
-    ) at (c .fields-fit .ensures))
+    ) at (c .fields-fit .ensures)
 
 -- one step more
 next : (c : tie.Joined1 Inv-loop μ-loop) →
     let l = c .before .before .before .before .before .before .before in
-    l .loop .n + c .if1 .n ≡ faults (l .loop .i + 1) (stepFits (tableOf (l .before .args .t .now)))
+    l .loop .n + c .if1 .n ≡ faults (l .loop .i + 1) (fieldsAt (tableOf (l .before .args .t .now)))
 next c =
     let l = c .before .before .before .before .before .before .before in
     ⊎-elim
-    (λ w. faults-pass (l .loop .i) _ (l .loop .n) _ (l .loop .inv .2) (sym (fits (c .before)) ∙ w .0 .taken) (w .1))
-    (λ w. faults-fail (l .loop .i) _ (l .loop .n) _ (l .loop .inv .2) (sym (fits (c .before)) ∙ w .0 .left) (w .1))
+    (λ w. faults-pass (l .loop .i) _ (l .loop .n) _ (l .loop .inv .1) (sym (fits (c .before)) ∙ w .0 .taken) (w .1))
+    (λ w. faults-fail (l .loop .i) _ (l .loop .n) _ (l .loop .inv .1) (sym (fits (c .before)) ∙ w .0 .left) (w .1))
     (c .if1 .came)
 
 add-n : tie.Need-add-n Inv-loop μ-loop
@@ -55,12 +51,12 @@ add-n c =
     omega arith
 
 loop-again : tie.Need-loop-again Inv-loop μ-loop
-loop-again c = (omega arith, omega arith, next (c .before))
+loop-again c = (omega arith, next (c .before))
 
 returns : tie.Need-returns Inv-loop μ-loop
 returns c =
     let e : c .before .loop .i ≡ places = omega arith in
-    rw e at (c .before .loop .inv .2)
+    rw e at (c .before .loop .inv .1)
 
 pub step-faults-spec : {M : Type 1} → statement M
 step-faults-spec =

@@ -1,0 +1,157 @@
+//! Faults planted in the second program. The comparison has to find each, by the evidence that it leaves, in the calls that have it and in no other.
+
+use compare::{ring, rounds, Evidence, Pair};
+use reference::calls::{fresh, Command};
+use reference::faults::{Fault, Length, Part, Sort};
+use reference::generate::{key_text, Generator, Random};
+use reference::history::{run, Call, Start};
+use reference::image::write;
+use reference::plan::plan_of;
+use reference::table::Table;
+use std::collections::BTreeSet;
+
+/// Sorts of calls that differed, each with all that differed in one call.
+type Found = BTreeSet<(Sort, Vec<Evidence>)>;
+
+/// Calls on tables: those of made-up histories, half of them by key lines, each sort on a table that is not sound, and some with lengths past 8 and
+/// 16 bits.
+fn cases() -> Vec<(Table, Call)> {
+    let mut cases = Vec::new();
+    for seed in 0..32 {
+        let mut table = match seed % 4 {
+            0 => fresh(128).0,
+            1 => fresh(4).0,
+            _ => Random(seed).sound_table(),
+        };
+        let mut generator = Generator::new(seed);
+        for _ in 0..150 {
+            let call = match generator.call(&plan_of(&table)) {
+                Call::Edit(command) if seed >= 16 => Call::KeyLine(key_text(command)),
+                call => call,
+            };
+            cases.push((table.clone(), call.clone()));
+            run(&mut table, &call, Fault::None);
+        }
+    }
+    let mut unsound = ring(5);
+    unsound.counts[3] += 1;
+    let each = [
+        Call::Edit(Command::Add { holder: 0, exit: 3, kind: 1, content: 0 }),
+        Call::Edit(Command::Link { source: 0, source_exit: 0, second: 0, second_exit: 2 }),
+        Call::Edit(Command::Clear { step: 0, exit: 0 }),
+        Call::Edit(Command::Count),
+        Call::Read { step: 0 },
+        Call::Trial { results: vec![0, 1], trace: 4 },
+        Call::Write { buffer: 2570 },
+        Call::ImageLength,
+        Call::KeyLine(b"H*4A".to_vec()),
+    ];
+    cases.extend(each.map(|call| (unsound.clone(), call)));
+    let ring = ring(5);
+    for length in [300, 70_000] {
+        cases.push((ring.clone(), Call::Trial { results: rounds(5, length), trace: length }));
+    }
+    cases.push((ring.clone(), Call::Trial { results: rounds(5, 7), trace: 65_536 }));
+    cases.push((ring.clone(), Call::Write { buffer: 65_536 }));
+    let line = [&b"H*4A"[..], &vec![b'0'; 65_536]].concat();
+    cases.push((ring, Call::KeyLine(line)));
+    cases
+}
+
+/// First calls: fresh and load, accepted and refused.
+fn starts() -> Vec<Start> {
+    let mut image = vec![0; 2570];
+    let written = write(&ring(5), &mut image).first;
+    image.truncate(written.into());
+    let long = [&image[..], &vec![0; 65_536]].concat();
+    let loads = [image, Vec::new(), long].map(|image| Start::Load { image });
+    let fresh = [0, 1, 128, 129].map(|capacity| Start::Fresh { capacity });
+    fresh.into_iter().chain(loads).collect()
+}
+
+/// What the comparison finds of a fault.
+fn found(fault: Fault, starts: &[Start], cases: &[(Table, Call)]) -> Found {
+    let begun = starts.iter().map(|start| (Sort::of_start(start), Pair::begin(start, fault).1));
+    let called =
+        cases.iter().map(|(table, call)| (Sort::of(call), Pair::new(table, fault).call(call)));
+    begun
+        .chain(called)
+        .filter_map(|(sort, compared)| Some((sort, compared.err()?.evidence)))
+        .collect()
+}
+
+/// The faults that have a name: the calls that show it, and each of the ways in which a call shows it.
+fn named() -> Vec<(Fault, Vec<Sort>, Vec<Vec<Evidence>>)> {
+    use Evidence::*;
+    use Fault::*;
+    use Sort::{Add, Clear, Count, KeyLine, Link, Read, Trial};
+    vec![
+        (CopyKeepsStrength, vec![Link, KeyLine], vec![vec![Table]]),
+        (CounterOffByOne, vec![Link, KeyLine], vec![vec![Table]]),
+        (HighestFirst, vec![Clear, KeyLine], vec![vec![Table]]),
+        (FreedKeepsBit, vec![Clear, KeyLine], vec![vec![Table]]),
+        (
+            SkipRepair,
+            vec![Clear, KeyLine],
+            vec![vec![Number(0), Table], vec![Number(0), Number(1), Table]],
+        ),
+        (SwappedRefusals, vec![Add, KeyLine], vec![vec![Refusal]]),
+        (DoubtfulSaidFreed, vec![Clear], vec![vec![Number(1)]]),
+        (CountsExchanged, vec![Count], vec![vec![Number(0), Number(1)]]),
+        (CountersExchanged, vec![Read], vec![vec![Number(11), Number(12)]]),
+        (SpentSaidOpen, vec![Trial], vec![vec![Number(0)]]),
+        (TraceOneBehind, vec![Trial], vec![vec![Lent]]),
+        (MovesIn(8), vec![Trial], vec![vec![Number(2)]]),
+        (MovesIn(16), vec![Trial], vec![vec![Number(2)]]),
+    ]
+}
+
+#[test]
+fn planted_faults_show() {
+    let (starts, cases) = (starts(), cases());
+    assert_eq!(found(Fault::None, &starts, &cases), Found::new());
+    for (fault, sorts, ways) in named() {
+        let found = found(fault, &starts, &cases);
+        println!("{fault:?} is found by {found:?}");
+        let pairs = sorts.iter().flat_map(|sort| ways.iter().map(|way| (*sort, way.clone())));
+        assert_eq!(found, pairs.collect(), "{fault:?}");
+    }
+}
+
+/// For each sort of call, accepted and refused: a wrong refusal, each number, a lent byte written or not, the table. Nothing else may differ.
+#[test]
+fn each_part_of_each_call_is_compared() {
+    let (starts, cases) = (starts(), cases());
+    let faults = Fault::spoiled();
+    assert!(faults.len() > 100);
+    for fault in faults {
+        let Fault::Spoiled { sort, part, .. } = fault else { unreachable!() };
+        let evidence = match part {
+            Part::Refusal => Evidence::Refusal,
+            Part::Number(i) => Evidence::Number(i),
+            Part::Written | Part::Unwritten => Evidence::Lent,
+            Part::Table => Evidence::Table,
+        };
+        let found = found(fault, &starts, &cases);
+        println!("{fault:?} is found by {found:?}");
+        assert_eq!(found, Found::from([(sort, vec![evidence])]), "{fault:?}");
+    }
+}
+
+/// A length cut to 16 bits shows in the calls that are lent it.
+#[test]
+fn cut_lengths_show() {
+    let (starts, cases) = (starts(), cases());
+    for (length, sort) in [
+        (Length::Results, Sort::Trial),
+        (Length::Trace, Sort::Trial),
+        (Length::Buffer, Sort::Write),
+        (Length::Line, Sort::KeyLine),
+        (Length::Image, Sort::Load),
+    ] {
+        let found = found(Fault::Cut(length), &starts, &cases);
+        println!("{length:?} cut is found by {found:?}");
+        let sorts: BTreeSet<Sort> = found.into_iter().map(|(sort, _)| sort).collect();
+        assert_eq!(sorts, BTreeSet::from([sort]), "{length:?}");
+    }
+}

@@ -1,0 +1,192 @@
+//! Deliberate errors, so that wrong variants can be run against the right one.
+//! The first six are other ways to edit and stand in `calls` and `clearing`. Each of the rest
+//! spoils what a right call gives, in one part of it.
+
+use crate::calls::Command;
+use crate::history::{Call, Outcome, Start};
+use crate::table::Table;
+
+/// A deliberate error.
+#[derive(Clone, Copy, PartialEq, Eq, Debug)]
+pub enum Fault {
+    /// No error.
+    None,
+    /// A copy takes the bit of its original.
+    CopyKeepsStrength,
+    /// Clearing empties the exit and does nothing else.
+    SkipRepair,
+    /// Linking counts the copy twice.
+    CounterOffByOne,
+    /// Add looks at the kind before the exit to be filled.
+    SwappedRefusals,
+    /// Clearing takes the highest doubtful step first.
+    HighestFirst,
+    /// A freed step keeps its bit.
+    FreedKeepsBit,
+    /// Clearing says that all doubtful steps were freed.
+    DoubtfulSaidFreed,
+    /// A count gives the free steps first.
+    CountsExchanged,
+    /// A read gives the two counters exchanged.
+    CountersExchanged,
+    /// A trial that is spent says open.
+    SpentSaidOpen,
+    /// A trial writes the step that it leaves, not the one that it enters.
+    TraceOneBehind,
+    /// The moves of a trial are counted in so many bits.
+    MovesIn(u32),
+    /// A lent length is cut to 16 bits.
+    Cut(Length),
+    /// One part of what calls of one sort give is wrong, where they are refused or where not.
+    Spoiled { sort: Sort, refused: bool, part: Part },
+}
+
+/// A length that a caller lends.
+#[derive(Clone, Copy, PartialEq, Eq, Debug)]
+pub enum Length {
+    Results,
+    Trace,
+    Buffer,
+    Line,
+    Image,
+}
+
+/// A sort of call.
+#[derive(Clone, Copy, PartialEq, Eq, PartialOrd, Ord, Debug)]
+pub enum Sort {
+    Fresh,
+    Load,
+    Add,
+    Link,
+    Clear,
+    Count,
+    Read,
+    Trial,
+    Write,
+    ImageLength,
+    KeyLine,
+}
+
+/// A part of what a call gives.
+#[derive(Clone, Copy, PartialEq, Eq, Debug)]
+pub enum Part {
+    Refusal,
+    Number(usize),
+    /// The last lent byte that is written.
+    Written,
+    /// The first lent byte that is not.
+    Unwritten,
+    Table,
+}
+
+impl Sort {
+    pub const ALL: [Sort; 11] = [
+        Sort::Fresh,
+        Sort::Load,
+        Sort::Add,
+        Sort::Link,
+        Sort::Clear,
+        Sort::Count,
+        Sort::Read,
+        Sort::Trial,
+        Sort::Write,
+        Sort::ImageLength,
+        Sort::KeyLine,
+    ];
+
+    pub fn of(call: &Call) -> Sort {
+        match call {
+            Call::Edit(Command::Add { .. }) => Sort::Add,
+            Call::Edit(Command::Link { .. }) => Sort::Link,
+            Call::Edit(Command::Clear { .. }) => Sort::Clear,
+            Call::Edit(Command::Count) => Sort::Count,
+            Call::Read { .. } => Sort::Read,
+            Call::Trial { .. } => Sort::Trial,
+            Call::Write { .. } => Sort::Write,
+            Call::ImageLength => Sort::ImageLength,
+            Call::KeyLine(_) => Sort::KeyLine,
+        }
+    }
+
+    pub fn of_start(start: &Start) -> Sort {
+        match start {
+            Start::Fresh { .. } => Sort::Fresh,
+            Start::Load { .. } => Sort::Load,
+        }
+    }
+
+    /// How many numbers a call of this sort answers.
+    fn numbers(self) -> usize {
+        match self {
+            Sort::Read => 13,
+            Sort::Trial => 3,
+            _ => 2,
+        }
+    }
+
+    /// The parts of what a call of this sort gives.
+    fn parts(self, refused: bool) -> Vec<Part> {
+        let mut parts = vec![Part::Refusal, Part::Table];
+        parts.extend((0..self.numbers()).map(Part::Number));
+        if matches!(self, Sort::Trial | Sort::Write) {
+            parts.push(Part::Unwritten);
+            parts.extend((!refused).then_some(Part::Written));
+        }
+        parts
+    }
+}
+
+impl Fault {
+    /// One fault for each part of what each sort of call gives, accepted and refused.
+    pub fn spoiled() -> Vec<Fault> {
+        let mut faults = Vec::new();
+        for sort in Sort::ALL {
+            for refused in [false, true] {
+                let fault = |part| Fault::Spoiled { sort, refused, part };
+                faults.extend(sort.parts(refused).into_iter().map(fault));
+            }
+        }
+        faults
+    }
+}
+
+/// How many of the bytes lent a call takes: fewer where a fault cuts this length.
+pub fn cut(fault: Fault, which: Length, length: usize) -> usize {
+    if fault == Fault::Cut(which) {
+        length % 65536
+    } else {
+        length
+    }
+}
+
+/// Spoils what a right call gave.
+pub fn spoil(fault: Fault, sort: Sort, table: &mut Table, outcome: &mut Outcome) {
+    let accepted = outcome.refusal == 0;
+    match fault {
+        Fault::DoubtfulSaidFreed if sort == Sort::Clear => outcome.numbers[1] = outcome.numbers[0],
+        Fault::CountsExchanged if sort == Sort::Count => outcome.numbers.swap(0, 1),
+        Fault::CountersExchanged if sort == Sort::Read => outcome.numbers.swap(11, 12),
+        Fault::SpentSaidOpen if sort == Sort::Trial => outcome.numbers[0] = 0,
+        Fault::TraceOneBehind if sort == Sort::Trial && outcome.numbers[2] > 0 => {
+            outcome.lent[..outcome.numbers[2]].rotate_right(1);
+            outcome.lent[0] = 0;
+        }
+        Fault::MovesIn(bits) if sort == Sort::Trial => outcome.numbers[2] %= 1 << bits,
+        Fault::Spoiled { sort: of, refused, part } if of == sort && refused != accepted => {
+            let written = match sort {
+                _ if refused => 0,
+                Sort::Trial => outcome.numbers[2],
+                _ => outcome.numbers[0],
+            };
+            match part {
+                Part::Refusal => outcome.refusal = outcome.refusal % 12 + 1,
+                Part::Number(i) => outcome.numbers[i] += 1,
+                Part::Written if written > 0 => outcome.lent[written - 1] ^= 1,
+                Part::Unwritten if written < outcome.lent.len() => outcome.lent[written] ^= 1,
+                Part::Written | Part::Unwritten => {}
+                Part::Table => table.own[0] ^= 1,
+            }
+        }
+        _ => {}
+    }
+}
