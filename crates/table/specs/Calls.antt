@@ -19,7 +19,7 @@ use Rattle.table.specs.declared.Reading.{Reading}
 use Rattle.table.specs.declared.Ending.the-variants.{Open, Spent}
 use Rattle.table.specs.declared.Tried.{Tried}
 use Rattle.table.specs.declared.Tried.the-variants.{Refused, Ended}
-use Rattle.table.specs.Table.{Table, places, exits, counters, exitPlace, counterPlace, inUse, kindOf, contentOf, ownBit, targetOf, linkBit, counterOf, holds, stepsInUse, withLinks, withSteps}
+use Rattle.table.specs.Table.{Table, places, exits, exitPlaces, counters, exitPlace, counterPlace, inUse, kindOf, contentOf, ownBit, targetOf, linkBit, counterOf, holds, stepsInUse, withLinks, withSteps}
 use Rattle.table.specs.Sound.{capacityFits, contentFits, sound}
 use Rattle.table.specs.Answer.{Outcome, notSound, badCapacity, notInUse, badExit, exitFilled, exitEmpty, badKind, full, badResult, tooShort, first, unless}
 
@@ -37,8 +37,8 @@ freshTable c =
       kinds = replicate places 0;
       contents = replicate places 0;
       own = replicate places 0;
-      targets = replicate (places * exits) 0;
-      bits = replicate (places * exits) 0;
+      targets = replicate (exitPlaces places) 0;
+      bits = replicate (exitPlaces places) 0;
       counts = replicate (places * counters) 0;
     }
 

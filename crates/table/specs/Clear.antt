@@ -17,7 +17,7 @@ use lib.Dec.{leb, ltb}
 use Rattle.finite.specs.Below.{any, count, lowest, rounds, tabulate}
 use Rattle.finite.specs.Reach.{marked, reach}
 use Rattle.table.specs.declared.Answer.the-variants.{Given}
-use Rattle.table.specs.Table.{Table, exits, counterPlace, inUse, ownBit, targetOf, counterOf, holds, strong, linked, stronglyLinked, withLinks, withSteps}
+use Rattle.table.specs.Table.{Table, exits, exitsOf, counterPlace, inUse, ownBit, targetOf, counterOf, holds, strong, linked, stronglyLinked, withLinks, withSteps}
 use Rattle.table.specs.Answer.{Outcome, notInUse, badExit, exitEmpty, first, unless}
 use Rattle.table.specs.Calls.{tableTests, relink, weakBit}
 
@@ -56,7 +56,7 @@ weakened t k e = cond (strong t k e) (relink t k e (targetOf t k e) (weakBit t (
 
 -- "flip its bit, .. then make every link out of it weak, one to itself included"
 unfoldable pub restored : Table → ℕ → Table
-restored t k = rounds exits (λ e u. weakened u k e) (flipped t k)
+restored t k = rounds (exitsOf k) (λ e u. weakened u k e) (flipped t k)
 
 -- "take the lowest-numbered such step, .. count it no longer doubtful": at most f times
 unfoldable pub repair : ℕ → Repair → Repair
@@ -74,7 +74,7 @@ repairOf t = repair (t .capacity) (record { table = t; doubt = doubtful t })
 
 -- 4. "their links leave the counters"
 unfoldable pub unlinked : Table → ℕ → Table
-unlinked t i = rounds exits (λ e u. relink u i e 0 0) t
+unlinked t i = rounds (exitsOf i) (λ e u. relink u i e 0 0) t
 
 -- "and their records become zero and empty": their exits are empty already
 unfoldable pub blanked : Table → ℕ → Table

@@ -14,7 +14,7 @@ use lib.ListN.{length, getD, set, replicate}
 use lib.Dec.{eqb, leb, ltb}
 use Rattle.finite.specs.Below.{any, count, tabulate}
 use Rattle.finite.specs.Reach.{marked, reach}
-use Rattle.table.specs.Table.{Table, exits, inUse, kindOf, contentOf, targetOf}
+use Rattle.table.specs.Table.{Table, exits, exitsOf, inUse, kindOf, contentOf, targetOf}
 use Rattle.table.specs.Sound.{contentFits}
 use Rattle.table.specs.Answer.{notInUse, badExit, exitFilled, exitEmpty, badKind, full, badResult, tooShort, first}
 use Rattle.table.specs.Calls.{numberGiven, resultsFit}
@@ -34,7 +34,7 @@ pub record Plan : Type 0 where
 -- the plan's entry for step i of a table
 unfoldable pub planStep : Table → ℕ → Option PlanStep
 planStep t i =
-    cond (inUse t i) (some (record { kind = kindOf t i; content = contentOf t i; targets = tabulate exits (targetOf t i) })) none
+    cond (inUse t i) (some (record { kind = kindOf t i; content = contentOf t i; targets = tabulate (exitsOf i) (targetOf t i) })) none
 
 unfoldable pub planOf : Table → Plan
 planOf t = record { capacity = t .capacity; last = t .last; steps = tabulate (t .capacity) (planStep t) }
@@ -60,7 +60,7 @@ unfoldable pub planHolds : Plan → ℕ → ℕ → Bool
 planHolds p i e = not (eqb (planTarget p i e) 0)
 
 unfoldable pub planLinked : Plan → ℕ → ℕ → Bool
-planLinked p i j = any exits (λ e. planHolds p i e && eqb (planTarget p i e) j)
+planLinked p i j = any (exitsOf i) (λ e. planHolds p i e && eqb (planTarget p i e) j)
 
 unfoldable pub planCount : Plan → ℕ
 planCount p = count (p .capacity) (planInUse p)
@@ -71,7 +71,7 @@ freshPlan c =
     record {
       capacity = c;
       last = 0;
-      steps = tabulate c (λ i. cond (eqb i 0) (some (record { kind = 0; content = 0; targets = replicate exits 0 })) none);
+      steps = tabulate c (λ i. cond (eqb i 0) (some (record { kind = 0; content = 0; targets = replicate (exitsOf i) 0 })) none);
     }
 
 -- a step with another target at exit e
@@ -93,7 +93,7 @@ unfoldable pub planAdd : Plan → ℕ → ℕ → ℕ → ℕ → Plan
 planAdd p holder e kind content =
     let n = planNumber p in
     withTarget
-    (replan p n (set (p .steps) n (some (record { kind = kind; content = content; targets = replicate exits 0 }))))
+    (replan p n (set (p .steps) n (some (record { kind = kind; content = content; targets = replicate (exitsOf n) 0 }))))
     holder
     e
     n

@@ -10,7 +10,7 @@ use lib.ListN.{length, getD}
 use lib.Dec.{eqb, leb, ltb}
 use Rattle.finite.specs.Below.{all, passes}
 use Rattle.finite.specs.Reach.{reaches}
-use Rattle.table.specs.Table.{Table, places, exits, counters, inUse, kindOf, contentOf, ownBit, targetOf, linkBit, counterOf, holds, stronglyLinked, linksTo, StrongChain}
+use Rattle.table.specs.Table.{Table, places, counters, exitsOf, exitPlaces, inUse, kindOf, contentOf, ownBit, targetOf, linkBit, counterOf, holds, stronglyLinked, linksTo, StrongChain}
 
 -- "A table has a capacity of 1 to 128"
 unfoldable pub capacityFits : ℕ → Bool
@@ -34,8 +34,8 @@ pub record Shape (t : Table) : Type 0 where
   pub kinds : length (t .kinds) ≡ places
   pub contents : length (t .contents) ≡ places
   pub own : length (t .own) ≡ places
-  pub targets : length (t .targets) ≡ places * exits
-  pub bits : length (t .bits) ≡ places * exits
+  pub targets : length (t .targets) ≡ exitPlaces places
+  pub bits : length (t .bits) ≡ exitPlaces places
   pub counts : length (t .counts) ≡ places * counters
 
 -- a free step: all fields zero or empty
@@ -44,8 +44,8 @@ pub record Blank (t : Table) (i : ℕ) : Type 0 where
   pub kind : kindOf t i ≡ 0
   pub content : contentOf t i ≡ 0
   pub own : ownBit t i ≡ 0
-  pub targets : (e : ℕ) → e < exits → targetOf t i e ≡ 0
-  pub bits : (e : ℕ) → e < exits → linkBit t i e ≡ 0
+  pub targets : (e : ℕ) → e < exitsOf i → targetOf t i e ≡ 0
+  pub bits : (e : ℕ) → e < exitsOf i → linkBit t i e ≡ 0
   pub counts : (b : ℕ) → b < counters → counterOf t i b ≡ 0
 
 pub record Sound (t : Table) : Type 0 where
@@ -59,10 +59,10 @@ pub record Sound (t : Table) : Type 0 where
   pub alarm : inUse t 0 ≡ true
   pub kinds : (i : ℕ) → inUse t i ≡ true → kindFits i (kindOf t i) (contentOf t i) ≡ true
   pub own : (i : ℕ) → inUse t i ≡ true → ownBit t i < 2
-  pub bits : (i e : ℕ) → inUse t i ≡ true → e < exits → linkBit t i e < 2
+  pub bits : (i e : ℕ) → inUse t i ≡ true → e < exitsOf i → linkBit t i e < 2
   -- "every link leads to a step in use other than 0, an exit left empty carries a zero bit, and a step not in use has all fields zero or empty"
-  pub targets : (i e : ℕ) → inUse t i ≡ true → e < exits → holds t i e ≡ true → inUse t (targetOf t i e) ≡ true
-  pub empty : (i e : ℕ) → inUse t i ≡ true → e < exits → holds t i e ≡ false → linkBit t i e ≡ 0
+  pub targets : (i e : ℕ) → inUse t i ≡ true → e < exitsOf i → holds t i e ≡ true → inUse t (targetOf t i e) ≡ true
+  pub empty : (i e : ℕ) → inUse t i ≡ true → e < exitsOf i → holds t i e ≡ false → linkBit t i e ≡ 0
   pub free : (i : ℕ) → i < places → inUse t i ≡ false → Blank t i
   -- "both counters of every step in use are exact"
   pub counts : (i b : ℕ) → inUse t i ≡ true → b < counters → counterOf t i b ≡ linksTo t i b
@@ -80,8 +80,8 @@ shapeTests t =
     eqb (length (t .kinds)) places ∷
     eqb (length (t .contents)) places ∷
     eqb (length (t .own)) places ∷
-    eqb (length (t .targets)) (places * exits) ∷
-    eqb (length (t .bits)) (places * exits) ∷
+    eqb (length (t .targets)) (exitPlaces places) ∷
+    eqb (length (t .bits)) (exitPlaces places) ∷
     eqb (length (t .counts)) (places * counters) ∷
     []
 
@@ -91,8 +91,8 @@ blankTests t i =
     eqb (kindOf t i) 0 ∷
     eqb (contentOf t i) 0 ∷
     eqb (ownBit t i) 0 ∷
-    all exits (λ e. eqb (targetOf t i e) 0) ∷
-    all exits (λ e. eqb (linkBit t i e) 0) ∷
+    all (exitsOf i) (λ e. eqb (targetOf t i e) 0) ∷
+    all (exitsOf i) (λ e. eqb (linkBit t i e) 0) ∷
     all counters (λ b. eqb (counterOf t i b) 0) ∷
     []
 
@@ -110,9 +110,9 @@ soundTests t =
     inUse t 0 ∷
     eachUsed t (λ i. kindFits i (kindOf t i) (contentOf t i)) ∷
     eachUsed t (λ i. ltb (ownBit t i) 2) ∷
-    eachUsed t (λ i. all exits (λ e. ltb (linkBit t i e) 2)) ∷
-    eachUsed t (λ i. all exits (λ e. not (holds t i e) || inUse t (targetOf t i e))) ∷
-    eachUsed t (λ i. all exits (λ e. holds t i e || eqb (linkBit t i e) 0)) ∷
+    eachUsed t (λ i. all (exitsOf i) (λ e. ltb (linkBit t i e) 2)) ∷
+    eachUsed t (λ i. all (exitsOf i) (λ e. not (holds t i e) || inUse t (targetOf t i e))) ∷
+    eachUsed t (λ i. all (exitsOf i) (λ e. holds t i e || eqb (linkBit t i e) 0)) ∷
     all places (λ i. inUse t i || passes (blankTests t i)) ∷
     eachUsed t (λ i. all counters (λ b. eqb (counterOf t i b) (linksTo t i b))) ∷
     eachUsed t (ringless t) ∷

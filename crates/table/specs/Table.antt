@@ -1,5 +1,6 @@
 -- The table: its steps (nodes), exits (edge slots), links (edges) and counters (document 01, "The table"). Assumes nothing.
 --   Table               all fields of all steps
+--   exitsOf i           the number of exits of step i; exitPlaces n: the places of the exits of the steps below n
 --   inUse t i           step i is in use
 --   kindOf contentOf ownBit   its kind, its content, the bit of its own
 --   targetOf t i e, linkBit t i e   what exit e of step i holds: the target, 0 where it is empty, and the link's bit
@@ -47,6 +48,13 @@ pub record Table : Type 0 where
   -- two counters for each step
   pub counts : List ℕ
 
+-- the number of exits that step i has, and how many places the exits of the steps below n have: each step has four
+abbrev pub exitsOf : ℕ → ℕ
+exitsOf i = exits
+
+abbrev pub exitPlaces : ℕ → ℕ
+exitPlaces n = n * exits
+
 -- where exit e, and counter b, of step i stand
 unfoldable pub exitPlace : ℕ → ℕ → ℕ
 exitPlace i e = i * exits + e
@@ -88,10 +96,10 @@ unfoldable pub leads : Table → ℕ → ℕ → ℕ → Bool
 leads t i e j = holds t i e && eqb (targetOf t i e) j
 
 unfoldable pub linked : Table → ℕ → ℕ → Bool
-linked t i j = any exits (λ e. leads t i e j)
+linked t i j = any (exitsOf i) (λ e. leads t i e j)
 
 unfoldable pub stronglyLinked : Table → ℕ → ℕ → Bool
-stronglyLinked t i j = any exits (λ e. leads t i e j && strong t i e)
+stronglyLinked t i j = any (exitsOf i) (λ e. leads t i e j && strong t i e)
 
 -- the exit that stands at place p of the arrays holds a link with bit b to j
 unfoldable pub countsAt : Table → ℕ → ℕ → ℕ → Bool
@@ -99,7 +107,7 @@ countsAt t j b p = not (eqb j 0) && eqb (getD (t .targets) p 0) j && eqb (getD (
 
 -- "Counter 0 of a step counts the links with bit 0 to it, counter 1 those with bit 1": over the exits of all steps below the capacity
 unfoldable pub linksTo : Table → ℕ → ℕ → ℕ
-linksTo t j b = count (t .capacity * exits) (countsAt t j b)
+linksTo t j b = count (exitPlaces (t .capacity)) (countsAt t j b)
 
 unfoldable pub stepsInUse : Table → ℕ
 stepsInUse t = count (t .capacity) (inUse t)

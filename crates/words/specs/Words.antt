@@ -11,7 +11,7 @@ use mathlib.Core.Path.{_≡_}
 use mathlib.Core.List.{List, _∷_, _++_}
 use Prim.Native.Nat.{ℕ, _*_, _<_}
 use lib.ListN.{length, getD, take, drop, replicate}
-use Rattle.table.specs.Table.{Table, places, exits, counters, targetOf, linkBit, counterOf}
+use Rattle.table.specs.Table.{Table, places, exits, exitPlaces, counters, targetOf, linkBit, counterOf}
 
 abbrev pub words : ℕ
 words = 1794
@@ -50,8 +50,8 @@ tableOf w =
       kinds = part kindsFrom places w;
       contents = part contentsFrom places w;
       own = part ownFrom places w;
-      targets = part targetsFrom (places * exits) w;
-      bits = part bitsFrom (places * exits) w;
+      targets = part targetsFrom (exitPlaces places) w;
+      bits = part bitsFrom (exitPlaces places) w;
       counts = part countsFrom (places * counters) w;
     }
 
@@ -69,8 +69,8 @@ blankTable capacity last =
       kinds = replicate places 0;
       contents = replicate places 0;
       own = replicate places 0;
-      targets = replicate (places * exits) 0;
-      bits = replicate (places * exits) 0;
+      targets = replicate (exitPlaces places) 0;
+      bits = replicate (exitPlaces places) 0;
       counts = replicate (places * counters) 0;
     }
 
