@@ -1,33 +1,29 @@
 -- Demand 1: each call is refused as its conditions say, and a refused call does nothing else. Assumes nothing.
 use mathlib.Core.Path.{_≡_, refl, sym, _∙_, ap, subst}
 use mathlib.Core.Bool.{Bool, true, false, not, cond}
-use mathlib.Core.Logic.{_⊎_, inl, inr, ⊎-elim}
+use mathlib.Core.Logic.{⊎-elim}
 use mathlib.Core.List.{List, [], _∷_, _++_}
 use Prim.Native.Nat.{ℕ, zero, suc, _+_, _<_}
 use native.Mathlib.Omega.{arith}
 use lib.ListN.{length, getD, set}
 use lib.Dec.{eqb}
-use borrow.Author.Tests.{eqb-true, eqb-false, eq-eqb, ne-eqb}
-use Rattle.finite.proofs.Bools.{and-intro, and-left, and-right, test, not-true-false, not-false-true}
+use borrow.Author.Tests.{eqb-false, eq-eqb, ne-eqb}
+use Rattle.finite.proofs.Bools.{and-intro, and-left, and-right, test, not-true-false}
 use Rattle.finite.proofs.Below.{eq-or-ne}
-use Rattle.table.specs.declared.Answer.{Answer}
-use Rattle.table.specs.declared.Answer.the-variants.{Given, Refused}
 use Rattle.table.specs.declared.Ending.the-variants.{Open}
 use Rattle.table.specs.declared.Tried.the-variants.{Ended}
-use Rattle.table.specs.Sound.{sound}
-use Rattle.table.specs.Answer.{Outcome, notSound, first, unless, refusalOf, firstOf, secondOf, triedRefusal, endingOf, lastOf, movesOf}
+use Rattle.table.specs.Answer.{Outcome, first, unless, refusalOf, firstOf, secondOf, triedRefusal, endingOf, lastOf, movesOf}
 use Rattle.table.specs.Calls.{freshCall, addRefusal, addCall, linkRefusal, linkCall, noFields, readConditions, readRefusal, readCall, TrialOutcome, tryFrom, trialConditions, trialRefusal, trialCall, tableTests}
-use Rattle.table.specs.Clear.{stops, emptied, repaired, cleared, clearRefusal, clearCall}
+use Rattle.table.specs.Clear.{stops, repaired, cleared, clearRefusal, clearCall}
 use Rattle.table.specs.Table.{Table, holds, targetOf}
 use Rattle.table.proofs.Calls.{nonzero, unless-zero, unless-refused, read-refused, trial-refused, trial-made}
 use Rattle.image.specs.Image.{writeConditions, writeRefusal, writeCall, loadCall}
 use Rattle.image.proofs.Laws.{write-refused, write-made}
-use Rattle.keyline.specs.declared.Command.{Command}
 use Rattle.keyline.specs.declared.Command.the-variants.{Add, Link, Clear, Count}
 use Rattle.keyline.specs.declared.Decoded.{Decoded}
 use Rattle.keyline.specs.declared.Decoded.the-variants.{Line, Nothing}
 use Rattle.keyline.specs.Keys.{decode, spokenCounts, perform, callConditions, lineConditions, keyConditions, performLine, keyCall}
-use Rattle.history.specs.History.{First, fresh, load, Call, add, link, clear, read, trial, write, keyLine}
+use Rattle.history.specs.History.{fresh, load, add, link, clear, read, trial, write, keyLine}
 use Rattle.history.specs.Acts.{Act, begin, call, Done, told, fieldNumbers, triedNumbers, callDone, doneBy, answerSize, lentTo, refusedBy, conditionsOf}
 use Rattle.history.specs.Demands.{FirstHeld, none, some, Demand1}
 

@@ -1,13 +1,12 @@
 -- Demand 2, call by call: what an accepted add, link and clear do on a sound table, the spoken counts, and both ways of an image. Assumes nothing.
-use mathlib.Core.Path.{_≡_, refl, sym, _∙_, ap, ap₂, subst}
+use mathlib.Core.Path.{_≡_, refl, sym, _∙_, ap, subst}
 use mathlib.Core.Bool.{true, _&&_, not}
 use mathlib.Core.Logic.{_↔_}
-use mathlib.Core.List.{List, _++_}
-use Prim.Native.Nat.{ℕ, _-_, _≤_, _<_}
+use mathlib.Core.List.{List}
+use Prim.Native.Nat.{ℕ, _≤_, _<_}
 use native.Mathlib.Omega.{arith}
 use lib.ListN.{length, drop, length-append, length-drop}
 use lib.Seq.{take-at, drop-at}
-use borrow.Author.Tests.{eq-eqb, le-ltb}
 use Rattle.finite.specs.Reach.{Chain, reaches}
 use Rattle.finite.proofs.Bools.{and-intro, and-left, and-right, clash, refute, not-true-false}
 use Rattle.finite.proofs.Reach.{reach-sound, reach-complete}
@@ -17,14 +16,13 @@ use Rattle.table.specs.Sound.{Sound}
 use Rattle.table.specs.Answer.{first, unless}
 use Rattle.table.specs.Calls.{relink, addRefusal, addCall, linkRefusal, linkCall}
 use Rattle.table.specs.Clear.{emptied, cleared, clearRefusal, clearCall}
-use Rattle.table.proofs.Sound.{test-sound, sound-test}
+use Rattle.table.proofs.Sound.{test-sound}
 use Rattle.table.proofs.Links.{sound-wired, linked-below}
 use Rattle.table.proofs.Formed.{formed-wired}
 use Rattle.table.proofs.Spine.{strong-below}
-use Rattle.table.proofs.Plan.{plan-capacity, plan-count}
 use Rattle.table.proofs.Calls.{unless-zero, clear-made, add-fits, link-fits, clear-fits, number-plan, add-sound, add-plan, link-sound, link-plan, clear-cleared, clear-plan}
 use Rattle.table.proofs.Clear.{formed-emptied, sound-reached}
-use Rattle.image.specs.Image.{image, imageLength, writeRefusal, writeCall, imageTable, accepted, loadCall, Bytes, SameRecords}
+use Rattle.image.specs.Image.{image, imageLength, writeCall, imageTable, accepted, loadCall, Bytes, SameRecords}
 use Rattle.image.proofs.Laws.{image-length, write-made, room-enough, load-encode, accepted-sound, accepted-rewritten}
 use Rattle.keyline.specs.Keys.{spokenCounts}
 use Rattle.keyline.proofs.Laws.{spoken-plan}

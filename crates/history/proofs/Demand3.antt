@@ -1,9 +1,9 @@
 -- Histories from any beginning: sound throughout, and as the plan says. Assumes nothing.
-use mathlib.Core.Path.{_≡_, refl, sym, _∙_, ap, ap₂}
+use mathlib.Core.Path.{_≡_, refl, _∙_, ap, ap₂}
 use mathlib.Core.Bool.{Bool, true, false, not, cond}
 use mathlib.Core.Logic.{⊎-elim}
 use mathlib.Core.List.{List, [], _∷_}
-use Prim.Native.Nat.{ℕ, zero, suc, _+_, _≤_, _<_}
+use Prim.Native.Nat.{ℕ, _≤_, _<_}
 use native.Mathlib.Omega.{arith}
 use lib.Dec.{leb, eqb}
 use borrow.Author.Tests.{leb-true}
@@ -21,9 +21,9 @@ use Rattle.table.proofs.Edits.{sound-fresh}
 use Rattle.table.proofs.Plan.{plan-fresh}
 use Rattle.image.specs.Image.{accepted, imageTable, imagePlan, loadCall}
 use Rattle.image.proofs.Laws.{accepted-sound, accepted-plan}
-use Rattle.history.specs.History.{First, fresh, load, Call, Heard, run, draw, tableAfter, heardBy, planAfter, drawnBy, firstRefusal, planFirstRefusal, firstTable, firstPlan}
+use Rattle.history.specs.History.{First, fresh, load, Call, run, tableAfter, heardBy, planAfter, drawnBy, firstRefusal, planFirstRefusal, firstTable, firstPlan}
 use Rattle.history.specs.Demands.{Demand3}
-use Rattle.history.proofs.Agree.{Agrees, call-agrees}
+use Rattle.history.proofs.Agree.{call-agrees}
 
 -- a call with one refusal: accepted or refused
 only-passed : (c : Bool) (n : ℕ) (t : Table) (o : Outcome) → c ≡ true → unless (first ((not c, n) ∷ [])) t o ≡ o

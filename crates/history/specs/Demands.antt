@@ -1,4 +1,4 @@
--- Demands 1 to 3 as statements over the definitions; `Claims` of the proofs proves them. Assumes nothing.
+-- Demands 1 to 3 as statements over the definitions; the crate `claims` restates where each is proved. Assumes nothing.
 --   FirstHeld cs n      n is the number of the first condition that holds, or 0 where none does
 --   Demand1 t a         of a call made on the table t, or of fresh or load
 --   Demand3 f cs        of the history that begins with f and makes the calls cs
@@ -7,18 +7,17 @@
 use mathlib.Core.Path.{_≡_}
 use mathlib.Core.Bool.{Bool, true, false}
 use mathlib.Core.Logic.{_↔_}
-use mathlib.Core.List.{List, [], _∷_, _++_}
-use Prim.Native.Nat.{ℕ, _+_, _-_, _≤_, _<_}
+use mathlib.Core.List.{List}
+use Prim.Native.Nat.{ℕ, _+_, _-_, _<_}
 use lib.ListN.{length, getD, take, drop}
 use Rattle.finite.specs.Below.{count}
 use Rattle.finite.specs.Reach.{Chain}
-use Rattle.table.specs.declared.Answer.{Answer}
 use Rattle.table.specs.declared.Answer.the-variants.{Given}
 use Rattle.table.specs.Answer.{Outcome}
-use Rattle.table.specs.Table.{Table, places, counters, inUse, targetOf, counterOf, holds, linked, linksTo, stepsInUse, StrongChain}
+use Rattle.table.specs.Table.{Table, places, counters, inUse, counterOf, holds, linked, linksTo, stepsInUse, StrongChain}
 use Rattle.table.specs.Sound.{Sound}
 use Rattle.table.specs.Clear.{emptied}
-use Rattle.table.specs.Plan.{Plan, planOf, planCount, planNumber, planAdd, planLink, planClear}
+use Rattle.table.specs.Plan.{planOf, planCount, planNumber, planAdd, planLink, planClear}
 use Rattle.image.specs.Image.{WriteOutcome, loadCall, SameRecords}
 use Rattle.history.specs.History.{First, Call, tableAfter, heardBy, planAfter, drawnBy, firstRefusal, planFirstRefusal, firstTable, firstPlan}
 use Rattle.history.specs.Acts.{Act, doneBy, refusedBy, conditionsOf}
