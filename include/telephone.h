@@ -191,11 +191,12 @@ plan_trial_reply plan_trial(const plan_table *t, const uint8_t *results, size_t 
 /* The length of the table's image: 10 bytes and 20 for each step in use. Refusal: 1. */
 plan_write_reply plan_image_length(const plan_table *t);
 
-/* Writes the image of the table to the start of the buffer. Bytes past it are not touched.
+/* Writes the image of the table to the start of the buffer, its step records in ascending step number. Bytes past it are not touched. Two sound
+ * tables are equal exactly when their images are, so stored images can be compared byte by byte.
  * Refusals, in order: 1, 11. */
 plan_write_reply plan_write_image(const plan_table *t, uint8_t *buffer, size_t length);
 
-/* Makes the table of an image, which is exactly these bytes, whatever stood there.
+/* Makes the table of an image, which is exactly these bytes, whatever stood there. The step records may come in any order.
  * first and second: 0. Refusal: 12. */
 plan_reply plan_load_image(plan_table *t, const uint8_t *bytes, size_t length);
 

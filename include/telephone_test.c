@@ -195,6 +195,37 @@ static void images(void) {
     expect(edges_stand(&m) && edges_stand(&n), "after the images");
 }
 
+/* One table, one image (W1): records in any order are one table and are written sorted; other strengths are another table and another image. */
+static void one_image(void) {
+    uint8_t written[90], other[90], again[90];
+    plan_table t, u;
+    plan_fresh(&t, 8);
+    plan_add(&t, 0, 0, PLAN_CONTACT, 0);
+    plan_add(&t, 1, 1, PLAN_MESSAGE, 15);
+    plan_add(&t, 2, 2, PLAN_WAIT, 600);
+    expect(plan_write_image(&t, written, 90).length == 90, "four steps are written");
+    memcpy(other, written, 10);
+    for (int k = 0; k < 4; k++) {
+        expect(written[10 + 20 * k + 4] == k, "records ascend");
+        memcpy(other + 10 + 20 * k, written + 10 + 20 * ((k + 3) % 4), 20);
+    }
+    expect(memcmp(other, written, 90) != 0, "another order is other bytes");
+    expect(gave(plan_load_image(&u, other, 90), 0, 0, 0) && same(&t, &u), "another order is the same table");
+    expect(plan_write_image(&u, again, 90).length == 90 && memcmp(again, written, 90) == 0, "and is written sorted");
+
+    plan_fresh(&t, 4);
+    plan_add(&t, 0, 0, PLAN_CONTACT, 0);
+    plan_link(&t, 0, 0, 0, 1);
+    plan_fresh(&u, 4);
+    plan_add(&u, 0, 1, PLAN_CONTACT, 0);
+    plan_link(&u, 0, 1, 0, 0);
+    plan_write_image(&t, written, 50);
+    plan_write_image(&u, other, 50);
+    expect(written[20] == 2 && other[20] == 1, "one plan, other strengths: the bits of step 0");
+    other[20] = 2;
+    expect(memcmp(written, other, 50) == 0, "and nothing else");
+}
+
 /* Tries every call that can be refused on a table, whichever refusal comes, and says whether a refused call left every byte. */
 static int leaves_every_byte(lent *m, const uint16_t a[4], const uint8_t *line) {
     const lent was = *m;
@@ -364,6 +395,7 @@ int main(void) {
     edits();
     fields();
     images();
+    one_image();
     refusals();
     lengths();
     trials();

@@ -84,7 +84,7 @@ fn found(fault: Fault, starts: &[Start], cases: &[(Table, Call)]) -> Found {
 fn named() -> Vec<(Fault, Vec<Sort>, Vec<Vec<Evidence>>)> {
     use Evidence::*;
     use Fault::*;
-    use Sort::{Add, Clear, Count, KeyLine, Link, Read, Trial};
+    use Sort::{Add, Clear, Count, KeyLine, Link, Read, Trial, Write};
     vec![
         (CopyKeepsStrength, vec![Link, KeyLine], vec![vec![Table]]),
         (CounterOffByOne, vec![Link, KeyLine], vec![vec![Table]]),
@@ -101,6 +101,7 @@ fn named() -> Vec<(Fault, Vec<Sort>, Vec<Vec<Evidence>>)> {
         (CountersExchanged, vec![Read], vec![vec![Number(11), Number(12)]]),
         (SpentSaidOpen, vec![Trial], vec![vec![Number(0)]]),
         (TraceOneBehind, vec![Trial], vec![vec![Lent]]),
+        (WrittenDescending, vec![Write], vec![vec![Lent]]),
         (MovesIn(8), vec![Trial], vec![vec![Number(2)]]),
         (MovesIn(16), vec![Trial], vec![vec![Number(2)]]),
     ]

@@ -5,7 +5,9 @@ use reference::calls::fresh;
 use reference::faults::Fault;
 use reference::generate::Random;
 use reference::history::{Call, Start, UNTOUCHED};
-use reference::image::{HEADER, RECORD};
+use reference::image::{fields, HEADER, RECORD};
+use reference::plan::plan_of;
+use reference::sound::sound;
 use reference::table::Table;
 
 /// Loads an image in both programs. Gives the table, or nothing where it was refused.
@@ -47,17 +49,47 @@ fn images_written_and_loaded() {
     }
 }
 
+/// Records in any order load as one table, which both programs write with the records in ascending step number.
 #[test]
 fn records_in_any_order() {
     let mut random = Random(7);
+    let mut moved = 0;
     for table in tables(300..500) {
         let image = image_of(&table);
         let (header, steps) = image.split_at(HEADER);
         let mut records: Vec<&[u8]> = steps.chunks(RECORD).collect();
-        random.shuffle(&mut records);
-        let shuffled = [header, &records.concat()].concat();
-        assert!(loaded(&shuffled) == Some(table), "the order of records matters");
+        assert!(records.is_sorted_by_key(|record| fields::<3>(record)[2]), "not ascending");
+        records.reverse();
+        for _ in 0..3 {
+            let other = [header, &records.concat()].concat();
+            let again = loaded(&other).expect("the order of records matters");
+            assert!(again == table, "the order of records makes another table");
+            assert!(image_of(&again) == image, "an image is not sorted by loading and writing it");
+            moved += usize::from(other != image);
+            random.shuffle(&mut records);
+        }
     }
+    assert!(moved > 400, "{moved} orders other than the written one");
+}
+
+/// One table, one image: tables that differ in a strength alone have different images, though one plan.
+#[test]
+fn images_tell_tables_apart() {
+    let mut pairs = 0;
+    for table in tables(580..640) {
+        let image = image_of(&table);
+        for place in (0..table.bits.len()).filter(|&place| table.targets[place] != 0) {
+            let mut other = table.clone();
+            other.bits[place] ^= 1;
+            other.counts = other.counted();
+            if sound(&other) {
+                assert!(plan_of(&other) == plan_of(&table));
+                assert!(image_of(&other) != image, "two tables, one image");
+                pairs += 1;
+            }
+        }
+    }
+    assert!(pairs > 100, "{pairs} pairs");
 }
 
 /// Every byte of an image takes several wrong values; some of the results are accepted.

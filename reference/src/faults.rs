@@ -4,6 +4,7 @@
 
 use crate::calls::Command;
 use crate::history::{Call, Outcome, Start};
+use crate::image::{HEADER, RECORD};
 use crate::table::Table;
 
 /// A deliberate error.
@@ -33,6 +34,8 @@ pub enum Fault {
     SpentSaidOpen,
     /// A trial writes the step that it leaves, not the one that it enters.
     TraceOneBehind,
+    /// The step records are written in descending step number.
+    WrittenDescending,
     /// The moves of a trial are counted in so many bits.
     MovesIn(u32),
     /// A lent length is cut to 16 bits.
@@ -170,6 +173,11 @@ pub fn spoil(fault: Fault, sort: Sort, table: &mut Table, outcome: &mut Outcome)
         Fault::TraceOneBehind if sort == Sort::Trial && outcome.numbers[2] > 0 => {
             outcome.lent[..outcome.numbers[2]].rotate_right(1);
             outcome.lent[0] = 0;
+        }
+        Fault::WrittenDescending if sort == Sort::Write && accepted => {
+            let steps = &mut outcome.lent[HEADER..outcome.numbers[0]];
+            let descending = steps.chunks(RECORD).rev().collect::<Vec<_>>().concat();
+            steps.copy_from_slice(&descending);
         }
         Fault::MovesIn(bits) if sort == Sort::Trial => outcome.numbers[2] %= 1 << bits,
         Fault::Spoiled { sort: of, refused, part } if of == sort && refused != accepted => {

@@ -1,6 +1,6 @@
 //! Writing and loading images. All records but the first have one length, so an image is cut
 //! into equal parts and no record's length is followed.
-//! Renders "Image" of document 01; the writer's order of steps is ascending.
+//! Renders "Image" of document 01 and W1's order of writing, which is ascending.
 
 use crate::calls::{bare, first_refusal, fresh, Answer};
 use crate::sound::sound;

@@ -3,6 +3,7 @@
 --   demand-1                  every call, refused or not
 --   demand-3 history-*        every history
 --   demand-2-* trial-demand   every accepted call
+--   written-equal loaded-equal   one table, one image (W1)
 --   examples-shown ..         P1 to P10, each refusal of each call, key lines byte by byte, a table for each clause of soundness
 --   keys-demand keys-blocks   the program `keys`
 --   words-table table-words   the table in memory
@@ -22,13 +23,13 @@ use Rattle.image.specs.Image.{imageLength, writeCall, accepted, loadCall, Bytes
 use Rattle.keyline.specs.Keys.{spokenCounts}
 use Rattle.history.specs.History.{First, Call, tableAfter, heardBy, planAfter, drawnBy, firstRefusal, planFirstRefusal, firstTable, firstPlan}
 use Rattle.history.specs.Acts.{Act}
-use Rattle.history.specs.Demands.{Demand1, Demand3, AddDemand, LinkDemand, ClearDemand, CountDemand, WriteDemand, LoadDemand}
+use Rattle.history.specs.Demands.{Demand1, Demand3, AddDemand, LinkDemand, ClearDemand, CountDemand, WriteDemand, EqualDemand, LoadDemand, SameTableDemand}
 use Rattle.table.specs.Trial.{TrialDemand}
 use Rattle.history.proofs.Demand1 as Refusals
 use Rattle.history.proofs.Demand2
 use Rattle.table.proofs.Trials
 use Rattle.history.proofs.Demand3 as Histories
-use Rattle.examples.specs.Examples.{Run, Entry, Shown, tableLeft, examples, refusals, keyLines, Decodes, unsound, failAsSaid}
+use Rattle.examples.specs.Examples.{Run, Entry, Shown, tableLeft, examples, refusals, tableF4, firstStrong, secondStrong, Twins, keyLines, Decodes, unsound, failAsSaid}
 use Rattle.examples.proofs.Examples as Cases
 use Rattle.words.specs.Words.{words, tableOf, wordsOf}
 use Rattle.words.proofs.Laws as Memory
@@ -123,10 +124,19 @@ demand-2-counts = Demand2.count-demand
 pub demand-2-written : (t : Table) → Sound t → (buffer : List ℕ) → imageLength t ≤ length buffer → WriteDemand t buffer (writeCall t buffer)
 demand-2-written = Demand2.write-demand
 
--- "and an accepted image is written with the same records."
+-- "and an accepted image is written with the same records.", in ascending step number (W1), and no other image has them so
 pub demand-2-loaded : (bs : List ℕ) → Bytes bs → accepted bs ≡ true → (buffer : List ℕ) → length bs ≤ length buffer →
     LoadDemand bs (writeCall (loadCall bs .table) buffer)
 demand-2-loaded = Demand2.load-demand
+
+-- W1: "Two sound tables are equal exactly when their written images are", in buffers that have the room
+pub written-equal : (t u : Table) → Sound t → Sound u → (a b : List ℕ) → imageLength t ≤ length a → imageLength u ≤ length b →
+    EqualDemand t u (writeCall t a) (writeCall u b)
+written-equal = Demand2.equal-demand
+
+-- and two accepted images load as one table exactly if they have the same records, in whatever order
+pub loaded-equal : (bs cs : List ℕ) → Bytes bs → Bytes cs → accepted bs ≡ true → accepted cs ≡ true → SameTableDemand bs cs (loadCall bs) (loadCall cs)
+loaded-equal = Demand2.same-table-demand
 
 -- A trial that is not refused: its moves, and what it writes.
 pub trial-demand : (t : Table) (results trace : List ℕ) → trialRefusal t results trace ≡ 0 → TrialDemand t results trace (trialCall t results trace)
@@ -136,6 +146,10 @@ trial-demand = Trials.trial-demand
 pub examples-shown : (r : Run) → List·Memᴰ r (examples ++ refusals) → (before : List Entry) (x : Entry) (after : List Entry) →
     r .entries ≡ before ++ (x ∷ after) → Shown (tableLeft (r .table) before) x
 examples-shown = Cases.examples-shown
+
+-- W1: two tables with one plan and other strengths have different images
+pub twins : Twins (tableLeft tableF4 firstStrong) (tableLeft tableF4 secondStrong)
+twins = Cases.twins
 
 pub lines-decoded : Decodes keyLines
 lines-decoded = Cases.lines-decoded

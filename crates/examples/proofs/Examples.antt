@@ -1,11 +1,14 @@
--- The examples of document 01 hold: each run is one test that computes, one theorem covers the table, and one law says it of each entry.
+-- The examples hold: each run is one test that computes, one theorem covers the table, and one law says it of each entry.
 -- Assumes nothing.
 --   computes         what the tests compute with: all that a call's definition names
 --   examples-hold    every entry of the table passes
 --   examples-shown   so each entry says what it states, of the table that the entries before it leave
-use mathlib.Core.Path.{_≡_, refl, subst}
+use mathlib.Core.Path.{_≡_, refl, ap, subst}
 use mathlib.Core.Bool.{Bool, true}
 use mathlib.Core.List.{List, _∷_, _++_, List·Memᴰ}
+use native.Mathlib.Omega.{arith}
+use Prim.Native.Nat.{ℕ}
+use lib.ListN.{getD}
 use Rattle.finite.proofs.Bools.{and-intro}
 use Rattle.finite.specs.Below.{all, any, count, find, lowest, rounds, tabulateFrom, tabulate}
 use Rattle.finite.specs.Reach.{grow, reach, reaches}
@@ -14,16 +17,17 @@ use Rattle.table.specs.Sound.{capacityFits, contentFits, kindFits, eachUsed, sh
 use Rattle.table.specs.Answer.{first, refusalOf, firstOf, secondOf, unless, endingNumber, triedRefusal, endingOf, lastOf, movesOf}
 use Rattle.table.specs.Calls.{freshTable, freshCall, lowered, raised, relink, after, numberGiven, addRefusal, withStep, addTable, addCall, linkRefusal, weakBit, linkTable, linkCall, fieldsOf, noFields, readRefusal, readCall, tryFrom, resultsFit, trialRefusal, trialCall}
 use Rattle.table.specs.Clear.{emptied, heldStrongly, stops, doubtful, wanted, flipped, weakened, restored, repair, repairOf, unlinked, blanked, eachDoubtful, release, size, repaired, clearRefusal, clearCall}
+use Rattle.table.specs.Plan.{planStep, planOf}
 use Rattle.image.specs.Image.{word, wordAt, words, recordSize, recordBytes, headerFieldsOf, bitsOf, stepFieldsOf, stepsBelow, image, imageLength, writeRefusal, writeCall, fieldAt, recordAt, capacityIn, lastIn, countIn, stepPlace, numberIn, kindIn, contentIn, bitsIn, targetIn, bitIn, recordOf, hasRecord, recordField, counted, imageTable, framed, accepted, loadCall}
 use Rattle.keyline.specs.Keys.{isDigit, isLine, decimal, decode, spokenCounts, perform, performLine, keyCall}
 use Rattle.history.specs.History.{firstTable}
 use Rattle.history.specs.Acts.{told, fieldNumbers, triedNumbers, callDone, doneBy, answerSize, lentTo, refusedBy}
-use Rattle.examples.specs.Examples.{imageP5, twoCandidates, ends, keyLines, Decodes, failing, tableP1, headed, unsound, failAsSaid, takeOne, taken, takenBy, strength, usedBelow, seen, same, sameTable, doneTests, factsHold, passed, walk, tableF4, p1ToP7, p8, p9, imageF4, p10, digits, line, beginnings, noAlarm, notSoundReasons, reasons, Entry, Run, tableLeft, Shown, everyRun, examples, refusals}
+use Rattle.examples.specs.Examples.{headerP5, step0P5, step1P5, step2P5, imageP5, twoCandidates, ends, sorted, imageTwin, firstStrong, secondStrong, Twins, keyLines, Decodes, failing, tableP1, headed, unsound, failAsSaid, takeOne, taken, takenBy, strength, usedBelow, seen, same, sameTable, doneTests, factsHold, passed, walk, tableF4, p1ToP7, p8, p9, imageF4, p10, digits, line, beginnings, noAlarm, notSoundReasons, reasons, Entry, Run, tableLeft, Shown, everyRun, examples, refusals}
 use Rattle.examples.proofs.Laws.{run-shown, run-at}
 
 -- a name for the list of definitions below, which each run unfolds
 computes : Bool
-unfolding imageP5 twoCandidates ends failing tableP1 headed unsound failAsSaid all any count find lowest rounds tabulateFrom tabulate grow reach reaches exitPlace counterPlace inUse kindOf contentOf ownBit targetOf linkBit counterOf holds strong leads linked stronglyLinked countsAt linksTo stepsInUse withLinks withSteps capacityFits contentFits kindFits eachUsed shapeTests blankTests ringless soundTests sound first refusalOf firstOf secondOf unless endingNumber triedRefusal endingOf lastOf movesOf freshTable freshCall lowered raised relink after numberGiven addRefusal withStep addTable addCall linkRefusal weakBit linkTable linkCall fieldsOf noFields readRefusal readCall tryFrom resultsFit trialRefusal trialCall emptied heldStrongly stops doubtful wanted flipped weakened restored repair repairOf unlinked blanked eachDoubtful release size repaired clearRefusal clearCall word wordAt words recordSize recordBytes headerFieldsOf bitsOf stepFieldsOf stepsBelow image imageLength writeRefusal writeCall fieldAt recordAt capacityIn lastIn countIn stepPlace numberIn kindIn contentIn bitsIn targetIn bitIn recordOf hasRecord recordField counted imageTable framed accepted loadCall isDigit isLine decimal decode spokenCounts perform performLine keyCall firstTable told fieldNumbers triedNumbers callDone doneBy takeOne taken takenBy strength usedBelow seen answerSize lentTo refusedBy same sameTable doneTests factsHold passed walk tableF4 p1ToP7 p8 p9 imageF4 p10 digits line beginnings noAlarm notSoundReasons reasons
+unfolding headerP5 step0P5 step1P5 step2P5 imageP5 twoCandidates ends sorted imageTwin firstStrong secondStrong failing tableP1 headed unsound failAsSaid all any count find lowest rounds tabulateFrom tabulate grow reach reaches exitPlace counterPlace inUse kindOf contentOf ownBit targetOf linkBit counterOf holds strong leads linked stronglyLinked countsAt linksTo stepsInUse withLinks withSteps capacityFits contentFits kindFits eachUsed shapeTests blankTests ringless soundTests sound first refusalOf firstOf secondOf unless endingNumber triedRefusal endingOf lastOf movesOf freshTable freshCall lowered raised relink after numberGiven addRefusal withStep addTable addCall linkRefusal weakBit linkTable linkCall fieldsOf noFields readRefusal readCall tryFrom resultsFit trialRefusal trialCall emptied heldStrongly stops doubtful wanted flipped weakened restored repair repairOf unlinked blanked eachDoubtful release size repaired clearRefusal clearCall word wordAt words recordSize recordBytes headerFieldsOf bitsOf stepFieldsOf stepsBelow image imageLength writeRefusal writeCall fieldAt recordAt capacityIn lastIn countIn stepPlace numberIn kindIn contentIn bitsIn targetIn bitIn recordOf hasRecord recordField counted imageTable framed accepted loadCall isDigit isLine decimal decode spokenCounts perform performLine keyCall firstTable told fieldNumbers triedNumbers callDone doneBy takeOne taken takenBy strength usedBelow seen answerSize lentTo refusedBy same sameTable doneTests factsHold passed walk tableF4 p1ToP7 p8 p9 imageF4 p10 digits line beginnings noAlarm notSoundReasons reasons
 computes = true
 
 -- one declaration for each run, since antt bounds the steps of one
@@ -51,6 +55,18 @@ ends-hold : walk tableF4 ends ≡ true
 unfolding computes
 ends-hold = refl
 
+sorted-holds : walk tableF4 sorted ≡ true
+unfolding computes
+sorted-holds = refl
+
+first-strong-holds : walk tableF4 firstStrong ≡ true
+unfolding computes
+first-strong-holds = refl
+
+second-strong-holds : walk tableF4 secondStrong ≡ true
+unfolding computes
+second-strong-holds = refl
+
 beginnings-hold : walk tableF4 beginnings ≡ true
 unfolding computes
 beginnings-hold = refl
@@ -72,9 +88,12 @@ examples-hold =
     (and-intro p10-holds
     (and-intro two-candidates-hold
     (and-intro ends-hold
+    (and-intro sorted-holds
+    (and-intro first-strong-holds
+    (and-intro second-strong-holds
     (and-intro beginnings-hold
     (and-intro not-sound-reasons-hold
-    (and-intro reasons-hold refl))))))))
+    (and-intro reasons-hold refl)))))))))))
 
 pub examples-shown : (r : Run) → List·Memᴰ r (examples ++ refusals) → (before : List Entry) (x : Entry) (after : List Entry) →
     r .entries ≡ before ++ (x ∷ after) → Shown (tableLeft (r .table) before) x
@@ -90,3 +109,8 @@ lines-decoded = (refl, (refl, (refl, (refl, (refl, tt)))))
 pub unsound-fail : failAsSaid unsound ≡ true
 unfolding computes
 unsound-fail = refl
+
+-- W1: one plan and other strengths, other images
+pub twins : Twins (tableLeft tableF4 firstStrong) (tableLeft tableF4 secondStrong)
+unfolding computes planStep planOf tableLeft
+twins = record { plan = refl; images = λ e. let x : _≡_ {A = ℕ} 2 1 = ap (λ (bs : List ℕ). getD bs 20 0) e in omega arith }

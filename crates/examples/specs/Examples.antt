@@ -1,5 +1,5 @@
--- The examples of document 01 in one table: P1 to P10 ("Edits on F4"), then each call refused for each of its reasons ("Reasons for no") and
--- the calls that P1 to P10 do not make. The entries of a run are made one after the other, each on the table that the one before left.
+-- The examples in one table: P1 to P10 of document 01 ("Edits on F4"), what they do not show, W1's, then each call refused for each of its reasons
+-- ("Reasons for no") and the calls that P1 to P10 do not make. The entries of a run are made one after the other, each on the table that the one before left.
 -- Assumes nothing.
 --   taken              the steps that a repair takes back, in their order
 --   Look, seen         what can be looked at after an act, and the numbers that it shows
@@ -9,6 +9,7 @@
 --   Shown              what an entry says of the table that it is made on
 --   passed, walk       the test of an entry and of entries in a row, which compute; `run-shown` of the proofs joins test and statement
 --   examples, refusals   the table
+--   Twins              two tables with one plan and different images
 --   keyLines, Decodes  key lines byte by byte, and what they are decoded to
 --   unsound, failAsSaid   a table made unsound for each clause of soundness, and the clauses that it fails
 use mathlib.Core.Path.{_≡_}
@@ -22,6 +23,8 @@ use Rattle.table.specs.Table.{Table, inUse, kindOf, contentOf, ownBit, targetOf
 use Rattle.table.specs.Sound.{soundTests}
 use Rattle.table.specs.Calls.{freshTable, addCall}
 use Rattle.table.specs.Clear.{Repair, stops, emptied, doubtful, wanted, restored}
+use Rattle.table.specs.Plan.{planOf}
+use Rattle.image.specs.Image.{image}
 use Rattle.keyline.specs.declared.Command.the-variants.{Add, Link, Clear, Count}
 use Rattle.keyline.specs.declared.Decoded.{Decoded}
 use Rattle.keyline.specs.declared.Decoded.the-variants.{Line, Nothing}
@@ -172,15 +175,22 @@ everyRun (r ∷ rs) = walk (r .table) (r .entries) && everyRun rs
 unfoldable pub tableF4 : Table
 tableF4 = firstTable (fresh 4)
 
--- header: length 10, kind 1, capacity 4, last number 2, 3 steps; then the records of steps 0, 1, 2: length 20, kind 2, number, kind, content, bits,
--- four targets. The bits are 2 (exit 1 of step 0), 16 (step 1), 4 + 16 (exit 2 of step 2, and step 2).
+-- the table that P5 leaves, as an image. Header: length 10, kind 1, capacity 4, last number 2, 3 steps; then the records of steps 0, 1, 2: length 20,
+-- kind 2, number, kind, content, bits, four targets. The bits are 2 (exit 1 of step 0), 16 (step 1), 4 + 16 (exit 2 of step 2, and step 2).
+unfoldable pub headerP5 : List ℕ
+headerP5 = 0x0A ∷ 0 ∷ 1 ∷ 0 ∷ 4 ∷ 0 ∷ 2 ∷ 0 ∷ 3 ∷ 0 ∷ []
+
+unfoldable pub step0P5 : List ℕ
+step0P5 = 0x14 ∷ 0 ∷ 2 ∷ 0 ∷ 0 ∷ 0 ∷ 0 ∷ 0 ∷ 0 ∷ 0 ∷ 2 ∷ 0 ∷ 0 ∷ 0 ∷ 2 ∷ 0 ∷ 0 ∷ 0 ∷ 0 ∷ 0 ∷ []
+
+unfoldable pub step1P5 : List ℕ
+step1P5 = 0x14 ∷ 0 ∷ 2 ∷ 0 ∷ 1 ∷ 0 ∷ 1 ∷ 0 ∷ 0 ∷ 0 ∷ 0x10 ∷ 0 ∷ 0 ∷ 0 ∷ 0 ∷ 0 ∷ 2 ∷ 0 ∷ 0 ∷ 0 ∷ []
+
+unfoldable pub step2P5 : List ℕ
+step2P5 = 0x14 ∷ 0 ∷ 2 ∷ 0 ∷ 2 ∷ 0 ∷ 1 ∷ 0 ∷ 1 ∷ 0 ∷ 0x14 ∷ 0 ∷ 0 ∷ 0 ∷ 0 ∷ 0 ∷ 1 ∷ 0 ∷ 0 ∷ 0 ∷ []
+
 unfoldable pub imageP5 : List ℕ
-imageP5 =
-    0x0A ∷ 0 ∷ 1 ∷ 0 ∷ 4 ∷ 0 ∷ 2 ∷ 0 ∷ 3 ∷ 0 ∷
-    0x14 ∷ 0 ∷ 2 ∷ 0 ∷ 0 ∷ 0 ∷ 0 ∷ 0 ∷ 0 ∷ 0 ∷ 2 ∷ 0 ∷ 0 ∷ 0 ∷ 2 ∷ 0 ∷ 0 ∷ 0 ∷ 0 ∷ 0 ∷
-    0x14 ∷ 0 ∷ 2 ∷ 0 ∷ 1 ∷ 0 ∷ 1 ∷ 0 ∷ 0 ∷ 0 ∷ 0x10 ∷ 0 ∷ 0 ∷ 0 ∷ 0 ∷ 0 ∷ 2 ∷ 0 ∷ 0 ∷ 0 ∷
-    0x14 ∷ 0 ∷ 2 ∷ 0 ∷ 2 ∷ 0 ∷ 1 ∷ 0 ∷ 1 ∷ 0 ∷ 0x14 ∷ 0 ∷ 0 ∷ 0 ∷ 0 ∷ 0 ∷ 1 ∷ 0 ∷ 0 ∷ 0 ∷
-    []
+imageP5 = headerP5 ++ step0P5 ++ step1P5 ++ step2P5
 
 -- "P1 to P7 run on from each other."
 unfoldable pub p1ToP7 : List Entry
@@ -302,6 +312,42 @@ ends =
     accepts (call (add 0 3 3 600)) (what 3 is (3 ∷ 600 ∷ []) ∷ []) ∷
     []
 
+-- W1: the same records in two other orders load as the same table, and are written in ascending step number
+unfoldable pub sorted : List Entry
+sorted =
+    accepts (begin (load (headerP5 ++ step2P5 ++ step0P5 ++ step1P5))) (sizes is (4 ∷ 2 ∷ []) ∷ steps is (0 ∷ 1 ∷ 2 ∷ []) ∷ []) ∷
+    accepts (call (write (replicate 72 0xFF))) (answer is (70 ∷ 0 ∷ []) ∷ bytes is (imageP5 ++ (0xFF ∷ 0xFF ∷ [])) ∷ []) ∷
+    accepts (begin (load (headerP5 ++ step1P5 ++ step2P5 ++ step0P5))) (sizes is (4 ∷ 2 ∷ []) ∷ steps is (0 ∷ 1 ∷ 2 ∷ []) ∷ []) ∷
+    accepts (call (write (replicate 70 0xFF))) (answer is (70 ∷ 0 ∷ []) ∷ bytes is imageP5 ∷ []) ∷
+    []
+
+-- W1: two tables with one plain plan, in which exits 0 and 1 of step 0 lead to step 1, and with other strengths: their images differ in the bits of
+-- step 0, which are 2 where exit 0 is strong and 1 where exit 1 is
+unfoldable pub imageTwin : ℕ → List ℕ
+imageTwin bits =
+    0x0A ∷ 0 ∷ 1 ∷ 0 ∷ 4 ∷ 0 ∷ 1 ∷ 0 ∷ 2 ∷ 0 ∷
+    0x14 ∷ 0 ∷ 2 ∷ 0 ∷ 0 ∷ 0 ∷ 0 ∷ 0 ∷ 0 ∷ 0 ∷ bits ∷ 0 ∷ 1 ∷ 0 ∷ 1 ∷ 0 ∷ 0 ∷ 0 ∷ 0 ∷ 0 ∷
+    0x14 ∷ 0 ∷ 2 ∷ 0 ∷ 1 ∷ 0 ∷ 1 ∷ 0 ∷ 0 ∷ 0 ∷ 0 ∷ 0 ∷ 0 ∷ 0 ∷ 0 ∷ 0 ∷ 0 ∷ 0 ∷ 0 ∷ 0 ∷
+    []
+
+unfoldable pub firstStrong : List Entry
+firstStrong =
+    accepts (call (add 0 0 1 0)) [] ∷
+    accepts (call (link 0 0 0 1)) (exit 0 0 is (strongLink ∷ 1 ∷ []) ∷ exit 0 1 is (weakLink ∷ 1 ∷ []) ∷ []) ∷
+    accepts (call (write (replicate 50 0xFF))) (bytes is imageTwin 2 ∷ []) ∷
+    []
+
+unfoldable pub secondStrong : List Entry
+secondStrong =
+    accepts (call (add 0 1 1 0)) [] ∷
+    accepts (call (link 0 1 0 0)) (exit 0 0 is (weakLink ∷ 1 ∷ []) ∷ exit 0 1 is (strongLink ∷ 1 ∷ []) ∷ []) ∷
+    accepts (call (write (replicate 50 0xFF))) (bytes is imageTwin 1 ∷ []) ∷
+    []
+
+pub record Twins (t u : Table) : Type 0 where
+  pub plan : planOf t ≡ planOf u
+  pub images : image t ≡ image u → ⊥
+
 unfoldable pub examples : List Run
 examples =
     record { table = tableF4; entries = p1ToP7 } ∷
@@ -310,6 +356,9 @@ examples =
     record { table = tableF4; entries = p10 } ∷
     record { table = tableF4; entries = twoCandidates } ∷
     record { table = tableF4; entries = ends } ∷
+    record { table = tableF4; entries = sorted } ∷
+    record { table = tableF4; entries = firstStrong } ∷
+    record { table = tableF4; entries = secondStrong } ∷
     []
 
 -- the key line H (72), star (42), the w digits of n (48 to 57), A (65)

@@ -2,9 +2,10 @@
 --   select            each index below the count is that of a number
 --   count-injective   no two numbers have one index
 --   count-values      n values that differ are counted as n
+--   rising-same       two rising rows of numbers with the same values are one row
 --   lowest-only       a search finds the only number that passes
 --   tabulate-entries  a list is tabulated by its entries
-use mathlib.Core.Path.{_≡_, refl, sym, _∙_}
+use mathlib.Core.Path.{_≡_, refl, sym, _∙_, ap}
 use mathlib.Core.Bool.{Bool, true, false}
 use mathlib.Core.Logic.{⊎-elim}
 use mathlib.Core.List.{List}
@@ -17,7 +18,7 @@ use lib.Dec.{eqb, ltb}
 use borrow.Author.Tests.{eqb-true, eq-eqb, ne-eqb, ltb-true, lt-ltb}
 use Rattle.finite.specs.Below.{any, one, count, lowest, tabulate}
 use Rattle.finite.proofs.Bools.{or-left, or-right, or-elim, test, clash, same-test}
-use Rattle.finite.proofs.Below.{le-or-lt, any-at, any-intro, any-false, count-change, count-none, lowest-passes, lowest-first, length-tabulate, getD-tabulate}
+use Rattle.finite.proofs.Below.{le-or-lt, eq-or-ne, any-at, any-intro, any-false, count-change, count-none, lowest-passes, lowest-first, length-tabulate, getD-tabulate}
 
 -- a longer range counts no less, and more by each number that passes
 pub count-grows : (p : ℕ → Bool) (m n : ℕ) → m ≤ n → count m p ≤ count n p
@@ -99,6 +100,48 @@ pub lowest-only : (n : ℕ) (p : ℕ → Bool) (k : ℕ) → k < n → p k ≡ t
 lowest-only n p k h t u =
     let l = ltb-true (lowest n p) n (lowest-any n p ∙ any-intro n p k h t) in
     u (lowest n p) l (lowest-passes n p l)
+
+-- the first n values rise
+abbrev pub Rising : ℕ → (ℕ → ℕ) → Type 0
+Rising n f = (j k : ℕ) → j < k → k < n → f j < f k
+
+-- each of the first n values of one row is one of another
+abbrev pub Found : ℕ → (ℕ → ℕ) → (ℕ → ℕ) → Type 0
+Found n f g = (k : ℕ) → k < n → (l : ℕ) × (l < n) × (f k ≡ g l)
+
+rising-before : (n : ℕ) (g : ℕ → ℕ) → Rising n g → (j k : ℕ) → j < n → g j < g k → j < k
+rising-before n g r j k h l =
+    let a : ¬ (k < j) = λ b. omega (arith, r k j b h) in
+    let b : ¬ (k ≡ j) = λ (e : k ≡ j). let x : g k ≡ g j = ap g e in omega arith in
+    omega arith
+
+pub rising-once : (n : ℕ) (g : ℕ → ℕ) → Rising n g → (j k : ℕ) → j < n → k < n → g j ≡ g k → j ≡ k
+rising-once n g r j k h l e =
+    let a : ¬ (j < k) = λ b. omega (arith, r j k b l) in
+    let b : ¬ (k < j) = λ b. omega (arith, r k j b h) in
+    omega arith
+
+-- so the k-th value of the one stands no earlier in the other
+found-late : (n : ℕ) (f g : ℕ → ℕ) → Rising n f → Rising n g → (m : Found n f g) (k : ℕ) (h : k < n) → k ≤ m k h .0
+found-late n f g a b m zero h = omega arith
+found-late n f g a b m (suc k) h =
+    let l : k < n = omega arith in
+    let x = m k l in
+    let y = m (suc k) h in
+    let d : g (x .0) < g (y .0) = omega (arith, a k (suc k) (omega arith) h, x .2, y .2) in
+    omega (arith, found-late n f g a b m k l, rising-before n g b (x .0) (y .0) (x .1) d)
+
+found-least : (n : ℕ) (f g : ℕ → ℕ) → Rising n f → Rising n g → Found n f g → (k : ℕ) → k < n → g k ≤ f k
+found-least n f g a b m k h =
+    let x = m k h in
+    let l = found-late n f g a b m k h in
+    ⊎-elim
+    (λ (e : k ≡ x .0). let y : g k ≡ g (x .0) = ap g e in omega (arith, x .2))
+    (λ (d : k ≡ x .0 → ⊥). omega (arith, x .2, b k (x .0) (omega arith) (x .1)))
+    (eq-or-ne k (x .0))
+
+pub rising-same : (n : ℕ) (f g : ℕ → ℕ) → Rising n f → Rising n g → Found n f g → Found n g f → (k : ℕ) → k < n → f k ≡ g k
+rising-same n f g a b m w k h = omega (arith, found-least n f g a b m k h, found-least n g f b a w k h)
 
 module _ {A : Type 0} where
   pub tabulate-entries : (n : ℕ) (f : ℕ → A) (l : List A) (d : A) → length l ≡ n → ((i : ℕ) → i < n → f i ≡ getD l i d) → tabulate n f ≡ l

@@ -1,5 +1,5 @@
 -- Demand 2, call by call: what an accepted add, link and clear do on a sound table, the spoken counts, and both ways of an image. Assumes nothing.
-use mathlib.Core.Path.{_≡_, refl, sym, _∙_, ap, subst}
+use mathlib.Core.Path.{_≡_, refl, sym, _∙_, ap}
 use mathlib.Core.Bool.{true, _&&_, not}
 use mathlib.Core.Logic.{_↔_}
 use mathlib.Core.List.{List}
@@ -13,7 +13,7 @@ use Rattle.finite.proofs.Reach.{reach-sound, reach-complete}
 use Rattle.table.specs.declared.Answer.the-variants.{Given}
 use Rattle.table.specs.Table.{Table, inUse, linked, stronglyLinked, stepsInUse, withLinks}
 use Rattle.table.specs.Sound.{Sound}
-use Rattle.table.specs.Answer.{first, unless}
+use Rattle.table.specs.Answer.{first, firstOf, unless}
 use Rattle.table.specs.Calls.{relink, addRefusal, addCall, linkRefusal, linkCall}
 use Rattle.table.specs.Clear.{emptied, cleared, clearRefusal, clearCall}
 use Rattle.table.proofs.Sound.{test-sound}
@@ -22,11 +22,11 @@ use Rattle.table.proofs.Formed.{formed-wired}
 use Rattle.table.proofs.Spine.{strong-below}
 use Rattle.table.proofs.Calls.{unless-zero, clear-made, add-fits, link-fits, clear-fits, number-plan, add-sound, add-plan, link-sound, link-plan, clear-cleared, clear-plan}
 use Rattle.table.proofs.Clear.{formed-emptied, sound-reached}
-use Rattle.image.specs.Image.{image, imageLength, writeCall, imageTable, accepted, loadCall, Bytes, SameRecords}
-use Rattle.image.proofs.Laws.{image-length, write-made, room-enough, load-encode, accepted-sound, accepted-rewritten}
+use Rattle.image.specs.Image.{image, imageLength, WriteOutcome, written, writeCall, imageTable, accepted, loadCall, Bytes}
+use Rattle.image.proofs.Laws.{image-length, write-made, room-enough, load-encode, accepted-sound, accepted-rewritten, image-ascending, image-equal, accepted-only, loaded-equal}
 use Rattle.keyline.specs.Keys.{spokenCounts}
 use Rattle.keyline.proofs.Laws.{spoken-plan}
-use Rattle.history.specs.Demands.{AddDemand, LinkDemand, ClearDemand, CountDemand, WriteDemand, LoadDemand}
+use Rattle.history.specs.Demands.{AddDemand, LinkDemand, ClearDemand, CountDemand, WriteDemand, EqualDemand, LoadDemand, SameTableDemand}
 
 pub add-demand : (t : Table) → Sound t → (holder e kind content : ℕ) → addRefusal t holder e kind content ≡ 0 →
     AddDemand t holder e kind content (addCall t holder e kind content)
@@ -94,17 +94,32 @@ clear-demand t s i e z =
 pub count-demand : (t : Table) → Sound t → CountDemand t (spokenCounts t)
 count-demand t s = rw (spoken-plan t s) (record { same = refl; spoken = refl })
 
+-- what write leaves in a buffer that has the room: the bytes written are the image
+written-image : (t : Table) → Sound t → (buffer : List ℕ) → imageLength t ≤ length buffer → written (writeCall t buffer) ≡ image t
+unfolding written firstOf
+written-image t s buffer l = rw (write-made t buffer (room-enough t s buffer l)) (take-at (image t) _ (imageLength t) (image-length t))
+
 pub write-demand : (t : Table) → Sound t → (buffer : List ℕ) → imageLength t ≤ length buffer → WriteDemand t buffer (writeCall t buffer)
 write-demand t s buffer l =
     let n = image-length t in
-    rw (write-made t buffer (room-enough t s buffer l))
-    (record {
-      written = imageLength t;
-      answer = refl;
-      loads = ap loadCall (take-at (image t) _ (imageLength t) n) ∙ load-encode t s;
-      past = drop-at (image t) _ (imageLength t) n;
-      size = let a = length-append (image t) (drop (imageLength t) buffer) in let d = length-drop (imageLength t) buffer in omega arith;
-    })
+    let w : length (written (writeCall t buffer)) ≡ imageLength t = ap length (written-image t s buffer l) ∙ n in
+    let m = write-made t buffer (room-enough t s buffer l) in
+    record {
+      answer = ap (λ (o : WriteOutcome). o .answer) m ∙ ap (λ (k : ℕ). Given k 0) (sym w);
+      loads = ap loadCall (written-image t s buffer l) ∙ load-encode t s;
+      past = rw (w, m) (drop-at (image t) _ (imageLength t) n);
+      size = rw m (let a = length-append (image t) (drop (imageLength t) buffer) in let d = length-drop (imageLength t) buffer in omega arith);
+    }
+
+pub equal-demand : (t u : Table) → Sound t → Sound u → (a b : List ℕ) → imageLength t ≤ length a → imageLength u ≤ length b →
+    EqualDemand t u (writeCall t a) (writeCall u b)
+equal-demand t u s v a b l m =
+    rw (written-image t s a l, written-image u v b m) ((λ e. ap image e), image-equal t u s v)
+
+-- an accepted image is loaded as its table
+loaded-table : (bs : List ℕ) → accepted bs ≡ true → loadCall bs .table ≡ imageTable bs
+unfolding loadCall unless first
+loaded-table bs a = rw a
 
 pub load-demand : (bs : List ℕ) → Bytes bs → accepted bs ≡ true → (buffer : List ℕ) → length bs ≤ length buffer →
     LoadDemand bs (writeCall (loadCall bs .table) buffer)
@@ -113,9 +128,14 @@ load-demand bs by a buffer l =
     let s = test-sound t (accepted-sound bs a) in
     let r = accepted-rewritten bs by a in
     let n : imageLength t ≡ length bs = sym (image-length t) ∙ sym (r .size) in
-    let e : loadCall bs .table ≡ t = (unfold loadCall unless first in rw a) in
-    rw (e, write-made t buffer (room-enough t s buffer (rw n l)))
+    let w = written-image t s buffer (rw n l) in
+    rw (loaded-table bs a)
     (record {
-      answer = ap (λ (k : ℕ). Given k 0) n;
-      records = subst (SameRecords bs) (sym (take-at (image t) _ (length bs) (sym (r .size)))) r;
+      answer = write-demand t s buffer (rw n l) .answer ∙ ap (λ (k : ℕ). Given k 0) (ap length w ∙ sym (r .size));
+      records = rw w r;
+      ascending = rw w (image-ascending t);
+      only = λ cs x y. rw w (accepted-only bs by a cs x y);
     })
+
+pub same-table-demand : (bs cs : List ℕ) → Bytes bs → Bytes cs → accepted bs ≡ true → accepted cs ≡ true → SameTableDemand bs cs (loadCall bs) (loadCall cs)
+same-table-demand bs cs by cy a c = rw (loaded-table bs a, loaded-table cs c) (loaded-equal bs by a cs cy c)

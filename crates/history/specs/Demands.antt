@@ -4,12 +4,13 @@
 --   Demand3 f cs        of the history that begins with f and makes the calls cs
 --   AddDemand LinkDemand ClearDemand CountDemand   what an accepted call does on a sound table (demand 2)
 --   WriteDemand LoadDemand   both ways of an image, over the calls (demand 2)
+--   EqualDemand SameTableDemand   one table, one image (W1)
 use mathlib.Core.Path.{_≡_}
 use mathlib.Core.Bool.{Bool, true, false}
 use mathlib.Core.Logic.{_↔_}
 use mathlib.Core.List.{List}
 use Prim.Native.Nat.{ℕ, _+_, _-_, _<_}
-use lib.ListN.{length, getD, take, drop}
+use lib.ListN.{length, getD, drop}
 use Rattle.finite.specs.Below.{count}
 use Rattle.finite.specs.Reach.{Chain}
 use Rattle.table.specs.declared.Answer.the-variants.{Given}
@@ -18,7 +19,7 @@ use Rattle.table.specs.Table.{Table, places, counters, inUse, counterOf, holds,
 use Rattle.table.specs.Sound.{Sound}
 use Rattle.table.specs.Clear.{emptied}
 use Rattle.table.specs.Plan.{planOf, planCount, planNumber, planAdd, planLink, planClear}
-use Rattle.image.specs.Image.{WriteOutcome, loadCall, SameRecords}
+use Rattle.image.specs.Image.{WriteOutcome, written, loadCall, SameRecords, Ascending}
 use Rattle.history.specs.History.{First, Call, tableAfter, heardBy, planAfter, drawnBy, firstRefusal, planFirstRefusal, firstTable, firstPlan}
 use Rattle.history.specs.Acts.{Act, doneBy, refusedBy, conditionsOf}
 
@@ -85,16 +86,27 @@ pub record CountDemand (t : Table) (o : Outcome) : Type 0 where
   pub same : o .table ≡ t
   pub spoken : o .answer ≡ Given (planCount (planOf t)) (planOf t .capacity - planCount (planOf t))
 
--- "A sound table written as an image loads as the same table": what write leaves in the lent buffer, cut at the length answered
+-- "A sound table written as an image loads as the same table": the bytes that write wrote, in a buffer with the room
 pub record WriteDemand (t : Table) (buffer : List ℕ) (o : WriteOutcome) : Type 0 where
-  pub written : ℕ
-  pub answer : o .answer ≡ Given written 0
-  pub loads : loadCall (take written (o .buffer)) ≡ record { answer = Given 0 0; table = t }
+  -- "the answer is the image's length"
+  pub answer : o .answer ≡ Given (length (written o)) 0
+  pub loads : loadCall (written o) ≡ record { answer = Given 0 0; table = t }
   -- "as are those past a written image": untouched
-  pub past : drop written (o .buffer) ≡ drop written buffer
+  pub past : drop (length (written o)) (o .buffer) ≡ drop (length (written o)) buffer
   pub size : length (o .buffer) ≡ length buffer
+
+-- W1: "Two sound tables are equal exactly when their written images are": o and p are what write did for each, in buffers with the room
+abbrev pub EqualDemand : Table → Table → WriteOutcome → WriteOutcome → Type 0
+EqualDemand t u o p = (t ≡ u) ↔ (written o ≡ written p)
 
 -- "and an accepted image is written with the same records": the image bs is loaded, and its table written into a buffer
 pub record LoadDemand (bs : List ℕ) (o : WriteOutcome) : Type 0 where
   pub answer : o .answer ≡ Given (length bs) 0
-  pub records : SameRecords bs (take (length bs) (o .buffer))
+  pub records : SameRecords bs (written o)
+  -- W1: "loading and then writing an image now sorts its records", and no other image has these records in this order
+  pub ascending : Ascending (written o)
+  pub only : (cs : List ℕ) → SameRecords bs cs → Ascending cs → cs ≡ written o
+
+-- W1: two accepted images load as one table exactly if they have the same records, in whatever order; o and p are what load did for each
+abbrev pub SameTableDemand : List ℕ → List ℕ → Outcome → Outcome → Type 0
+SameTableDemand bs cs o p = (o .table ≡ p .table) ↔ SameRecords bs cs

@@ -1,7 +1,9 @@
 -- What is claimed of images (document 01, "Image"), each law by citing where it is proved: written images load as the table that was written,
--- accepted images are sound, draw the plan that their records say, and are written again with the same records. Assumes nothing.
+-- accepted images are sound, draw the plan that their records say, and are written again with the same records, sorted; sound tables are equal
+-- exactly when their images are (W1). Assumes nothing.
 use mathlib.Core.Path.{_≡_}
 use mathlib.Core.Bool.{true}
+use mathlib.Core.Logic.{_↔_}
 use mathlib.Core.List.{List, _++_}
 use Prim.Native.Nat.{ℕ, _≤_, _<_}
 use lib.ListN.{length, drop}
@@ -13,11 +15,12 @@ use Rattle.table.specs.Sound.{Sound, sound}
 use Rattle.table.specs.Answer.{first}
 use Rattle.table.specs.Plan.{planOf}
 use Rattle.table.proofs.Sound.{sound-test}
-use Rattle.image.specs.Image.{image, imageLength, writeRefusal, writeCall, countIn, numberIn, imageTable, accepted, loadCall, imagePlan, Bytes, SameRecords}
+use Rattle.image.specs.Image.{image, imageLength, writeRefusal, writeCall, countIn, numberIn, imageTable, accepted, loadCall, imagePlan, Bytes, SameRecords, Ascending}
 use Rattle.image.proofs.Written
 use Rattle.image.proofs.Loaded
 use Rattle.image.proofs.RoundTrip
 use Rattle.image.proofs.Rewritten
+use Rattle.image.proofs.Order
 
 -- the header has 10 bytes, and each record of a step in use 20
 pub image-length : (t : Table) → length (image t) ≡ imageLength t
@@ -51,6 +54,21 @@ accepted-plan bs a = Loaded.accepted-plan bs a
 -- an accepted image, loaded and written, differs at most in the order of its step records
 pub accepted-rewritten : (bs : List ℕ) → Bytes bs → accepted bs ≡ true → SameRecords bs (image (imageTable bs))
 accepted-rewritten = Rewritten.accepted-rewritten
+
+-- "The writer now puts step records in ascending step number." (W1), and no other image has the records of an accepted one in that order
+pub image-ascending : (t : Table) → Ascending (image t)
+image-ascending = Order.image-ascending
+
+pub accepted-only : (bs : List ℕ) → Bytes bs → accepted bs ≡ true → (cs : List ℕ) → SameRecords bs cs → Ascending cs → cs ≡ image (imageTable bs)
+accepted-only = Order.accepted-only
+
+-- "Two sound tables are equal exactly when their written images are" (W1), and accepted images load as one table exactly if they have the same records
+pub image-equal : (t u : Table) → Sound t → Sound u → image t ≡ image u → t ≡ u
+image-equal = Order.image-equal
+
+pub loaded-equal : (bs : List ℕ) → Bytes bs → accepted bs ≡ true → (cs : List ℕ) → Bytes cs → accepted cs ≡ true →
+    (imageTable bs ≡ imageTable cs) ↔ SameRecords bs cs
+loaded-equal = Order.loaded-equal
 
 -- what write leaves: nothing where it is refused, else the image and the bytes past it as they were
 pub write-refused : (t : Table) (buffer : List ℕ) → (writeRefusal t (length buffer) ≡ 0 → ⊥) →

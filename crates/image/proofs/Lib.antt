@@ -5,4 +5,5 @@ pub mod Written
 pub mod Loaded
 pub mod RoundTrip
 pub mod Rewritten
+pub mod Order
 pub mod Laws

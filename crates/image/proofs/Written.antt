@@ -28,8 +28,7 @@ module _ (t : Table) where
   unfolding stepsBelow count recordSize
   length-steps zero = refl
   length-steps (suc n) =
-      let a = length-append (stepsBelow t n) (cond (inUse t n) (recordBytes stepRecordKind (stepFieldsOf t n)) []) in
-      omega (arith, length-entry (inUse t n) n, length-steps n)
+      simp length-append (omega (arith, length-entry (inUse t n) n, length-steps n))
 
   -- the bytes before the record of step i
   bytesBefore : ℕ → List ℕ

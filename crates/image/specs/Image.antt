@@ -4,26 +4,27 @@
 --   imageSize n                 the length in bytes of an image with n step records
 --   image t                     the written image: the header, then a record for each step in use, in ascending step number
 --   lengthCall t                the length of the image, asked for by itself
---   writeCall t buffer          the call
+--   writeCall t buffer          the call; written o, the bytes that it wrote
 --   numberIn kindIn contentIn bitsIn targetIn   the fields of the k-th step record of an image
 --   recordOf bs i, recordField   the record of step i, and one of its fields
 --   framed bs, accepted bs      the bytes are such records; the image is accepted
 --   imageTable bs, imagePlan bs   the table and the plain plan that its records say
 --   loadCall bs                 the call
 --   SameRecords bs cs           two images differ at most in the order of their step records
+--   Ascending bs                the step records stand in ascending step number
 use mathlib.Core.Path.{_≡_}
 use mathlib.Core.Bool.{Bool, _&&_, not, cond}
 use mathlib.Core.List.{List, [], _∷_, _++_}
 use mathlib.Core.Option.{none, some}
 use Prim.Native.Nat.{ℕ, zero, suc, _+_, _*_, _/_, _%_, _^_, _<_}
-use lib.ListN.{length, getD, drop}
+use lib.ListN.{length, getD, take, drop}
 use lib.Dec.{eqb, leb, ltb}
 use Rattle.finite.specs.Below.{all, one, lowest, tabulate, passes}
 use Rattle.table.specs.declared.Answer.{Answer}
 use Rattle.table.specs.declared.Answer.the-variants.{Refused, Given}
 use Rattle.table.specs.Table.{Table, places, exits, counters, inUse, kindOf, contentOf, ownBit, targetOf, linkBit, linksTo, stepsInUse, withLinks}
 use Rattle.table.specs.Sound.{sound}
-use Rattle.table.specs.Answer.{Outcome, tooShort, notAccepted, first, unless}
+use Rattle.table.specs.Answer.{Outcome, tooShort, notAccepted, first, firstOf, unless}
 use Rattle.table.specs.Calls.{tableTests, freshTable}
 use Rattle.table.specs.Plan.{Plan}
 
@@ -76,7 +77,7 @@ unfoldable pub stepsBelow : Table → ℕ → List ℕ
 stepsBelow t zero = []
 stepsBelow t (suc n) = stepsBelow t n ++ cond (inUse t n) (recordBytes stepRecordKind (stepFieldsOf t n)) []
 
--- "the writer's order is open": it is ascending here
+-- "The writer now puts step records in ascending step number." (W1)
 unfoldable pub image : Table → List ℕ
 image t = recordBytes headerRecordKind (headerFieldsOf t) ++ stepsBelow t (t .capacity)
 
@@ -96,6 +97,10 @@ lengthCall t =
 pub record WriteOutcome : Type 0 where
   pub answer : Answer
   pub buffer : List ℕ
+
+-- the bytes written: as many of the buffer as the call answers
+unfoldable pub written : WriteOutcome → List ℕ
+written o = take (firstOf (o .answer)) (o .buffer)
 
 abbrev pub writeConditions : Table → ℕ → List (Bool × ℕ)
 writeConditions t room =
@@ -253,3 +258,7 @@ pub record SameRecords (bs cs : List ℕ) : Type 0 where
   pub back : (l : ℕ) → l < countIn cs → (k : ℕ) × (k < countIn bs) × SameRecord bs k cs l
   pub once : Once bs
   pub onceBack : Once cs
+
+-- "in ascending step number" (W1)
+abbrev pub Ascending : List ℕ → Type 0
+Ascending bs = (j k : ℕ) → j < k → k < countIn bs → numberIn bs j < numberIn bs k

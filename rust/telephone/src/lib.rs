@@ -311,7 +311,7 @@ impl Table {
         Ok(table)
     }
 
-    /// The table of an image.
+    /// The table of an image, whose step records may come in any order.
     pub fn load(image: &[u8]) -> Result<Table, Refusal> {
         let mut table = Table(raw::Table::ZERO);
         table.reload(image)?;
@@ -407,7 +407,8 @@ impl Table {
         length(raw::image_length(&self.0))
     }
 
-    /// Writes the image to the start of a lent buffer; gives its length.
+    /// Writes the image to the start of a lent buffer, its step records in ascending step number; gives its length. Two sound tables are equal
+    /// exactly when their images are.
     pub fn write_image(&self, buffer: &mut [u8]) -> Result<usize, Refusal> {
         length(raw::write_image(&self.0, buffer))
     }

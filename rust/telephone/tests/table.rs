@@ -195,6 +195,20 @@ fn images() {
 }
 
 #[test]
+fn one_table_one_image() {
+    let mut table = Table::fresh(4).unwrap();
+    table.add(0, Exit::Answered, Kind::Contact(0)).unwrap();
+    table.add(1, Exit::Engaged, Kind::Wait(1)).unwrap();
+    let mut image = [0; 70];
+    assert_eq!(table.write_image(&mut image), Ok(70));
+    let reversed = [&image[..10], &image[50..], &image[30..50], &image[10..30]].concat();
+    let loaded = Table::load(&reversed).unwrap();
+    let mut again = [0; 70];
+    assert_eq!((&loaded, loaded.write_image(&mut again)), (&table, Ok(70)));
+    assert_eq!(again, image);
+}
+
+#[test]
 fn tables_of_the_caller() {
     let table = Table::fresh(4).unwrap();
     assert_eq!(Table::from_raw(table.as_raw().clone()), Ok(table.clone()));
