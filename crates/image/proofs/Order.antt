@@ -13,7 +13,7 @@ use native.Mathlib.Omega.{arith}
 use lib.ListN.{length, getD}
 use lib.Seq.{ext-getD}
 use Rattle.finite.proofs.Below.{le-or-lt}
-use Rattle.finite.proofs.Select.{count-grows, Found, rising-once, rising-same}
+use Rattle.finite.proofs.Select.{count-grows, Rising, Found, rising-once, rising-same}
 use Rattle.table.specs.Table.{Table, inUse}
 use Rattle.table.specs.Sound.{Sound}
 use Rattle.image.specs.Image.{recordSize, headerFieldCount, stepFieldCount, image, wordAt, fieldAt, countIn, stepPlace, numberIn, imageTable, accepted, Bytes, SameBytes, SameRecord, SameRecords, Ascending}
@@ -55,7 +55,7 @@ unfolding countIn recordSize
 same-count bs cs s = same-field bs cs 0 0 (recordSize headerFieldCount) 2 (s .header) (omega arith)
 
 -- having the same records goes back and on
-pub records-back : (bs cs : List ℕ) → SameRecords bs cs → SameRecords cs bs
+records-back : (bs cs : List ℕ) → SameRecords bs cs → SameRecords cs bs
 records-back bs cs s =
     record {
       size = sym (s .size);
@@ -66,7 +66,7 @@ records-back bs cs s =
       onceBack = s .once;
     }
 
-pub records-on : (bs cs ds : List ℕ) → SameRecords bs cs → SameRecords cs ds → SameRecords bs ds
+records-on : (bs cs ds : List ℕ) → SameRecords bs cs → SameRecords cs ds → SameRecords bs ds
 records-on bs cs ds s u =
     record {
       size = s .size ∙ u .size;
@@ -93,7 +93,7 @@ numbers-found bs cs s k h =
 
 -- two images with the same records, both ascending
 module _ (bs cs : List ℕ) (s : SameRecords bs cs) (a : Ascending bs) (b : Ascending cs) where
-  above : (j k : ℕ) → j < k → k < countIn bs → numberIn cs j < numberIn cs k
+  above : Rising (countIn bs) (numberIn cs)
   above j k l h = b j k l (omega (arith, same-count bs cs s))
 
   found-back : Found (countIn bs) (numberIn cs) (numberIn bs)
@@ -110,7 +110,7 @@ module _ (bs cs : List ℕ) (s : SameRecords bs cs) (a : Ascending bs) (b : Asce
       let e = rising-once (countIn bs) (numberIn cs) above (r .0) k l h (sym (same-number bs cs k (r .0) (r .2)) ∙ n) in
       rw e at (r .2)
 
-  pub only-ascending : length bs ≡ stepPlace (countIn bs) → bs ≡ cs
+  only-ascending : length bs ≡ stepPlace (countIn bs) → bs ≡ cs
   unfolding stepPlace recordSize
   only-ascending z =
       ext-getD 0 bs cs (s .size)
