@@ -1,4 +1,4 @@
-/* The call plan table of a lift telephone: the calls of document 01, as the static library libtelephone.a defines them. For C99, C11 and C++.
+/* The call plan table of a lift telephone: the calls of documents 01 and 02, as the static library libtelephone.a defines them. For C99, C11 and C++.
  *
  *     plan_table t;
  *     if (plan_edition() != PLAN_EDITION) return 1;
@@ -27,6 +27,7 @@
  *     plan_is_sound, plan_counts, plan_image_length, plan_read                  7,024
  *     plan_add, plan_link                                                       7,056
  *     plan_clear                                                                8,336
+ *     plan_squeeze                                                              7,296
  *     plan_trial, plan_write_image, plan_load_image                             7,040
  *     plan_key_line                                                             8,400
  *
@@ -77,7 +78,8 @@ enum plan_refusal {
     PLAN_NOT_KEY_LINE = 9,    /* not a key line */
     PLAN_BAD_RESULT = 10,     /* some line result above 3 */
     PLAN_TOO_SHORT = 11,      /* lent buffer shorter than needed */
-    PLAN_NOT_ACCEPTED = 12    /* image not accepted */
+    PLAN_NOT_ACCEPTED = 12,   /* image not accepted */
+    PLAN_DOES_NOT_FIT = 13    /* capacity below the steps in use */
 };
 
 enum plan_ending {
@@ -177,6 +179,11 @@ plan_reply plan_link(plan_table *t, uint16_t source, uint16_t source_exit, uint1
  * first: steps made doubtful; second: steps freed. Refusals, in order: 1, 3, 4, 6. */
 plan_reply plan_clear(plan_table *t, uint16_t step, uint16_t exit);
 
+/* Squeezes the table into that capacity, which may also be larger. The steps in use are renumbered from 0 upward in their order, every target
+ * follows, bits and counters travel with their steps, and the last number given becomes the highest of them. All places above it become zero.
+ * first and second: 0. Refusals, in order: 1, 2, 13. */
+plan_reply plan_squeeze(plan_table *t, uint16_t capacity);
+
 /* All fields of a step. Refusals, in order: 1, 3. */
 plan_read_reply plan_read(const plan_table *t, uint16_t step);
 
@@ -220,6 +227,7 @@ static inline const char *plan_refusal_words(uint16_t refusal) {
     case PLAN_BAD_RESULT: return "some line result above 3";
     case PLAN_TOO_SHORT: return "lent buffer shorter than needed";
     case PLAN_NOT_ACCEPTED: return "image not accepted";
+    case PLAN_DOES_NOT_FIT: return "capacity below the steps in use";
     default: return "unknown refusal";
     }
 }

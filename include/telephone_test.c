@@ -1,6 +1,6 @@
 /* Links libtelephone.a and tries each call from C, or from C++: edition, names and words, the worked examples P1 to P10, every refusal of every call,
- * the case of `keys`, fields that all differ, lengths past 16 bits, and bytes that are no sound table. A table is lent with bytes around it, which
- * have to stay; a refused call has to leave every byte. Prints a line for each case that fails, and 'N passed, M failed' last. */
+ * squeezes, the case of `keys`, fields that all differ, lengths past 16 bits, and bytes that are no sound table. A table is lent with bytes around it,
+ * which have to stay; a refused call has to leave every byte. Prints a line for each case that fails, and 'N passed, M failed' last. */
 #include "telephone.h"
 #include <stdio.h>
 #include <string.h>
@@ -55,20 +55,20 @@ static lent p1(void) {
 }
 
 static void names(void) {
-    static const char *const words[13] = {
+    static const char *const words[14] = {
         "done", "table not sound", "capacity not 1 to 128", "step not in use", "exit above 3", "exit to be filled holds a link",
         "exit to copy or clear is empty", "kind not 1 to 3, or content out of range", "steps in use equal the capacity", "not a key line",
-        "some line result above 3", "lent buffer shorter than needed", "image not accepted"};
-    static const int refusals[13] = {
+        "some line result above 3", "lent buffer shorter than needed", "image not accepted", "capacity below the steps in use"};
+    static const int refusals[14] = {
         PLAN_DONE, PLAN_NOT_SOUND, PLAN_BAD_CAPACITY, PLAN_NOT_IN_USE, PLAN_BAD_EXIT, PLAN_EXIT_FILLED, PLAN_EXIT_EMPTY, PLAN_BAD_KIND, PLAN_FULL,
-        PLAN_NOT_KEY_LINE, PLAN_BAD_RESULT, PLAN_TOO_SHORT, PLAN_NOT_ACCEPTED};
+        PLAN_NOT_KEY_LINE, PLAN_BAD_RESULT, PLAN_TOO_SHORT, PLAN_NOT_ACCEPTED, PLAN_DOES_NOT_FIT};
     int all = 1;
     expect(plan_edition() == PLAN_EDITION && PLAN_EDITION == 2, "edition");
     expect(sizeof(plan_table) == 3588, "size of a table");
-    for (int i = 0; i < 13; i++) all = all && refusals[i] == i && strcmp(plan_refusal_words((uint16_t)i), words[i]) == 0;
-    expect(all, "refusals 0 to 12 and their words");
+    for (int i = 0; i < 14; i++) all = all && refusals[i] == i && strcmp(plan_refusal_words((uint16_t)i), words[i]) == 0;
+    expect(all, "refusals 0 to 13 and their words");
     all = 1;
-    for (long i = 13; i < 65536; i++) all = all && strcmp(plan_refusal_words((uint16_t)i), "unknown refusal") == 0;
+    for (long i = 14; i < 65536; i++) all = all && strcmp(plan_refusal_words((uint16_t)i), "unknown refusal") == 0;
     expect(all, "words of all other numbers");
     expect(PLAN_ALARM == 0 && PLAN_CONTACT == 1 && PLAN_MESSAGE == 2 && PLAN_WAIT == 3, "kinds");
     expect(PLAN_ANSWERED == 0 && PLAN_ENGAGED == 1 && PLAN_NO_REPLY == 2 && PLAN_LINE_FAULT == 3, "exits");
@@ -106,18 +106,19 @@ static void edits(void) {
     expect(edges_stand(&m), "after P9");
 }
 
-/* A table in which the fields of step 2 and the numbers of the table all differ. The bits are those of step 2's links, which are all strong. */
-static plan_table different(const uint16_t bits[4]) {
-    static const uint16_t steps[8][3] = {{0, 0, 0}, {1, 1, 11}, {2, 3, 600}, {3, 1, 12}, {4, 2, 13}, {6, 3, 14}, {8, 1, 15}, {10, 2, 7}};
-    static const uint16_t targets[4] = {4, 6, 8, 10};
+/* A table in which the fields of step 2 and the numbers of the table all differ. The bits are those of step 2's links, which are all strong; the
+ * steps that they lead to have these numbers. */
+static plan_table numbered(uint16_t capacity, uint16_t last, const uint16_t bits[4], const uint16_t targets[4]) {
+    static const uint16_t kinds[8] = {0, 1, 3, 1, 2, 3, 1, 2}, contents[8] = {0, 11, 600, 12, 13, 14, 15, 7};
     plan_table t;
     memset(&t, 0, sizeof t);
-    t.capacity = 11;
-    t.last = 9;
+    t.capacity = capacity;
+    t.last = last;
     for (int i = 0; i < 8; i++) {
-        t.used[steps[i][0]] = 1;
-        t.kinds[steps[i][0]] = steps[i][1];
-        t.contents[steps[i][0]] = steps[i][2];
+        const int step = i < 4 ? i : targets[i - 4];
+        t.used[step] = 1;
+        t.kinds[step] = kinds[i];
+        t.contents[step] = contents[i];
     }
     t.own[2] = 1;
     for (int i = 0; i < 4; i++) {
@@ -129,17 +130,24 @@ static plan_table different(const uint16_t bits[4]) {
     t.bits[1] = 1;
     t.counts[1 * 2] = t.counts[3 * 2] = 1;
     /* seven strong links to step 2, with step 0's, and five weak ones */
-    for (int i = 0; i < 4; i++) t.targets[1 * 4 + i] = t.targets[4 * 4 + i] = 2, t.bits[1 * 4 + i] = 1;
+    for (int i = 0; i < 4; i++) t.targets[1 * 4 + i] = t.targets[targets[0] * 4 + i] = 2, t.bits[1 * 4 + i] = 1;
     for (int i = 0; i < 2; i++) t.targets[3 * 4 + i] = 2, t.bits[3 * 4 + i] = 1;
-    t.targets[6 * 4] = 2;
+    t.targets[targets[1] * 4] = 2;
     t.counts[2 * 2] = 5;
     t.counts[2 * 2 + 1] = 7;
     return t;
 }
 
+static plan_table different(const uint16_t bits[4]) {
+    static const uint16_t targets[4] = {4, 6, 8, 10};
+    return numbered(11, 9, bits, targets);
+}
+
+/* Bits of step 2's links; any two of its exits have different ones in one of the patterns. */
+static const uint16_t patterns[3][4] = {{0, 1, 0, 1}, {0, 0, 1, 1}, {1, 0, 0, 1}};
+
 /* Every field of every reply and every argument has a number of its own, so that no two can be exchanged unseen. */
 static void fields(void) {
-    static const uint16_t patterns[3][4] = {{0, 1, 0, 1}, {0, 0, 1, 1}, {1, 0, 0, 1}};
     static const uint8_t spent[4] = {1, 1, 0, 2}, open[5] = {2, 0, 3, 0, 1};
     static const uint8_t spent_trace[5] = {2, 6, 2, 8, UNTOUCHED}, open_trace[5] = {3, 2, 10, 8, UNTOUCHED};
     uint8_t trace[5];
@@ -240,6 +248,8 @@ static int leaves_every_byte(lent *m, const uint16_t a[4], const uint8_t *line) 
     *m = was;
     if (plan_clear(t, a[0], a[1]).refusal) all = all && memcmp(m, &was, sizeof was) == 0;
     *m = was;
+    if (plan_squeeze(t, a[0]).refusal) all = all && memcmp(m, &was, sizeof was) == 0;
+    *m = was;
     if (plan_key_line(t, line, strlen((const char *)line)).refusal) all = all && memcmp(m, &was, sizeof was) == 0;
     *m = was;
     memset(lent_bytes, UNTOUCHED, room);
@@ -276,6 +286,7 @@ static void refusals(void) {
     REFUSED(1, out, plan_add(&out.table, 9, 9, 9, 9));
     REFUSED(1, out, plan_link(&out.table, 9, 9, 9, 9));
     REFUSED(1, out, plan_clear(&out.table, 9, 9));
+    REFUSED(1, out, plan_squeeze(&out.table, 0));
     REFUSED(1, out, plan_counts(&out.table));
     REFUSED(1, out, plan_key_line(&out.table, (const uint8_t *)"H*5A", 4));
     expect(plan_is_sound(&out.table) == 0 && plan_read(&out.table, 9).refusal == 1, "read of a table that is not sound");
@@ -306,6 +317,8 @@ static void refusals(void) {
     REFUSED(9, f, plan_key_line(&f.table, (const uint8_t *)"H*4A ", 5));
     REFUSED(9, f, plan_key_line(&f.table, f.before, 0));
     REFUSED(6, f, plan_key_line(&f.table, (const uint8_t *)"H*30000A", 8));
+    for (int i = 0; i < 5; i++) REFUSED(2, p, plan_squeeze(&p.table, capacities[i]));
+    REFUSED(13, p, plan_squeeze(&p.table, 1));
     all = 1;
     for (int i = 0; i < 8 * 8 * 8 * 8; i++) {
         const uint16_t a[4] = {odd[i % 8], odd[i / 8 % 8], odd[i / 64 % 8], odd[i / 512]};
@@ -314,6 +327,50 @@ static void refusals(void) {
         for (int k = 0; k < 4; k++) all = all && leaves_every_byte(tables[k], a, (const uint8_t *)lines[i % 5]);
     }
     expect(all, "a refused call leaves every byte, and so does a call that reads");
+}
+
+/* A squeeze (W2). Steps 0, 2, 3 and 5 become 0 to 3: a ring 2 to 3 to 5 to 2, which step 0 enters at 5, weak links from 3 to 5 and to itself, and own
+ * bits 1. Then the tables in which all fields of step 2 differ. */
+static void squeezes(void) {
+    static const uint16_t adds[5][4] = {{0, 0, 2, 0}, {0, 1, 1, 5}, {2, 0, 3, 600}, {0, 2, 2, 15}, {3, 3, 1, 9}};
+    static const uint16_t kinds[4] = {0, 1, 3, 1}, contents[4] = {0, 5, 600, 9}, ones[4] = {1, 1, 1, 1};
+    static const uint16_t targets[16] = {0, 0, 0, 3, 2, 0, 0, 0, 0, 2, 0, 3, 1, 0, 0, 0};
+    static const uint16_t bits[16] = {0, 0, 0, 1, 1, 0, 0, 0, 0, 0, 0, 0, 1, 0, 0, 0};
+    static const uint16_t counts[8] = {0, 0, 0, 1, 1, 1, 1, 1}, capacities[4] = {4, 5, 8, 128}, upward[4] = {4, 5, 6, 7};
+    lent m = f4(), n;
+    plan_table *t = &m.table, expected;
+    plan_fresh(t, 8);
+    for (int i = 0; i < 5; i++) plan_add(t, adds[i][0], adds[i][1], adds[i][2], adds[i][3]);
+    plan_link(t, 0, 1, 5, 0);
+    plan_link(t, 2, 0, 3, 1);
+    plan_link(t, 3, 3, 0, 3);
+    expect(gave(plan_clear(t, 0, 0), 0, 1, 1) && gave(plan_clear(t, 0, 2), 0, 1, 1) && gave(plan_clear(t, 0, 1), 0, 3, 0), "a table with gaps");
+    t->own[0] = 1;
+    memset(&expected, 0, sizeof expected);
+    expected.last = 3;
+    memcpy(expected.used, ones, sizeof ones);
+    memcpy(expected.kinds, kinds, sizeof kinds);
+    memcpy(expected.contents, contents, sizeof contents);
+    memcpy(expected.own, ones, sizeof ones);
+    memcpy(expected.targets, targets, sizeof targets);
+    memcpy(expected.bits, bits, sizeof bits);
+    memcpy(expected.counts, counts, sizeof counts);
+    for (int i = 0; i < 4; i++) {
+        n = m;
+        expected.capacity = capacities[i];
+        expect(gave(plan_squeeze(&n.table, capacities[i]), 0, 0, 0) && same(&n.table, &expected) && edges_stand(&n), "squeezed");
+        expect(gave(plan_squeeze(&n.table, capacities[i]), 0, 0, 0) && same(&n.table, &expected) && edges_stand(&n), "squeezed twice");
+    }
+    expect(gave(plan_squeeze(&n.table, 5), 0, 0, 0) && gave(plan_add(&n.table, 0, 0, PLAN_WAIT, 1), 0, 4, 0), "add after a squeeze");
+    REFUSED(PLAN_FULL, n, plan_add(&n.table, 0, 1, PLAN_WAIT, 1));
+    REFUSED(PLAN_DOES_NOT_FIT, n, plan_squeeze(&n.table, 4));
+    REFUSED(PLAN_DOES_NOT_FIT, m, plan_squeeze(&m.table, 3));
+    REFUSED(PLAN_BAD_CAPACITY, m, plan_squeeze(&m.table, 0));
+    for (int p = 0; p < 3; p++) {
+        plan_table u = different(patterns[p]);
+        expected = numbered(8, 7, patterns[p], upward);
+        expect(gave(plan_squeeze(&u, 8), 0, 0, 0) && same(&u, &expected), "squeezed with all fields of step 2 different");
+    }
 }
 
 /* Lengths that 8 or 16 bits do not hold: results, traces, buffers, images and key lines. */
@@ -397,6 +454,7 @@ int main(void) {
     images();
     one_image();
     refusals();
+    squeezes();
     lengths();
     trials();
     keys();

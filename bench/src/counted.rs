@@ -168,6 +168,53 @@ pub fn clear(t: &mut Table, step: u16, exit: u16) -> Result<(u16, u16), u16> {
     Ok((doubts, freed))
 }
 
+#[inline(never)]
+pub fn squeeze(t: &mut Table, capacity: u16) -> Result<(), u16> {
+    if !sound(t) {
+        return Err(1);
+    }
+    if !(1..=PLACES).contains(&usize::from(capacity)) {
+        return Err(2);
+    }
+    let mut numbers = [0u16; PLACES];
+    let mut size = 0;
+    for (number, used) in numbers.iter_mut().zip(t.used) {
+        *number = size;
+        size += used;
+    }
+    if capacity < size {
+        return Err(13);
+    }
+    // A new number is at most the old one, so that no record is written over before it has moved.
+    for step in (0..PLACES).filter(|&step| t.used[step] == 1) {
+        let number = usize::from(numbers[step]);
+        t.kinds[number] = t.kinds[step];
+        t.contents[number] = t.contents[step];
+        t.own[number] = t.own[step];
+        for exit in 0..EXITS {
+            let (from, to) = (step * EXITS + exit, number * EXITS + exit);
+            t.targets[to] = numbers[usize::from(t.targets[from])];
+            t.bits[to] = t.bits[from];
+        }
+        t.counts[number * 2] = t.counts[step * 2];
+        t.counts[number * 2 + 1] = t.counts[step * 2 + 1];
+    }
+    (t.capacity, t.last) = (capacity, size - 1);
+    only_below(t, size.into());
+    Ok(())
+}
+
+/// The steps below a number are in use, and the records from there on become zero.
+pub fn only_below(t: &mut Table, size: usize) {
+    t.used[..size].fill(1);
+    for fields in [&mut t.used, &mut t.kinds, &mut t.contents, &mut t.own] {
+        fields[size..].fill(0);
+    }
+    t.targets[size * EXITS..].fill(0);
+    t.bits[size * EXITS..].fill(0);
+    t.counts[size * 2..].fill(0);
+}
+
 /// Rule 2: the steps that lose their last strong link, from one that has.
 fn doubtful(t: &Table, first: usize) -> u128 {
     let mut left = strong_counts(t);

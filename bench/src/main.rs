@@ -103,6 +103,11 @@ fn proved_edit(table: &mut Table, edit: Command) -> Answer {
         Command::Clear { step, exit } => raw::clear(table, step, exit),
         Command::Count => raw::counts(table),
     };
+    answer(reply)
+}
+
+/// The answer that a reply says.
+fn answer(reply: raw::Reply) -> Answer {
     match reply.refusal {
         0 => Ok((reply.first, reply.second)),
         refusal => Err(refusal),
@@ -178,6 +183,19 @@ fn agree(edits: &[Command]) -> Table {
         assert!(c.agrees(&marked::Plan::of(&a)), "(c) has another plan: {edit:?}");
     }
     a
+}
+
+/// Squeezes a table by all four, and holds the answers and the tables or plans to those of (a). Gives the answer of (a).
+fn squeeze(table: &Table, capacity: u16) -> Answer {
+    let (mut a, mut b, mut d) = (table.clone(), table.clone(), table.clone());
+    let mut c = marked::Plan::of(table);
+    let answer = answer(raw::squeeze(&mut a, capacity));
+    let bare = answer.map(|_| ());
+    assert!(counted::squeeze(&mut b, capacity) == bare && b == a, "(b) differs: {capacity}");
+    assert!(tuned::squeeze(&mut d, capacity) == bare && d == a, "(d) differs: {capacity}");
+    assert!(c.squeeze(capacity) == bare, "(c) differs: {capacity}");
+    assert!(c.agrees(&marked::Plan::of(&a)), "(c) has another plan: {capacity}");
+    answer
 }
 
 /// Holds the soundness tests of (b) and (d) to that of (a) on one table; gives the verdict.
@@ -339,9 +357,15 @@ fn test_row(name: &str, table: &Table) -> Times {
     times[0].clone()
 }
 
-/// Clearing exit 0 of step 0 of one table by all four, each on a copy that is made first. It has to give these counts. Gives the times of (a).
-fn clear_row(name: &str, table: &Table, counts: (u16, u16)) -> Times {
-    let edit = Command::Clear { step: 0, exit: 0 };
+/// A call on one table by all four, each on a copy that is made first. Gives the times of (a).
+fn call_row(
+    name: &str,
+    table: &Table,
+    a_call: impl Fn(&mut Table) -> Answer,
+    b_call: impl Fn(&mut Table) -> Answer,
+    c_call: impl Fn(&mut marked::Plan) -> Answer,
+    d_call: impl Fn(&mut Table) -> Answer,
+) -> Times {
     let plan = marked::Plan::of(table);
     let (mut a, mut b, mut c, mut d) = (table.clone(), table.clone(), plan.clone(), table.clone());
     let times = passes(
@@ -349,26 +373,54 @@ fn clear_row(name: &str, table: &Table, counts: (u16, u16)) -> Times {
         [
             &mut || {
                 a.clone_from(black_box(table));
-                black_box(proved_edit(&mut a, edit)).unwrap();
+                black_box(a_call(&mut a)).unwrap();
             },
             &mut || {
                 b.clone_from(black_box(table));
-                black_box(counted_edit(&mut b, edit)).unwrap();
+                black_box(b_call(&mut b)).unwrap();
             },
             &mut || {
                 c.clone_from(black_box(&plan));
-                black_box(marked_edit(&mut c, edit)).unwrap();
+                black_box(c_call(&mut c)).unwrap();
             },
             &mut || {
                 d.clone_from(black_box(table));
-                black_box(tuned_edit(&mut d, edit)).unwrap();
+                black_box(d_call(&mut d)).unwrap();
             },
         ],
     );
     assert!(a == b && a == d && c.agrees(&marked::Plan::of(&a)), "{name}");
-    assert_eq!(proved_edit(&mut table.clone(), edit), Ok(counts), "{name}");
     row(name, &times);
     times[0].clone()
+}
+
+/// Clearing exit 0 of step 0 by all four. It has to give these counts. Gives the times of (a).
+fn clear_row(name: &str, table: &Table, counts: (u16, u16)) -> Times {
+    let edit = Command::Clear { step: 0, exit: 0 };
+    assert_eq!(proved_edit(&mut table.clone(), edit), Ok(counts), "{name}");
+    call_row(
+        name,
+        table,
+        |t| proved_edit(t, edit),
+        |t| counted_edit(t, edit),
+        |plan| marked_edit(plan, edit),
+        |t| tuned_edit(t, edit),
+    )
+}
+
+/// A squeeze into as many places as there are steps in use, by all four.
+fn squeeze_row(name: &str, table: &Table) {
+    let capacity = raw::counts(table).first;
+    assert_eq!(squeeze(table, capacity), Ok((0, 0)), "{name}");
+    let bare = |squeezed: Result<(), u16>| squeezed.map(|()| (0, 0));
+    call_row(
+        name,
+        table,
+        |t| answer(raw::squeeze(t, capacity)),
+        |t| bare(counted::squeeze(t, capacity)),
+        |plan| bare(plan.squeeze(capacity)),
+        |t| bare(tuned::squeeze(t, capacity)),
+    );
 }
 
 /// What holds the first step of a chain beside the link that is cleared, and what stands in the exits that the chain leaves empty.
@@ -382,7 +434,7 @@ enum Chain {
     Dense,
 }
 
-/// A full table whose 127 steps stand in one chain in this order, from exit 0 to exit 0.
+/// A table whose steps stand in one chain in this order, from exit 0 to exit 0.
 fn chain(order: impl IntoIterator<Item = u16>, how: Chain) -> Table {
     let mut table = kept(&fresh(128));
     let mut exit = 0;
@@ -396,14 +448,16 @@ fn chain(order: impl IntoIterator<Item = u16>, how: Chain) -> Table {
         (table.targets[1], table.bits[1]) = (table.targets[0], 1);
     }
     if matches!(how, Chain::Dense) {
-        for place in (4..512).filter(|place| place % 4 != 0) {
-            let target = 1 + (place / 4 * 37 + place % 4 * 41) % 127;
+        let used = table.used;
+        let steps: Vec<usize> = (1..128).filter(|&step| used[step] == 1).collect();
+        for place in (4..512).filter(|place| place % 4 != 0 && used[place / 4] == 1) {
+            let target = steps[(place / 4 * 37 + place % 4 * 41) % steps.len()];
             (table.targets[place], table.bits[place]) = (target as u16, 1);
         }
     }
     table.counts = table.counted();
     let table = lend(&table);
-    assert!(verdict(&table) && raw::counts(&table).first == 128);
+    assert!(verdict(&table));
     table
 }
 
@@ -473,6 +527,11 @@ fn main() {
     }
     println!("The worst order is 1, 127, 2, 126 and so on. Freeing 127 steps takes (a) {:.2} times its soundness test.\n", clearing.median() / test.median());
 
+    head("Copying a table and squeezing it", &programs);
+    squeeze_row("64 of 128 steps in use, spread", &chain((2..128).step_by(2), Chain::Dense));
+    squeeze_row("128 in use, none moved", &taken_back[3].1);
+    println!();
+
     keys::print();
 
     let held = &taken_back[0].1;
@@ -497,6 +556,20 @@ mod tests {
     fn verdicts_agree() {
         let (sound, unsound) = verdicts();
         assert!(sound > 10_000 && unsound > 50_000, "{sound} sound, {unsound} not");
+    }
+
+    /// Squeezes of generated tables, into every capacity around what they need.
+    #[test]
+    fn squeezes_agree() {
+        let mut accepted = 0;
+        for seed in 0..300 {
+            let table = lend(&Random(seed).sound_table());
+            let needed = raw::counts(&table).first;
+            for capacity in [0, needed - 1, needed, needed + 1, table.capacity, 128, 129, 65535] {
+                accepted += usize::from(squeeze(&table, capacity).is_ok());
+            }
+        }
+        assert!(accepted > 1000, "{accepted}");
     }
 
     /// Every chain that is timed, cleared once by all four.

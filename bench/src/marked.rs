@@ -117,4 +117,31 @@ impl Plan {
         self.used = marked;
         Ok(freed)
     }
+
+    #[inline(never)]
+    pub fn squeeze(&mut self, capacity: u16) -> Result<(), u16> {
+        if !(1..=128).contains(&capacity) {
+            return Err(2);
+        }
+        let size = self.used.count_ones() as u16;
+        if capacity < size {
+            return Err(13);
+        }
+        let mut numbers = [0u8; 128];
+        let mut rest = self.used;
+        for number in 0..usize::from(size) {
+            let step = rest.trailing_zeros() as usize;
+            rest &= rest - 1;
+            numbers[step] = number as u8;
+            self.kinds[number] = self.kinds[step];
+            self.contents[number] = self.contents[step];
+            self.targets[number] = self.targets[step];
+        }
+        for target in self.targets[..usize::from(size)].as_flattened_mut() {
+            *target = numbers[usize::from(*target)];
+        }
+        self.used = u128::MAX >> (128 - size);
+        (self.capacity, self.last) = (capacity, size - 1);
+        Ok(())
+    }
 }

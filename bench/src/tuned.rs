@@ -3,6 +3,7 @@
 
 #![forbid(unsafe_code)]
 
+use crate::counted::only_below;
 use telephone::raw::Table;
 
 const PLACES: usize = 128;
@@ -210,6 +211,52 @@ pub fn clear(t: &mut Table, step: u16, exit: u16) -> Result<(u16, u16), u16> {
     let lost = take_back(t, doubtful, held);
     free(t, lost);
     Ok((doubtful.count_ones() as u16, lost.count_ones() as u16))
+}
+
+#[inline(never)]
+pub fn squeeze(t: &mut Table, capacity: u16) -> Result<(), u16> {
+    if !sound(t) {
+        return Err(1);
+    }
+    if !(1..=PLACES).contains(&usize::from(capacity)) {
+        return Err(2);
+    }
+    let size: u16 = t.used.iter().sum();
+    if capacity < size {
+        return Err(13);
+    }
+    (t.capacity, t.last) = (capacity, size - 1);
+    let size = usize::from(size);
+    if t.used[..size].iter().all(|&used| used == 1) {
+        return Ok(());
+    }
+    // The new number of each step, and the step that gets each number.
+    let (mut numbers, mut steps) = ([0u16; PLACES], [0u8; PLACES]);
+    let mut number = 0;
+    for (step, used) in t.used.into_iter().enumerate() {
+        numbers[step] = number;
+        steps[usize::from(number) % PLACES] = step as u8;
+        number += used;
+    }
+    for (to, &step) in steps[..size].iter().enumerate() {
+        let from = usize::from(step) % PLACES;
+        (t.kinds[to], t.contents[to], t.own[to]) = (t.kinds[from], t.contents[from], t.own[from]);
+        move_fields::<EXITS>(&mut t.targets, from, to);
+        move_fields::<EXITS>(&mut t.bits, from, to);
+        move_fields::<2>(&mut t.counts, from, to);
+    }
+    for target in &mut t.targets[..size * EXITS] {
+        *target = numbers[usize::from(*target) % PLACES];
+    }
+    only_below(t, size);
+    Ok(())
+}
+
+/// Moves the fields of a step to another, where each step has so many.
+#[inline(always)]
+fn move_fields<const N: usize>(fields: &mut [u16], from: usize, to: usize) {
+    let (all, _) = fields.as_chunks_mut::<N>();
+    all[to] = all[from];
 }
 
 /// The set of one step.

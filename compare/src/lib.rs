@@ -104,6 +104,7 @@ pub fn call(table: &mut raw::Table, call: &Call) -> Outcome {
         }
         Call::Edit(Command::Clear { step, exit }) => two(raw::clear(table, *step, *exit)),
         Call::Edit(Command::Count) => two(raw::counts(table)),
+        Call::Squeeze { capacity } => two(raw::squeeze(table, *capacity)),
         Call::KeyLine(line) => two(with_bytes(line, |line| raw::key_line(table, line))),
         Call::Write { buffer } => {
             let (reply, lent) = with_buffer(*buffer, |bytes| raw::write_image(table, bytes));

@@ -13,8 +13,8 @@ use std::collections::BTreeSet;
 /// Sorts of calls that differed, each with all that differed in one call.
 type Found = BTreeSet<(Sort, Vec<Evidence>)>;
 
-/// Calls on tables: those of made-up histories, half of them by key lines, each sort on a table that is not sound, and some with lengths past 8 and
-/// 16 bits.
+/// Calls on tables: those of made-up histories, half of them by key lines, each sort on a table that is not sound, a key line with two refusals, and
+/// some calls with lengths past 8 and 16 bits.
 fn cases() -> Vec<(Table, Call)> {
     let mut cases = Vec::new();
     for seed in 0..32 {
@@ -40,6 +40,7 @@ fn cases() -> Vec<(Table, Call)> {
         Call::Edit(Command::Link { source: 0, source_exit: 0, second: 0, second_exit: 2 }),
         Call::Edit(Command::Clear { step: 0, exit: 0 }),
         Call::Edit(Command::Count),
+        Call::Squeeze { capacity: 128 },
         Call::Read { step: 0 },
         Call::Trial { results: vec![0, 1], trace: 4 },
         Call::Write { buffer: 2570 },
@@ -48,6 +49,8 @@ fn cases() -> Vec<(Table, Call)> {
     ];
     cases.extend(each.map(|call| (unsound.clone(), call)));
     let ring = ring(5);
+    let refused = Command::Add { holder: 0, exit: 0, kind: 0, content: 0 };
+    cases.push((ring.clone(), Call::KeyLine(key_text(refused))));
     for length in [300, 70_000] {
         cases.push((ring.clone(), Call::Trial { results: rounds(5, length), trace: length }));
     }
@@ -84,7 +87,7 @@ fn found(fault: Fault, starts: &[Start], cases: &[(Table, Call)]) -> Found {
 fn named() -> Vec<(Fault, Vec<Sort>, Vec<Vec<Evidence>>)> {
     use Evidence::*;
     use Fault::*;
-    use Sort::{Add, Clear, Count, KeyLine, Link, Read, Trial, Write};
+    use Sort::{Add, Clear, Count, KeyLine, Link, Read, Squeeze, Trial, Write};
     vec![
         (CopyKeepsStrength, vec![Link, KeyLine], vec![vec![Table]]),
         (CounterOffByOne, vec![Link, KeyLine], vec![vec![Table]]),
@@ -96,6 +99,13 @@ fn named() -> Vec<(Fault, Vec<Sort>, Vec<Vec<Evidence>>)> {
             vec![vec![Number(0), Table], vec![Number(0), Number(1), Table]],
         ),
         (SwappedRefusals, vec![Add, KeyLine], vec![vec![Refusal]]),
+        (FitBeforeRange, vec![Squeeze], vec![vec![Refusal]]),
+        (OrderReversed, vec![Squeeze], vec![vec![Table]]),
+        (TargetsStay, vec![Squeeze], vec![vec![Table]]),
+        (OwnBitsStay, vec![Squeeze], vec![vec![Table]]),
+        (CountersStay, vec![Squeeze], vec![vec![Table]]),
+        (RecordsStay, vec![Squeeze], vec![vec![Table]]),
+        (LastStays, vec![Squeeze], vec![vec![Table]]),
         (DoubtfulSaidFreed, vec![Clear], vec![vec![Number(1)]]),
         (CountsExchanged, vec![Count], vec![vec![Number(0), Number(1)]]),
         (CountersExchanged, vec![Read], vec![vec![Number(11), Number(12)]]),

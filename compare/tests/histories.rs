@@ -12,11 +12,13 @@ use reference::table::Table;
 /// What a run of calls came across, so that a test can say that it covered what it should.
 #[derive(Default)]
 struct Seen {
-    refusals: [usize; 13],
+    refusals: [usize; 14],
     full: usize,
     freed: usize,
     kept: usize,
     refilled: usize,
+    squeezed: usize,
+    renumbered: usize,
 }
 
 impl Seen {
@@ -58,7 +60,12 @@ fn history(seed: u64, start: &Table, calls: usize, seen: &mut Seen) -> Result<()
     let mut generator = Generator::new(seed);
     for _ in 0..calls {
         let call = generator.call(&plan_of(&pair.second));
+        let used = pair.second.used;
         let outcome = pair.call(&call).map_err(|what| format!("seed {seed}: {what:?}"))?;
+        if outcome.refusal == 0 && matches!(call, Call::Squeeze { .. }) {
+            seen.squeezed += 1;
+            seen.renumbered += usize::from(pair.second.used != used);
+        }
         let clear = matches!(call, Call::Edit(reference::calls::Command::Clear { .. }));
         seen.note(outcome.refusal, &outcome.numbers, clear, &pair.second);
     }
@@ -95,7 +102,8 @@ fn histories_agree() {
         let start = Random(seed).sound_table();
         history(seed, &start, 150, &mut seen).unwrap();
     }
-    for refusal in [0, 3, 4, 5, 6, 7, 8, 9, 10, 11] {
+    assert!(seen.squeezed > 300 && seen.renumbered > 100, "squeezes gave new numbers");
+    for refusal in [0, 2, 3, 4, 5, 6, 7, 8, 9, 10, 11, 13] {
         assert!(seen.refusals[refusal] > 0, "refusal {refusal} came up");
     }
 }

@@ -2,7 +2,7 @@
 
 use compare::lend;
 use compare::stack::depth;
-use reference::calls::{add, fresh, link};
+use reference::calls::{add, clear, fresh, link};
 use reference::table::Table;
 use std::hint::black_box;
 use telephone::{raw, Exit, Kind};
@@ -23,6 +23,19 @@ fn chain(steps: u16, exit: u16) -> Table {
 fn held(exit: u16) -> Table {
     let mut table = chain(127, exit);
     assert_eq!(link(&mut table, 0, exit, 0, (exit + 1) % 4).refusal, 0);
+    table
+}
+
+/// A chain of 126 steps above a free place, so that a squeeze moves each of them.
+fn gap(exit: u16) -> Table {
+    let (mut table, _) = fresh(128);
+    let other = (exit + 1) % 4;
+    assert_eq!(add(&mut table, 0, other, 1, 0).first, 1);
+    for step in 1..127 {
+        let holder = if step == 1 { 0 } else { step };
+        assert_eq!(add(&mut table, holder, exit, 1, 0).first, step + 1);
+    }
+    assert_eq!(clear(&mut table, 0, other).second, 1);
     table
 }
 
@@ -51,7 +64,7 @@ fn taken(
 
 /// Every call on chains along an exit.
 fn calls(exit: u16) -> Vec<(&'static str, usize)> {
-    let (chain, open, held) = (chain(127, exit), chain(126, exit), held(exit));
+    let (chain, open, held, gap) = (chain(127, exit), chain(126, exit), held(exit), gap(exit));
     let mut unsound = chain.clone();
     unsound.counts[255] += 1;
     let image = image_of(&chain);
@@ -74,6 +87,9 @@ fn calls(exit: u16) -> Vec<(&'static str, usize)> {
         taken("link", &chain, 0, |t| raw::link(t, 0, exit, 127, exit).refusal),
         taken("clear, 127 freed", &chain, 127, |t| raw::clear(t, 0, exit).second),
         taken("clear, 127 taken back", &held, 127, |t| raw::clear(t, 0, exit).first),
+        taken("squeeze, 126 moved", &gap, 0, |t| raw::squeeze(t, 127).refusal),
+        taken("squeeze, none moved", &chain, 0, |t| raw::squeeze(t, 128).refusal),
+        taken("squeeze, refused", &chain, 13, |t| raw::squeeze(t, 127).refusal),
         taken("trial", &chain, 127, |t| raw::trial(t, &results, &mut trace).last),
         taken("write image", &chain, 2570, |t| raw::write_image(t, &mut buffer).length),
         taken("load image", &open, 0, |t| raw::load_image(t, &image).refusal),

@@ -120,6 +120,7 @@ fn every_call(table: &Table, random: &mut Random) {
         Call::Write { buffer: 2600 },
         Call::ImageLength,
         Call::Edit(Command::Count),
+        Call::Squeeze { capacity: table.size() },
         Call::KeyLine(b"H*4A".to_vec()),
     ];
     for _ in 0..3 {
@@ -130,6 +131,7 @@ fn every_call(table: &Table, random: &mut Random) {
             link(a, b % 6, c, d % 6),
             clear(a, b % 6),
             Call::Read { step: a },
+            Call::Squeeze { capacity: a },
         ]);
         calls.push(Call::KeyLine(key_text(Command::Clear { step: a % 1000, exit: b % 10 })));
         calls.push(Call::Trial {
@@ -215,18 +217,7 @@ fn trials_agree() {
     for seed in 0..300 {
         let table = Random(seed).sound_table();
         let length = random.below(40);
-        let mut results: Vec<u8> = Vec::new();
-        let mut step = 0;
-        for _ in 0..length {
-            let filled = (0..4).filter(|&exit| table.target(step, exit) != 0).collect::<Vec<u16>>();
-            let exit = if filled.is_empty() || random.once_in(12) {
-                random.below(4) as u16
-            } else {
-                random.pick(&filled)
-            };
-            results.push(exit as u8);
-            step = table.target(step, exit);
-        }
+        let mut results = random.results(&table, length);
         for trace in [length.saturating_sub(1), length, length + 1, length + 30] {
             let call = Call::Trial { results: results.clone(), trace };
             let outcome = Pair::new(&table, Fault::None).call(&call).unwrap();

@@ -1,11 +1,11 @@
-//! The calls on a table but images and key lines; refusals are ordered lists of conditions.
-//! Edits take a `Fault`, so that wrong variants can be run against the right one.
+//! The calls on a table but squeezes, images and key lines; refusals are ordered lists of
+//! conditions. Edits take a `Fault`, so that wrong variants can be run against the right one.
 //! Renders "Calls" and "Reasons for no" of document 01.
 
 use crate::clearing;
 use crate::faults::Fault;
-use crate::sound::{fits, sound};
-use crate::table::{place, Table, EXITS, PLACES};
+use crate::sound::{capacity_fits, fits, sound};
+use crate::table::{place, Table, EXITS};
 
 /// An answer: the refusal or 0, then two numbers.
 #[derive(Clone, Copy, PartialEq, Eq, Debug, Default)]
@@ -55,7 +55,7 @@ pub enum Command {
 
 /// A fresh table; of capacity 1 where the capacity is refused.
 pub fn fresh(capacity: u16) -> (Table, Answer) {
-    let accepted = (1..=PLACES).contains(&usize::from(capacity));
+    let accepted = capacity_fits(capacity);
     let mut table = Table::zero();
     table.capacity = if accepted { capacity } else { 1 };
     table.used[0] = 1;

@@ -1,6 +1,6 @@
 //! Deliberate errors, so that wrong variants can be run against the right one.
-//! The first six are other ways to edit and stand in `calls` and `clearing`. Each of the rest
-//! spoils what a right call gives, in one part of it.
+//! The first six are other ways to edit and stand in `calls` and `clearing`, the next seven are
+//! other ways to squeeze. Each of the rest spoils what a right call gives, in one part of it.
 
 use crate::calls::Command;
 use crate::history::{Call, Outcome, Start};
@@ -24,6 +24,20 @@ pub enum Fault {
     HighestFirst,
     /// A freed step keeps its bit.
     FreedKeepsBit,
+    /// A squeeze looks at the steps in use before the range of the capacity.
+    FitBeforeRange,
+    /// A squeeze numbers all steps but step 0 from the highest down.
+    OrderReversed,
+    /// A squeeze leaves the targets as they were.
+    TargetsStay,
+    /// A squeeze leaves the steps' own bits at the old numbers.
+    OwnBitsStay,
+    /// A squeeze leaves the counters at the old numbers.
+    CountersStay,
+    /// A squeeze leaves the records past the last step.
+    RecordsStay,
+    /// A squeeze leaves the last number given.
+    LastStays,
     /// Clearing says that all doubtful steps were freed.
     DoubtfulSaidFreed,
     /// A count gives the free steps first.
@@ -62,6 +76,7 @@ pub enum Sort {
     Add,
     Link,
     Clear,
+    Squeeze,
     Count,
     Read,
     Trial,
@@ -83,12 +98,13 @@ pub enum Part {
 }
 
 impl Sort {
-    pub const ALL: [Sort; 11] = [
+    pub const ALL: [Sort; 12] = [
         Sort::Fresh,
         Sort::Load,
         Sort::Add,
         Sort::Link,
         Sort::Clear,
+        Sort::Squeeze,
         Sort::Count,
         Sort::Read,
         Sort::Trial,
@@ -103,6 +119,7 @@ impl Sort {
             Call::Edit(Command::Link { .. }) => Sort::Link,
             Call::Edit(Command::Clear { .. }) => Sort::Clear,
             Call::Edit(Command::Count) => Sort::Count,
+            Call::Squeeze { .. } => Sort::Squeeze,
             Call::Read { .. } => Sort::Read,
             Call::Trial { .. } => Sort::Trial,
             Call::Write { .. } => Sort::Write,
@@ -187,7 +204,7 @@ pub fn spoil(fault: Fault, sort: Sort, table: &mut Table, outcome: &mut Outcome)
                 _ => outcome.numbers[0],
             };
             match part {
-                Part::Refusal => outcome.refusal = outcome.refusal % 12 + 1,
+                Part::Refusal => outcome.refusal = outcome.refusal % 13 + 1,
                 Part::Number(i) => outcome.numbers[i] += 1,
                 Part::Written if written > 0 => outcome.lent[written - 1] ^= 1,
                 Part::Unwritten if written < outcome.lent.len() => outcome.lent[written] ^= 1,

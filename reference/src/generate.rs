@@ -12,10 +12,10 @@ use crate::table::{place, Table, EXITS, PLACES};
 const ODD: [u16; 18] =
     [0, 1, 2, 3, 4, 5, 15, 16, 99, 100, 127, 128, 255, 256, 257, 600, 601, 65535];
 
-/// Phases of a history: fill, make rings, clear, mix. Each lists add, link, clear and other calls
-/// by a letter, as often as it has them.
+/// Phases of a history: fill, make rings, clear, mix. Each lists add, link, clear, squeeze and
+/// other calls by a letter, as often as it has them.
 const PHASES: [&[u8]; 4] =
-    [b"aaaaaaaaaallco", b"aalllllllllcco", b"allccccccccco", b"aaalllcccooooo"];
+    [b"aaaaaaaaaallcsoo", b"aalllllllllccsoo", b"allcccccccccsoo", b"aaalllcccsooooo"];
 
 /// Splitmix64.
 pub struct Random(pub u64);
@@ -70,6 +70,15 @@ impl Random {
         self.pick(&[length, length.saturating_sub(1), more])
     }
 
+    /// A capacity to squeeze a plan into: what it needs, one less, a few more, what it has, the
+    /// largest, one out of range, or an odd number. The largest comes up most, so that plans grow.
+    fn capacity(&mut self, plan: &Plan) -> u16 {
+        let needed = plan.steps.len() as u16;
+        let more = needed + self.below(8) as u16;
+        let odd = self.pick(&ODD);
+        self.pick(&[needed, needed - 1, more, plan.capacity, 128, 128, 0, 129, odd])
+    }
+
     /// A step and an exit: mostly one of the plan that is filled, or empty, as asked for.
     fn place(&mut self, plan: &Plan, filled: bool) -> (u16, u16) {
         let any = self.once_in(16);
@@ -88,6 +97,22 @@ impl Random {
         self.maybe_odd(&mut step);
         self.maybe_odd(&mut exit);
         (step, exit)
+    }
+
+    /// So many line results that mostly follow the links of a table.
+    pub fn results(&mut self, table: &Table, length: usize) -> Vec<u8> {
+        let mut step = 0;
+        let result = |_| {
+            let filled = (0..4).filter(|&exit| table.target(step, exit) != 0).collect::<Vec<u16>>();
+            let exit = if filled.is_empty() || self.once_in(12) {
+                self.below(4) as u16
+            } else {
+                self.pick(&filled)
+            };
+            step = table.target(step, exit);
+            exit as u8
+        };
+        (0..length).map(result).collect()
     }
 
     /// A sound table with any strengths. Its steps come in some order; each has a strong link
@@ -170,6 +195,7 @@ impl Generator {
         }
         self.left -= 1;
         match self.random.pick(self.phase) {
+            b's' => Call::Squeeze { capacity: self.random.capacity(plan) },
             b'o' => self.other(plan),
             letter => Call::Edit(self.command(plan, letter)),
         }

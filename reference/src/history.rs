@@ -1,10 +1,11 @@
 //! The calls of a history as values, run on a table, and the comparison with the plain plan.
-//! Renders "A history is a list" and demand 3's list of what has to agree.
+//! Renders "A history is a list", W2's squeeze in it, and demand 3's list of what has to agree.
 
 use crate::calls::{edit, fresh, read, trial, Answer, Command};
 use crate::faults::{cut, spoil, Fault, Length, Sort};
 use crate::image::{length, load, write};
 use crate::keys::key_line_with;
+use crate::squeeze::squeeze_with;
 use crate::table::Table;
 
 /// A call of a history. A lent trace or buffer stands in it as its length. A count that is no key
@@ -12,6 +13,7 @@ use crate::table::Table;
 #[derive(Clone, PartialEq, Eq, Debug)]
 pub enum Call {
     Edit(Command),
+    Squeeze { capacity: u16 },
     Read { step: u16 },
     Trial { results: Vec<u8>, trace: usize },
     Write { buffer: usize },
@@ -52,6 +54,7 @@ pub fn begin(start: &Start, fault: Fault) -> (Table, Outcome) {
 pub fn run(table: &mut Table, call: &Call, fault: Fault) -> Outcome {
     let mut outcome = match call {
         Call::Edit(command) => plain(edit(table, *command, fault), Vec::new()),
+        Call::Squeeze { capacity } => plain(squeeze_with(table, *capacity, fault), Vec::new()),
         Call::KeyLine(line) => {
             let line = &line[..cut(fault, Length::Line, line.len())];
             plain(key_line_with(table, line, fault), Vec::new())

@@ -1,8 +1,8 @@
 //! The call plan table of document 01, written a second time to compare with the product.
 //! Reach is marked afresh and counters are recounted from the links; no search works on counters.
-//! `table`, `sound`, `calls`, `clearing`, `image` and `keys` keep a table; `plan` draws the plain
-//! plan; `history` runs calls given as values; `generate` makes up calls, key lines and tables;
-//! `faults` has deliberate errors.
+//! `table`, `sound`, `calls`, `clearing`, `squeeze`, `image` and `keys` keep a table; `plan` draws
+//! the plain plan; `history` runs calls given as values; `generate` makes up calls, key lines and
+//! tables; `faults` has deliberate errors; `laws` has what every squeeze has to keep.
 
 pub mod calls;
 pub mod clearing;
@@ -11,6 +11,8 @@ pub mod generate;
 pub mod history;
 pub mod image;
 pub mod keys;
+pub mod laws;
 pub mod plan;
 pub mod sound;
+pub mod squeeze;
 pub mod table;

@@ -1,6 +1,6 @@
 //! The plain plan, drawn from the calls' arguments alone, and the plain plan of a table.
 //! It has no bits and counters; after a clearing, what step 0 reaches is marked.
-//! Renders "The plain plan of a table" of document 01.
+//! Renders "The plain plan of a table" of document 01, and W2's squeeze of it.
 
 use std::collections::{BTreeMap, BTreeSet};
 
@@ -8,7 +8,7 @@ use crate::calls::Command;
 use crate::history::Call;
 use crate::image::{fields, HEADER, RECORD};
 use crate::keys::decode;
-use crate::sound::fits;
+use crate::sound::{capacity_fits, fits};
 use crate::table::{members, place, Table};
 
 /// A step of the plan; target 0 is an empty exit.
@@ -48,7 +48,7 @@ impl Plan {
     /// The plan of a fresh table; of capacity 1 where the capacity is refused.
     pub fn fresh(capacity: u16) -> Plan {
         Plan {
-            capacity: if (1..=128).contains(&capacity) { capacity } else { 1 },
+            capacity: if capacity_fits(capacity) { capacity } else { 1 },
             last: 0,
             steps: BTreeMap::from([(0, PlanStep::default())]),
         }
@@ -70,6 +70,13 @@ impl Plan {
         match call {
             Call::Edit(command) => self.draw_command(*command),
             Call::KeyLine(line) => self.draw_command(decode(line).ok_or(9u16)?),
+            Call::Squeeze { capacity } => {
+                refuse_if(!capacity_fits(*capacity), 2)?;
+                refuse_if(usize::from(*capacity) < self.steps.len(), 13)?;
+                self.renumber();
+                self.capacity = *capacity;
+                Ok([Some(0), Some(0)])
+            }
             Call::Read { step } => self.step(*step).map(|_| [None, None]),
             Call::Trial { results, trace } => {
                 refuse_if(results.iter().any(|&result| result > 3), 10)?;
@@ -118,6 +125,17 @@ impl Plan {
                 Ok([Some(size), Some(self.capacity - size)])
             }
         }
+    }
+
+    /// Numbers the steps from 0 upward in their order; every target follows, and an empty one stays
+    /// 0 as step 0 does. The last number given is the highest.
+    fn renumber(&mut self) {
+        let numbers: BTreeMap<u16, u16> = self.steps.keys().copied().zip(0..).collect();
+        let steps = std::mem::take(&mut self.steps)
+            .into_values()
+            .map(|step| PlanStep { targets: step.targets.map(|target| numbers[&target]), ..step });
+        self.steps = (0..).zip(steps).collect();
+        self.last = self.steps.len() as u16 - 1;
     }
 
     fn image_length(&self) -> usize {

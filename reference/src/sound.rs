@@ -12,6 +12,11 @@ pub fn sound(table: &Table) -> bool {
         && strengths_right(table)
 }
 
+/// Whether a table may have this capacity.
+pub fn capacity_fits(capacity: u16) -> bool {
+    (1..=PLACES).contains(&usize::from(capacity))
+}
+
 /// Whether a step that can be added may have this kind and content.
 pub fn fits(kind: u16, content: u16) -> bool {
     match kind {
@@ -24,11 +29,10 @@ pub fn fits(kind: u16, content: u16) -> bool {
 
 /// The capacity, the last number given, and no step in use at or above the capacity.
 fn numbers_in_range(table: &Table) -> bool {
-    let capacity = usize::from(table.capacity);
-    (1..=PLACES).contains(&capacity)
+    capacity_fits(table.capacity)
         && table.last < table.capacity
         && table.used.iter().all(|&used| used <= 1)
-        && table.used[capacity..].iter().all(|&used| used == 0)
+        && table.used[table.capacity.into()..].iter().all(|&used| used == 0)
 }
 
 /// Step 0 is in use and the alarm; every other step in use has a kind and content that fit.

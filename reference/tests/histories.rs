@@ -63,6 +63,8 @@ struct Seen {
     some_freed: u32,
     all_kept: u32,
     full_128: u32,
+    squeezed: u32,
+    renumbered: u32,
 }
 
 /// Runs one call on table and plan and compares all that has to agree.
@@ -84,6 +86,9 @@ fn check(table: &mut Table, plan: &mut Plan, call: &Call, seen: &mut Seen) {
         seen.all_freed += u32::from(freed > 0 && freed == doubtful);
         seen.some_freed += u32::from(freed > 0 && freed < doubtful);
         seen.all_kept += u32::from(freed == 0 && doubtful > 0);
+    } else if matches!(call, Call::Squeeze { .. }) {
+        seen.squeezed += 1;
+        seen.renumbered += u32::from(table.used != before.used);
     }
     seen.refusals.insert(outcome.refusal);
     seen.full_128 += u32::from(table.size() == 128);
@@ -101,9 +106,9 @@ fn histories_agree_with_the_plan() {
             check(&mut table, &mut plan, &call, &mut seen);
         }
     }
-    assert_eq!(seen.refusals, BTreeSet::from([0, 3, 4, 5, 6, 7, 8, 9, 10, 11]));
+    assert_eq!(seen.refusals, BTreeSet::from([0, 2, 3, 4, 5, 6, 7, 8, 9, 10, 11, 13]));
     assert!(seen.all_freed > 100 && seen.some_freed > 100 && seen.all_kept > 100);
-    assert!(seen.full_128 > 100);
+    assert!(seen.full_128 > 100 && seen.squeezed > 1000 && seen.renumbered > 500);
 }
 
 /// The first call after which a variant differs from the right one, in the table or the outcome.
@@ -129,6 +134,13 @@ fn every_fault_is_found() {
         Fault::SwappedRefusals,
         Fault::HighestFirst,
         Fault::FreedKeepsBit,
+        Fault::FitBeforeRange,
+        Fault::OrderReversed,
+        Fault::TargetsStay,
+        Fault::OwnBitsStay,
+        Fault::CountersStay,
+        Fault::RecordsStay,
+        Fault::LastStays,
         Fault::DoubtfulSaidFreed,
         Fault::CountsExchanged,
         Fault::CountersExchanged,

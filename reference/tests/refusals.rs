@@ -1,11 +1,12 @@
-//! Each row of "Reasons for no" with its example, each call's order of refusals, and numbers
-//! that would wrap. A refused call changes neither table nor buffer.
+//! Each row of "Reasons for no" with its example, W2's 13, each call's order of refusals, and
+//! numbers that would wrap. A refused call changes neither table nor buffer.
 
 use reference::calls::{
     add, clear, counts, fresh, link, read, trial, Answer, ReadAnswer, TrialAnswer,
 };
 use reference::image::{length, load, write};
 use reference::keys::key_line;
+use reference::squeeze::squeeze;
 use reference::table::Table;
 
 fn f4() -> Table {
@@ -60,6 +61,7 @@ fn examples_of_the_table() {
     refuses(1, &unsound, |t| add(t, 9, 9, 9, 9));
     refuses(1, &unsound, |t| link(t, 9, 9, 9, 9));
     refuses(1, &unsound, |t| clear(t, 9, 9));
+    refuses(1, &unsound, |t| squeeze(t, 0));
     refuses(1, &unsound, |t| key_line(t, b"H*5A"));
     refuses(1, &unsound, |t| key_line(t, b"H*4A"));
     assert_eq!((counts(&unsound), length(&unsound)), (no(1), no(1)));
@@ -91,6 +93,8 @@ fn examples_of_the_table() {
     trial_refuses(11, &f4(), &[0, 0], 1);
     // 12
     assert_eq!(load(&[]), (fresh(1).0, no(12)));
+    // 13
+    refuses(13, &added, |t| squeeze(t, 1));
 }
 
 #[test]
@@ -101,6 +105,7 @@ fn capacities() {
     }
     for capacity in [0, 129, 256, 257, 65535] {
         assert_eq!(fresh(capacity), (fresh(1).0, no(2)));
+        refuses(2, &full(), |t| squeeze(t, capacity));
     }
 }
 
@@ -143,6 +148,10 @@ fn the_orders_of_the_other_calls() {
     refuses(3, &table, |t| clear(t, 2, 4));
     refuses(4, &table, |t| clear(t, 0, 4));
     refuses(6, &table, |t| clear(t, 0, 1));
+    // Capacity 0 is also below the steps in use.
+    refuses(2, &table, |t| squeeze(t, 0));
+    refuses(13, &table, |t| squeeze(t, 1));
+    assert_eq!(squeeze(&mut table.clone(), 2), no(0));
     // A result above 3 counts even where the trial would end before it, and so does the trace.
     trial_refuses(10, &table, &[1, 1, 4], 0);
     trial_refuses(10, &table, &[255], 1);

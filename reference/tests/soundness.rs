@@ -112,6 +112,7 @@ fn calls() -> Vec<Call> {
         Call::Edit(Command::Add { holder: 0, exit: 3, kind: 1, content: 0 }),
         Call::Edit(Command::Link { source: 0, source_exit: 0, second: 0, second_exit: 2 }),
         Call::Edit(Command::Clear { step: 0, exit: 0 }),
+        Call::Squeeze { capacity: 128 },
         Call::Read { step: 0 },
         Call::Trial { results: vec![0, 1, 2, 3], trace: 4 },
         Call::Write { buffer: 2570 },

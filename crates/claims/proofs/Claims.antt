@@ -4,6 +4,7 @@
 --   demand-3 history-*        every history
 --   demand-2-* trial-demand   every accepted call
 --   written-equal loaded-equal   one table, one image (W1)
+--   squeeze-*                 an accepted squeeze, and what its table does (W2)
 --   examples-shown ..         P1 to P10, each refusal of each call, key lines byte by byte, a table for each clause of soundness
 --   keys-demand keys-blocks   the program `keys`
 --   words-table table-words   the table in memory
@@ -17,14 +18,15 @@ use Rattle.table.specs.Table.{Table, places, counters, inUse, counterOf, linksT
 use Rattle.table.specs.Sound.{Sound, sound, Shape}
 use Rattle.table.specs.Calls.{addRefusal, addCall, linkRefusal, linkCall, trialRefusal, trialCall}
 use Rattle.table.specs.Clear.{clearRefusal, clearCall}
+use Rattle.table.specs.Squeeze.{newNumber, squeezeRefusal, squeezeCall, ClearsAlike}
 use Rattle.table.specs.Plan.{planOf}
 use Rattle.table.proofs.Sound as Soundness
 use Rattle.image.specs.Image.{imageLength, writeCall, accepted, loadCall, Bytes}
 use Rattle.keyline.specs.Keys.{spokenCounts}
 use Rattle.history.specs.History.{First, Call, tableAfter, heardBy, planAfter, drawnBy, firstRefusal, planFirstRefusal, firstTable, firstPlan}
 use Rattle.history.specs.Acts.{Act}
-use Rattle.history.specs.Demands.{Demand1, Demand3, AddDemand, LinkDemand, ClearDemand, CountDemand, WriteDemand, EqualDemand, LoadDemand, SameTableDemand}
-use Rattle.table.specs.Trial.{TrialDemand}
+use Rattle.history.specs.Demands.{Demand1, Demand3, AddDemand, LinkDemand, ClearDemand, CountDemand, SqueezeDemand, TwiceDemand, WriteDemand, EqualDemand, LoadDemand, SameTableDemand}
+use Rattle.table.specs.Trial.{TrialDemand, underNumbers}
 use Rattle.history.proofs.Demand1 as Refusals
 use Rattle.history.proofs.Demand2
 use Rattle.table.proofs.Trials
@@ -61,6 +63,8 @@ use Rattle.telephone.proofs.plan_counts.Statement as counts-contract
 use Rattle.telephone.proofs.plan_counts.Met as counts-met
 use Rattle.telephone.proofs.plan_image_length.Statement as image-length-contract
 use Rattle.telephone.proofs.plan_image_length.Met as image-length-met
+use Rattle.telephone.proofs.plan_squeeze.Statement as squeeze-contract
+use Rattle.telephone.proofs.plan_squeeze.Met as squeeze-met
 use Rattle.telephone.proofs.plan_edition.Statement as edition-contract
 use Rattle.telephone.proofs.plan_edition.Met as edition-met
 
@@ -138,6 +142,23 @@ written-equal = Demand2.equal-demand
 pub loaded-equal : (bs cs : List ℕ) → Bytes bs → Bytes cs → accepted bs ≡ true → accepted cs ≡ true → SameTableDemand bs cs (loadCall bs) (loadCall cs)
 loaded-equal = Demand2.same-table-demand
 
+-- W2: an accepted squeeze of a sound table, and a second one
+pub squeeze-demand : (t : Table) → Sound t → (c : ℕ) → squeezeRefusal t c ≡ 0 → SqueezeDemand t c (squeezeCall t c)
+squeeze-demand = Demand2.squeeze-demand
+
+pub squeeze-twice : (t : Table) → Sound t → (c : ℕ) → squeezeRefusal t c ≡ 0 → (d : ℕ) → TwiceDemand t d (squeezeCall (squeezeCall t c .table) d)
+squeeze-twice = Demand2.twice-demand
+
+-- "Trials of the old and the squeezed table end alike, under the renumbering": whatever the results and the trace, refused ones too
+pub squeeze-trials : (t : Table) → Sound t → (c : ℕ) → squeezeRefusal t c ≡ 0 → (results trace : List ℕ) →
+    trialCall (squeezeCall t c .table) results trace ≡ underNumbers (newNumber t) (trialCall t results trace)
+squeeze-trials = Demand2.squeezed-trial
+
+-- and so do clearings: the same two counts, and the same steps stay
+pub squeeze-clears : (t : Table) → Sound t → (c : ℕ) → squeezeRefusal t c ≡ 0 → (i e : ℕ) → inUse t i ≡ true →
+    ClearsAlike t (clearCall t i e) (clearCall (squeezeCall t c .table) (newNumber t i) e)
+squeeze-clears = Demand2.squeezed-clear
+
 -- A trial that is not refused: its moves, and what it writes.
 pub trial-demand : (t : Table) (results trace : List ℕ) → trialRefusal t results trace ≡ 0 → TrialDemand t results trace (trialCall t results trace)
 trial-demand = Trials.trial-demand
@@ -208,6 +229,9 @@ module _ {M : Type 1} where
 
   pub plan-image-length : image-length-contract.statement M
   plan-image-length = image-length-met.met
+
+  pub plan-squeeze : squeeze-contract.statement M
+  plan-squeeze = squeeze-met.met
 
   pub plan-edition : edition-contract.statement M
   plan-edition = edition-met.met

@@ -3,7 +3,7 @@ ghost use mathlib.Core.Path.{_≡_};
 ghost use mathlib.Core.Bool.{not};
 ghost use Prim.Native.Nat.{_≤_, _<_};
 ghost use Rattle.table.specs.Table.{places, inUse, stepsInUse};
-ghost use Rattle.table.specs.Calls.{freshTable, freshCall, after, numberGiven, addRefusal, addCall, linkRefusal, linkCall, fieldsOf, readRefusal, readCall};
+ghost use Rattle.table.specs.Calls.{freshTable, freshCall, after, numberGiven, addRefusal, addCall, linkRefusal, linkCall, fieldsOf, noFields, readRefusal, readCall};
 ghost use Rattle.words.specs.Words.{tableOf, wordsOf};
 ghost use Rattle.edits.specs.Parts.{exitRefusal};
 use table::Answer;
@@ -27,7 +27,7 @@ pub fn fresh_table(t: &mut [u16; WORDS], capacity: u16)
     ensures { λ r. ⌜ now (t .exit) ≡ wordsOf (freshTable capacity) ⌝ }
 {
     words::erase(t, capacity, 0);
-    words::put_step(t, 0, 0, 0, 0);
+    words::put_step(t, 0, 1, 0, 0, 0);
 }
 
 // Fresh: a table of the capacity asked for, or refusal 2 and one of capacity 1.
@@ -35,7 +35,7 @@ pub fn fresh(t: &mut [u16; WORDS], capacity: u16) -> Answer
     ensures answer { λ r. ⌜ r ≡ freshCall capacity .answer ⌝ }
     ensures table { λ r. ⌜ now (t .exit) ≡ wordsOf (freshCall capacity .table) ⌝ }
 {
-    if capacity < 1 || PLACES < wide(capacity) {
+    if !soundness::capacity_fits(capacity) {
         fresh_table(t, 1);
         return Answer::Refused(BAD_CAPACITY);
     }
@@ -69,7 +69,7 @@ pub fn exit_refusal(t: &[u16; WORDS], step: u16, exit: u16) -> u16
 }
 
 // All fields of step i.
-fn fields_of(t: &[u16; WORDS], i: usize) -> Fields
+pub fn fields_of(t: &[u16; WORDS], i: usize) -> Fields
     requires { ⌜ i < places ⌝ }
     ensures { λ r. ⌜ r ≡ fieldsOf (tableOf (now (t .entry))) i ⌝ }
 {
@@ -99,6 +99,20 @@ fn fields_of(t: &[u16; WORDS], i: usize) -> Fields
     }
 }
 
+// The fields of a free step: all zero or empty.
+pub fn no_fields() -> Fields
+    ensures { λ r. ⌜ r ≡ noFields ⌝ }
+{
+    Fields {
+        kind: 0,
+        content: 0,
+        own: 0,
+        targets: [0u16; EXITS],
+        bits: [0u16; EXITS],
+        counts: [0u16; COUNTERS],
+    }
+}
+
 // The refusal of read, in its order, or 0.
 fn read_refusal(t: &[u16; WORDS], step: u16) -> u16
     ensures { λ r. ⌜ r ≡ readRefusal (tableOf (now (t .entry))) step ⌝ }
@@ -119,15 +133,10 @@ pub fn read(t: &[u16; WORDS], step: u16) -> Reading
 {
     let refusal = read_refusal(t, step);
     if refusal != 0 {
-        let fields = Fields {
-            kind: 0,
-            content: 0,
-            own: 0,
-            targets: [0u16; EXITS],
-            bits: [0u16; EXITS],
-            counts: [0u16; COUNTERS],
+        return Reading {
+            refusal,
+            fields: no_fields(),
         };
-        return Reading { refusal, fields };
     }
     let fields = fields_of(t, wide(step));
     Reading { refusal, fields }

@@ -12,22 +12,23 @@ use lib.ListN.{getD}
 use Rattle.finite.proofs.Bools.{and-intro}
 use Rattle.finite.specs.Below.{all, any, count, find, lowest, rounds, tabulateFrom, tabulate}
 use Rattle.finite.specs.Reach.{grow, reach, reaches}
-use Rattle.table.specs.Table.{exitPlace, counterPlace, inUse, kindOf, contentOf, ownBit, targetOf, linkBit, counterOf, holds, strong, leads, linked, stronglyLinked, countsAt, linksTo, stepsInUse, withLinks, withSteps}
+use Rattle.table.specs.Table.{exitPlace, counterPlace, inUse, kindOf, contentOf, ownBit, targetOf, linkBit, counterOf, holds, strong, leads, linked, stronglyLinked, countsAt, linksTo, stepsInUse, withNumbers, withLinks, withSteps}
 use Rattle.table.specs.Sound.{capacityFits, contentFits, kindFits, eachUsed, shapeTests, blankTests, ringless, soundTests, sound}
 use Rattle.table.specs.Answer.{first, refusalOf, firstOf, secondOf, unless, endingNumber, triedRefusal, endingOf, lastOf, movesOf}
 use Rattle.table.specs.Calls.{freshTable, freshCall, lowered, raised, relink, after, numberGiven, addRefusal, withStep, addTable, addCall, linkRefusal, weakBit, linkTable, linkCall, fieldsOf, noFields, readRefusal, readCall, tryFrom, resultsFit, trialRefusal, trialCall}
 use Rattle.table.specs.Clear.{emptied, heldStrongly, stops, doubtful, wanted, flipped, weakened, restored, repair, repairOf, unlinked, blanked, eachDoubtful, release, size, repaired, clearRefusal, clearCall}
+use Rattle.table.specs.Squeeze.{newNumber, oldNumber, moved, squeezed, squeezeRefusal, squeezeCall}
 use Rattle.table.specs.Plan.{planStep, planOf}
 use Rattle.image.specs.Image.{word, wordAt, words, recordSize, recordBytes, headerFieldsOf, bitsOf, stepFieldsOf, stepsBelow, image, imageLength, writeRefusal, writeCall, fieldAt, recordAt, capacityIn, lastIn, countIn, stepPlace, numberIn, kindIn, contentIn, bitsIn, targetIn, bitIn, recordOf, hasRecord, recordField, counted, imageTable, framed, accepted, loadCall}
 use Rattle.keyline.specs.Keys.{isDigit, isLine, decimal, decode, spokenCounts, perform, performLine, keyCall}
 use Rattle.history.specs.History.{firstTable}
 use Rattle.history.specs.Acts.{told, fieldNumbers, triedNumbers, callDone, doneBy, answerSize, lentTo, refusedBy}
-use Rattle.examples.specs.Examples.{headerP5, step0P5, step1P5, step2P5, imageP5, twoCandidates, ends, sorted, imageTwin, firstStrong, secondStrong, Twins, keyLines, Decodes, failing, tableP1, headed, unsound, failAsSaid, takeOne, taken, takenBy, strength, usedBelow, seen, same, sameTable, doneTests, factsHold, passed, walk, tableF4, p1ToP7, p8, p9, imageF4, p10, digits, line, beginnings, noAlarm, notSoundReasons, reasons, Entry, Run, tableLeft, Shown, everyRun, examples, refusals}
+use Rattle.examples.specs.Examples.{headerP5, step0P5, step1P5, step2P5, imageP5, twoCandidates, squeezes, ends, sorted, imageTwin, firstStrong, secondStrong, Twins, keyLines, Decodes, failing, tableP1, unsound, failAsSaid, takeOne, taken, takenBy, strength, usedBelow, seen, same, sameTable, doneTests, factsHold, passed, walk, tableF4, p1ToP7, p8, p9, imageF4, p10, digits, line, beginnings, noAlarm, notSoundReasons, reasons, Entry, Run, tableLeft, Shown, everyRun, examples, refusals}
 use Rattle.examples.proofs.Laws.{run-shown, run-at}
 
 -- a name for the list of definitions below, which each run unfolds
 computes : Bool
-unfolding headerP5 step0P5 step1P5 step2P5 imageP5 twoCandidates ends sorted imageTwin firstStrong secondStrong failing tableP1 headed unsound failAsSaid all any count find lowest rounds tabulateFrom tabulate grow reach reaches exitPlace counterPlace inUse kindOf contentOf ownBit targetOf linkBit counterOf holds strong leads linked stronglyLinked countsAt linksTo stepsInUse withLinks withSteps capacityFits contentFits kindFits eachUsed shapeTests blankTests ringless soundTests sound first refusalOf firstOf secondOf unless endingNumber triedRefusal endingOf lastOf movesOf freshTable freshCall lowered raised relink after numberGiven addRefusal withStep addTable addCall linkRefusal weakBit linkTable linkCall fieldsOf noFields readRefusal readCall tryFrom resultsFit trialRefusal trialCall emptied heldStrongly stops doubtful wanted flipped weakened restored repair repairOf unlinked blanked eachDoubtful release size repaired clearRefusal clearCall word wordAt words recordSize recordBytes headerFieldsOf bitsOf stepFieldsOf stepsBelow image imageLength writeRefusal writeCall fieldAt recordAt capacityIn lastIn countIn stepPlace numberIn kindIn contentIn bitsIn targetIn bitIn recordOf hasRecord recordField counted imageTable framed accepted loadCall isDigit isLine decimal decode spokenCounts perform performLine keyCall firstTable told fieldNumbers triedNumbers callDone doneBy takeOne taken takenBy strength usedBelow seen answerSize lentTo refusedBy same sameTable doneTests factsHold passed walk tableF4 p1ToP7 p8 p9 imageF4 p10 digits line beginnings noAlarm notSoundReasons reasons
+unfolding headerP5 step0P5 step1P5 step2P5 imageP5 twoCandidates squeezes ends sorted imageTwin firstStrong secondStrong failing tableP1 unsound failAsSaid all any count find lowest rounds tabulateFrom tabulate grow reach reaches exitPlace counterPlace inUse kindOf contentOf ownBit targetOf linkBit counterOf holds strong leads linked stronglyLinked countsAt linksTo stepsInUse withNumbers withLinks withSteps capacityFits contentFits kindFits eachUsed shapeTests blankTests ringless soundTests sound first refusalOf firstOf secondOf unless endingNumber triedRefusal endingOf lastOf movesOf freshTable freshCall lowered raised relink after numberGiven addRefusal withStep addTable addCall linkRefusal weakBit linkTable linkCall fieldsOf noFields readRefusal readCall tryFrom resultsFit trialRefusal trialCall emptied heldStrongly stops doubtful wanted flipped weakened restored repair repairOf unlinked blanked eachDoubtful release size repaired clearRefusal clearCall newNumber oldNumber moved squeezed squeezeRefusal squeezeCall word wordAt words recordSize recordBytes headerFieldsOf bitsOf stepFieldsOf stepsBelow image imageLength writeRefusal writeCall fieldAt recordAt capacityIn lastIn countIn stepPlace numberIn kindIn contentIn bitsIn targetIn bitIn recordOf hasRecord recordField counted imageTable framed accepted loadCall isDigit isLine decimal decode spokenCounts perform performLine keyCall firstTable told fieldNumbers triedNumbers callDone doneBy takeOne taken takenBy strength usedBelow seen answerSize lentTo refusedBy same sameTable doneTests factsHold passed walk tableF4 p1ToP7 p8 p9 imageF4 p10 digits line beginnings noAlarm notSoundReasons reasons
 computes = true
 
 -- one declaration for each run, since antt bounds the steps of one
@@ -47,7 +48,7 @@ p10-holds : walk tableF4 p10 ≡ true
 unfolding computes
 p10-holds = refl
 
-two-candidates-hold : walk tableF4 twoCandidates ≡ true
+two-candidates-hold : walk tableF4 (twoCandidates ++ squeezes) ≡ true
 unfolding computes
 two-candidates-hold = refl
 

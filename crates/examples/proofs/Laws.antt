@@ -16,7 +16,7 @@ use Rattle.finite.specs.Below.{lowest, passes}
 use Rattle.table.specs.Table.{Table}
 use Rattle.table.specs.Calls.{freshTable}
 use Rattle.table.specs.Clear.{Repair, wanted, repair}
-use Rattle.history.specs.History.{First, fresh, load, Call, add, link, clear, read, trial, write, keyLine, onlyRefusal, heardAs, ran, run, tableAfter, firstTable}
+use Rattle.history.specs.History.{First, fresh, load, Call, add, link, clear, read, trial, write, keyLine, squeeze, onlyRefusal, heardAs, ran, run, tableAfter, firstTable}
 use Rattle.history.specs.Acts.{Act, begin, call, Done, told, callDone, doneBy, refusedBy}
 use Rattle.examples.specs.Examples.{takeOne, taken, takeAll, Fact, _is_, seen, Entry, accepts, refuses, actOf, Run, tableLeft, Holds, Shown, same, sameTable, doneTests, factsHold, passed, walk, everyRun}
 
@@ -131,6 +131,7 @@ done-run t (read i) = refl
 done-run t (trial results trace) = refl
 done-run t (write buffer) = refl
 done-run t (keyLine bs) = refl
+done-run t (squeeze c) = refl
 
 pub done-refusal : (t : Table) (c : Call) → doneBy t (call c) .refusal ≡ run t c .heard .refusal
 unfolding doneBy callDone told run ran heardAs onlyRefusal
@@ -141,6 +142,7 @@ done-refusal t (read i) = refl
 done-refusal t (trial results trace) = refl
 done-refusal t (write buffer) = refl
 done-refusal t (keyLine bs) = refl
+done-refusal t (squeeze c) = refl
 
 pub done-first : (t : Table) (f : First) → doneBy t (begin f) .table ≡ firstTable f
 unfolding doneBy told firstTable

@@ -1,4 +1,4 @@
--- The examples in one table: P1 to P10 of document 01 ("Edits on F4"), what they do not show, W1's, then each call refused for each of its reasons
+-- The examples in one table: P1 to P10 of document 01 ("Edits on F4"), what they do not show, W1's and W2's, then each call refused for each of its reasons
 -- ("Reasons for no") and the calls that P1 to P10 do not make. The entries of a run are made one after the other, each on the table that the one before left.
 -- Assumes nothing.
 --   taken              the steps that a repair takes back, in their order
@@ -19,7 +19,7 @@ use Prim.Native.Nat.{ℕ, zero, suc, _+_, _/_, _%_, _^_}
 use lib.ListN.{set, take, replicate}
 use lib.Dec.{eqb, ltb}
 use Rattle.finite.specs.Below.{lowest, passes}
-use Rattle.table.specs.Table.{Table, inUse, kindOf, contentOf, ownBit, targetOf, counterOf, holds, strong, withLinks, withSteps}
+use Rattle.table.specs.Table.{Table, inUse, kindOf, contentOf, ownBit, targetOf, counterOf, holds, strong, withNumbers, withLinks, withSteps}
 use Rattle.table.specs.Sound.{soundTests}
 use Rattle.table.specs.Calls.{freshTable, addCall}
 use Rattle.table.specs.Clear.{Repair, stops, emptied, doubtful, wanted, restored}
@@ -29,7 +29,7 @@ use Rattle.keyline.specs.declared.Command.the-variants.{Add, Link, Clear, Count
 use Rattle.keyline.specs.declared.Decoded.{Decoded}
 use Rattle.keyline.specs.declared.Decoded.the-variants.{Line, Nothing}
 use Rattle.keyline.specs.Keys.{decode}
-use Rattle.history.specs.History.{fresh, load, add, link, clear, read, trial, write, keyLine, firstTable}
+use Rattle.history.specs.History.{fresh, load, add, link, clear, read, trial, write, keyLine, squeeze, firstTable}
 use Rattle.history.specs.Acts.{Act, begin, call, Done, doneBy, refusedBy}
 
 -- one round of rule 3 of clearing: step k is taken back and counted no longer doubtful
@@ -299,6 +299,51 @@ twoCandidates =
     []) ∷
     []
 
+-- W2: that table, with steps 0, 2 and 3 in use, last number 3 and capacity 4, squeezed. Steps 2 and 3 become 1 and 2, their targets follow, their bits
+-- and counters go with them, and the last number is 2.
+unfoldable pub squeezes : List Entry
+squeezes =
+    refuses (call (squeeze 0)) 2 ∷
+    refuses (call (squeeze 129)) 2 ∷
+    refuses (call (squeeze 2)) 13 ∷
+    accepts (call (squeeze 3))
+    (answer is (0 ∷ 0 ∷ []) ∷
+    sizes is (3 ∷ 2 ∷ []) ∷
+    steps is (0 ∷ 1 ∷ 2 ∷ []) ∷
+    what 1 is (1 ∷ 1 ∷ []) ∷
+    what 2 is (1 ∷ 2 ∷ []) ∷
+    own 0 is (0 ∷ []) ∷
+    own 1 is (1 ∷ []) ∷
+    own 2 is (1 ∷ []) ∷
+    exit 0 0 is (nothing ∷ 0 ∷ []) ∷
+    exit 0 1 is (strongLink ∷ 1 ∷ []) ∷
+    exit 0 2 is (strongLink ∷ 2 ∷ []) ∷
+    exit 1 0 is (strongLink ∷ 2 ∷ []) ∷
+    exit 2 0 is (weakLink ∷ 1 ∷ []) ∷
+    counts 1 is (1 ∷ 1 ∷ []) ∷
+    counts 2 is (0 ∷ 2 ∷ []) ∷
+    what 3 is (0 ∷ 0 ∷ []) ∷
+    own 3 is (0 ∷ []) ∷
+    exit 3 0 is (nothing ∷ 0 ∷ []) ∷
+    counts 3 is (0 ∷ 0 ∷ []) ∷
+    []) ∷
+    -- it is full; as an image, header, steps 0, 1, 2: the bits are 2 + 4, 1 + 16, 0 + 16
+    refuses (call (add 0 0 1 0)) 8 ∷
+    accepts (call (write (replicate 70 0xFF)))
+    (answer is (70 ∷ 0 ∷ []) ∷
+    bytes is
+    (0x0A ∷ 0 ∷ 1 ∷ 0 ∷ 3 ∷ 0 ∷ 2 ∷ 0 ∷ 3 ∷ 0 ∷
+    0x14 ∷ 0 ∷ 2 ∷ 0 ∷ 0 ∷ 0 ∷ 0 ∷ 0 ∷ 0 ∷ 0 ∷ 6 ∷ 0 ∷ 0 ∷ 0 ∷ 1 ∷ 0 ∷ 2 ∷ 0 ∷ 0 ∷ 0 ∷
+    0x14 ∷ 0 ∷ 2 ∷ 0 ∷ 1 ∷ 0 ∷ 1 ∷ 0 ∷ 1 ∷ 0 ∷ 0x11 ∷ 0 ∷ 2 ∷ 0 ∷ 0 ∷ 0 ∷ 0 ∷ 0 ∷ 0 ∷ 0 ∷
+    0x14 ∷ 0 ∷ 2 ∷ 0 ∷ 2 ∷ 0 ∷ 1 ∷ 0 ∷ 2 ∷ 0 ∷ 0x10 ∷ 0 ∷ 1 ∷ 0 ∷ 0 ∷ 0 ∷ 0 ∷ 0 ∷ 0 ∷ 0 ∷ []) ∷
+    []) ∷
+    -- a trial enters 1, 2, 1, where the old table's would enter 2, 3, 2
+    accepts (call (trial (1 ∷ 0 ∷ 0 ∷ []) (7 ∷ 7 ∷ 7 ∷ []))) (answer is (1 ∷ 1 ∷ 3 ∷ []) ∷ bytes is (1 ∷ 2 ∷ 1 ∷ []) ∷ []) ∷
+    -- a larger capacity is no reason to refuse: the next step added is the one after the last
+    accepts (call (squeeze 5)) (sizes is (5 ∷ 2 ∷ []) ∷ steps is (0 ∷ 1 ∷ 2 ∷ []) ∷ []) ∷
+    accepts (call (add 0 0 3 600)) (answer is (3 ∷ 0 ∷ []) ∷ steps is (0 ∷ 1 ∷ 2 ∷ 3 ∷ []) ∷ []) ∷
+    []
+
 -- a copy of a weak link is weak too; and the ends of each range of contents
 unfoldable pub ends : List Entry
 ends =
@@ -354,7 +399,7 @@ examples =
     record { table = tableF4; entries = p8 } ∷
     record { table = tableF4; entries = p9 } ∷
     record { table = tableF4; entries = p10 } ∷
-    record { table = tableF4; entries = twoCandidates } ∷
+    record { table = tableF4; entries = twoCandidates ++ squeezes } ∷
     record { table = tableF4; entries = ends } ∷
     record { table = tableF4; entries = sorted } ∷
     record { table = tableF4; entries = firstStrong } ∷
@@ -402,6 +447,7 @@ notSoundReasons =
     refuses (call (trial (0 ∷ 4 ∷ []) (7 ∷ []))) 1 ∷
     refuses (call (write (7 ∷ []))) 1 ∷
     refuses (call (keyLine [])) 1 ∷
+    refuses (call (squeeze 0)) 1 ∷
     []
 
 -- the reasons that F4 gives, and after P1 the others
@@ -493,20 +539,6 @@ failing k (false ∷ bs) = k ∷ failing (suc k) bs
 unfoldable pub tableP1 : Table
 tableP1 = addCall tableF4 0 0 1 0 .table
 
-unfoldable pub headed : Table → ℕ → ℕ → Table
-headed t capacity last =
-    record {
-      capacity = capacity;
-      last = last;
-      used = t .used;
-      kinds = t .kinds;
-      contents = t .contents;
-      own = t .own;
-      targets = t .targets;
-      bits = t .bits;
-      counts = t .counts;
-    }
-
 -- a table made unsound for each clause of soundness, with the numbers of the clauses that it fails; `soundTests` has them in this order
 unfoldable pub unsound : List (Table × List ℕ)
 unsound =
@@ -515,8 +547,8 @@ unsound =
     -- 0: an array is a place short
     (withSteps t (t .last) (take 127 (t .used)) (t .kinds) (t .contents) (t .own), 0 ∷ []) ∷
     -- 1: the capacity is 129; 2: the last number given is the capacity
-    (headed t 129 0, 1 ∷ []) ∷
-    (headed t 4 4, 2 ∷ []) ∷
+    (withNumbers t 129 0, 1 ∷ []) ∷
+    (withNumbers t 4 4, 2 ∷ []) ∷
     -- 3: a step at the capacity is in use (and so it is not reached)
     (withSteps t (t .last) (set (t .used) 4 1) (set (t .kinds) 4 1) (t .contents) (t .own), 3 ∷ 13 ∷ []) ∷
     -- 4: step 0 is not in use; 5: kind 4; 6: a step's bit is 2

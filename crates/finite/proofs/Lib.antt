@@ -4,3 +4,4 @@ pub mod Below
 pub mod Reach
 pub mod Select
 pub mod Loops
+pub mod Packed

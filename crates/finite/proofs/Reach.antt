@@ -1,19 +1,20 @@
 -- The marks are the chains: what `reach` marks is what a chain leads to. Assumes nothing.
 --   reach-sound      a marked number has a chain
 --   reach-complete   a chain of links below n ends in a marked number
-use mathlib.Core.Path.{_≡_, refl, sym, _∙_, ap, subst}
+--   chain-named chain-unnamed reach-named   chains and marks under other names of the numbers
+use mathlib.Core.Path.{_≡_, refl, sym, _∙_, subst}
 use mathlib.Core.Bool.{Bool, true, false, _&&_, _||_}
 use mathlib.Core.Logic.{_⊎_, inl, inr, ⊎-elim}
 use mathlib.Core.List.{List}
-use Prim.Native.Nat.{ℕ, zero, suc, _+_, _≤_, _<_}
+use Prim.Native.Nat.{ℕ, suc, _+_, _≤_, _<_}
 use native.Mathlib.Omega.{arith}
-use lib.ListN.{getD, length, List·getD-eq-default}
+use lib.ListN.{length, List·getD-eq-default}
 use lib.Dec.{eqb}
 use borrow.Author.Tests.{eqb-true, eq-eqb}
-use Rattle.finite.specs.Below.{any, count, rounds, tabulate}
+use Rattle.finite.specs.Below.{any, count, tabulate}
 use Rattle.finite.specs.Reach.{Chain, start, then, marked, grow, reach, reaches}
-use Rattle.finite.proofs.Bools.{and-intro, and-left, and-right, or-left, or-right, or-elim, test, clash}
-use Rattle.finite.proofs.Below.{le-or-lt, any-at, any-intro, count-le, count-mono, count-same, count-pos, rounds-keep, rounds-induct, length-tabulate, getD-tabulate}
+use Rattle.finite.proofs.Bools.{and-intro, and-left, and-right, or-left, or-right, or-elim, clash, same-test}
+use Rattle.finite.proofs.Below.{le-or-lt, any-at, any-intro, count-le, count-same, count-pos, rounds-keep, rounds-induct, length-tabulate, getD-tabulate}
 
 -- a chain goes on by another
 pub chain-append : {E : ℕ → ℕ → Bool} {a b c n m : ℕ} → Chain E a b n → Chain E b c m → Chain E a c (n + m)
@@ -45,6 +46,21 @@ chain-keeps P f p (then q l) = f _ _ (chain-keeps P f p q) l
 pub chain-raises : {E : ℕ → ℕ → Bool} {a b n : ℕ} (r : ℕ → ℕ) → ((i j : ℕ) → E i j ≡ true → r i < r j) → Chain E a b n → r a + n ≤ r b
 chain-raises {a = a} r f start = omega arith
 chain-raises {a = a} r f (then {b = b} {c = c} q l) = let h = chain-raises r f q in let g = f b c l in omega arith
+
+-- Numbers of E that have P are named by f in F. Where each link of E has its names' link in F, a chain has a chain of the names; where each link of F
+-- from a name is that of a link of E, a chain from a name is the names of a chain.
+module _ {E F : ℕ → ℕ → Bool} (f : ℕ → ℕ) (P : ℕ → Type 0) where
+  pub chain-named : ((i j : ℕ) → P i → E i j ≡ true → P j × (F (f i) (f j) ≡ true)) → {a b n : ℕ} → P a → Chain E a b n → P b × Chain F (f a) (f b) n
+  chain-named h p start = (p, start)
+  chain-named h p (then q l) = let r = chain-named h p q in let s = h _ _ (r .0) l in (s .0, then (r .1) (s .1))
+
+  pub chain-unnamed : ((i k : ℕ) → P i → F (f i) k ≡ true → (j : ℕ) × P j × (k ≡ f j) × (E i j ≡ true)) → {a k n : ℕ} → P a → Chain F (f a) k n →
+      (b : ℕ) × P b × (k ≡ f b) × Chain E a b n
+  chain-unnamed h {a} p start = (a, p, refl, start)
+  chain-unnamed h p (then {b = m} {c = k} q l) =
+      let r = chain-unnamed h p q in
+      let s = h (r .0) k (r .1) (rw (r .2) at l) in
+      (s .0, s .1, s .2, then (r .3) (s .3))
 
 module _ (E : ℕ → ℕ → Bool) (n : ℕ) where
   marked-below : (m : List Bool) (j : ℕ) → length m ≡ n → marked m j ≡ true → j < n
@@ -159,3 +175,16 @@ module _ (E : ℕ → ℕ → Bool) (n : ℕ) where
   reach-complete w {a} h (then {b = b} {c = c} q l) =
       let t = reach-complete w h q in
       reach-closed a h b c (reach-below a b t) (w b c l) t l
+
+-- so the marks of the names are the marks of the numbers
+pub reach-named : {E F : ℕ → ℕ → Bool} (f : ℕ → ℕ) (P : ℕ → Type 0) (n m a : ℕ) → ((i j : ℕ) → E i j ≡ true → j < n) → ((i j : ℕ) → F i j ≡ true → j < m) →
+    ((i j : ℕ) → P i → E i j ≡ true → P j × (F (f i) (f j) ≡ true)) →
+    ((i k : ℕ) → P i → F (f i) k ≡ true → (j : ℕ) × P j × (k ≡ f j) × (E i j ≡ true)) →
+    ((i j : ℕ) → P i → P j → f i ≡ f j → i ≡ j) → P a → a < n → f a < m → (i : ℕ) → P i → reaches F m (f a) (f i) ≡ reaches E n a i
+reach-named {E} {F} f P n m a low low′ there back once p h h′ i x =
+    same-test _ _
+    (λ y.
+    let r = chain-unnamed f P back p (reach-sound F m (f a) (f i) y .1) in
+    let e : r .0 ≡ i = once (r .0) i (r .1) x (sym (r .2)) in
+    rw e at (reach-complete E n low h (r .3)))
+    (λ y. reach-complete F m low′ h′ (chain-named f P there p (reach-sound E n a i y .1) .1))

@@ -23,13 +23,15 @@ use Rattle.table.specs.Plan.{planOf, planCount, planReadRefusal, planTrialRefus
 use Rattle.table.proofs.Links.{sound-wired}
 use Rattle.table.proofs.Plan.{plan-capacity, plan-count}
 use Rattle.table.proofs.Calls.{done, next, first-same, past-sound, unless-zero, unless-refused, add-refusal, link-refusal, clear-refusal, read-refusal, trial-refusal, add-fits, link-fits, clear-fits, number-plan, add-sound, add-plan, link-sound, link-plan, clear-cleared, clear-plan}
+use Rattle.table.specs.Squeeze.{squeezeCall}
+use Rattle.table.proofs.Squeeze.{squeeze-fits, squeeze-sound, squeeze-plan, squeeze-refusal}
 use Rattle.image.specs.Image.{imageSize, imageLength, writeRefusal, writeCall}
 use Rattle.keyline.specs.declared.Command.{Command}
 use Rattle.keyline.specs.declared.Command.the-variants.{Add, Link, Clear, Count}
 use Rattle.keyline.specs.declared.Decoded.{Decoded}
 use Rattle.keyline.specs.declared.Decoded.the-variants.{Line, Nothing}
 use Rattle.keyline.specs.Keys.{decode, callDigit, spokenCounts, perform, performLine, keyCall}
-use Rattle.history.specs.History.{Call, add, link, clear, read, trial, write, keyLine, onlyRefusal, heardAs, callOf, ran, run, Drawn, drawUnless, drawAdd, drawLink, drawClear, drawCount, unchanged, planWriteRefusal, drawCommand, drawLine, draw}
+use Rattle.history.specs.History.{Call, add, link, clear, read, trial, write, keyLine, squeeze, onlyRefusal, heardAs, callOf, ran, run, Drawn, drawUnless, drawAdd, drawLink, drawClear, drawCount, drawSqueeze, unchanged, planWriteRefusal, drawCommand, drawLine, draw}
 
 -- an outcome and what is drawn beside it
 record Beside (digit : ℕ) (o : Outcome) (d : Drawn) : Type 0 where
@@ -144,6 +146,15 @@ module _ {t : Table} (s : Sound t) where
   unfolding keyCall
   beside-keys bs = rw (unless-zero _ t (performLine t (decode bs)) (past-sound s [] ∙ (unfold first in refl))) (beside-line (decode bs))
 
+  -- a squeeze gives no number
+  beside-squeeze : (c : ℕ) → Beside 0 (squeezeCall t c) (drawSqueeze (planOf t) c)
+  unfolding squeezeCall drawSqueeze
+  beside-squeeze c =
+      beside-unless 0 _ _ _ _ s (squeeze-refusal s c)
+      (λ z.
+      let f = squeeze-fits t c z in
+      record { sound = squeeze-sound s c f; plan = squeeze-plan s c f; heard = (unfold heardAs onlyRefusal refusalOf firstOf secondOf in refl) })
+
   read-heard : (i : ℕ) → readCall t i .refusal ≡ planReadRefusal (planOf t) i
   unfolding readCall
   read-heard i = read-refusal s i
@@ -197,3 +208,4 @@ call-agrees s (trial results trace) = record { sound = s; plan = refl; heard = a
 call-agrees s (write buffer) =
     record { sound = s; plan = refl; heard = ap onlyRefusal (written-refusal s buffer ∙ write-refusal s (length buffer)) }
 call-agrees s (keyLine bs) = let b = beside-keys s bs in record { sound = b .sound; plan = b .plan; heard = b .heard }
+call-agrees s (squeeze c) = let b = beside-squeeze s c in record { sound = b .sound; plan = b .plan; heard = b .heard }

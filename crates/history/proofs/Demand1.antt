@@ -15,6 +15,7 @@ use Rattle.table.specs.declared.Tried.the-variants.{Ended}
 use Rattle.table.specs.Answer.{Outcome, first, unless, refusalOf, firstOf, secondOf, triedRefusal, endingOf, lastOf, movesOf}
 use Rattle.table.specs.Calls.{freshCall, addRefusal, addCall, linkRefusal, linkCall, noFields, readConditions, readRefusal, readCall, TrialOutcome, tryFrom, trialConditions, trialRefusal, trialCall, tableTests}
 use Rattle.table.specs.Clear.{stops, repaired, cleared, clearRefusal, clearCall}
+use Rattle.table.specs.Squeeze.{squeezeRefusal, squeezeCall}
 use Rattle.table.specs.Table.{Table, holds, targetOf}
 use Rattle.table.proofs.Calls.{nonzero, unless-zero, unless-refused, read-refused, trial-refused, trial-made}
 use Rattle.image.specs.Image.{writeConditions, writeRefusal, writeCall, loadCall}
@@ -23,7 +24,7 @@ use Rattle.keyline.specs.declared.Command.the-variants.{Add, Link, Clear, Count
 use Rattle.keyline.specs.declared.Decoded.{Decoded}
 use Rattle.keyline.specs.declared.Decoded.the-variants.{Line, Nothing}
 use Rattle.keyline.specs.Keys.{decode, spokenCounts, perform, callConditions, lineConditions, keyConditions, performLine, keyCall}
-use Rattle.history.specs.History.{fresh, load, add, link, clear, read, trial, write, keyLine}
+use Rattle.history.specs.History.{fresh, load, add, link, clear, read, trial, write, keyLine, squeeze}
 use Rattle.history.specs.Acts.{Act, begin, call, Done, told, fieldNumbers, triedNumbers, callDone, doneBy, answerSize, lentTo, refusedBy, conditionsOf}
 use Rattle.history.specs.Demands.{FirstHeld, none, some, Demand1}
 
@@ -207,3 +208,5 @@ demand-1 t (call (read i)) = read-demand t i
 demand-1 t (call (trial results trace)) = trial-demand t results trace
 demand-1 t (call (write buffer)) = write-demand t buffer
 demand-1 t (call (keyLine bs)) = key-demand t bs
+demand-1 t (call (squeeze c)) =
+    (unfold squeezeCall squeezeRefusal refusalOf in outcome-demand t t (call (squeeze c)) _ _ refl refl refl refl (λ n. refl))

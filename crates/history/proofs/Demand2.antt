@@ -1,4 +1,5 @@
--- Demand 2, call by call: what an accepted add, link and clear do on a sound table, the spoken counts, and both ways of an image. Assumes nothing.
+-- Demand 2, call by call: what an accepted add, link, clear and squeeze do on a sound table, the spoken counts, and both ways of an image. Assumes
+-- nothing.
 use mathlib.Core.Path.{_≡_, refl, sym, _∙_, ap}
 use mathlib.Core.Bool.{true, _&&_, not}
 use mathlib.Core.Logic.{_↔_}
@@ -13,20 +14,27 @@ use Rattle.finite.proofs.Reach.{reach-sound, reach-complete}
 use Rattle.table.specs.declared.Answer.the-variants.{Given}
 use Rattle.table.specs.Table.{Table, inUse, linked, stronglyLinked, stepsInUse, withLinks}
 use Rattle.table.specs.Sound.{Sound}
-use Rattle.table.specs.Answer.{first, firstOf, unless}
-use Rattle.table.specs.Calls.{relink, addRefusal, addCall, linkRefusal, linkCall}
+use Rattle.table.specs.Answer.{Outcome, first, firstOf, unless}
+use Rattle.table.specs.Calls.{relink, addRefusal, addCall, linkRefusal, linkCall, trialCall}
 use Rattle.table.specs.Clear.{emptied, cleared, clearRefusal, clearCall}
+use Rattle.table.specs.Trial.{underNumbers}
+use Rattle.table.specs.Squeeze.{newNumber, squeezed, squeezeRefusal, squeezeCall, ClearsAlike}
 use Rattle.table.proofs.Sound.{test-sound}
 use Rattle.table.proofs.Links.{sound-wired, linked-below}
 use Rattle.table.proofs.Formed.{formed-wired}
 use Rattle.table.proofs.Spine.{strong-below}
 use Rattle.table.proofs.Calls.{unless-zero, clear-made, add-fits, link-fits, clear-fits, number-plan, add-sound, add-plan, link-sound, link-plan, clear-cleared, clear-plan}
 use Rattle.table.proofs.Clear.{formed-emptied, sound-reached}
+use Rattle.table.proofs.Renumber.{new-rises, new-below, squeezed-renumbered}
+use Rattle.table.proofs.Follow.{renumbered-follows, used-new-step, follow-strong}
+use Rattle.table.proofs.Squeeze.{squeeze-made, squeeze-answer, squeeze-fits, squeeze-sound, squeeze-plan}
+use Rattle.table.proofs.Squeezed.{squeeze-refusal-same, squeeze-twice, squeeze-trial}
+use Rattle.table.proofs.SqueezeClear.{squeeze-clear}
 use Rattle.image.specs.Image.{image, imageLength, WriteOutcome, written, writeCall, imageTable, accepted, loadCall, Bytes}
 use Rattle.image.proofs.Laws.{image-length, write-made, room-enough, load-encode, accepted-sound, accepted-rewritten, image-ascending, image-equal, accepted-only, loaded-equal}
 use Rattle.keyline.specs.Keys.{spokenCounts}
 use Rattle.keyline.proofs.Laws.{spoken-plan}
-use Rattle.history.specs.Demands.{AddDemand, LinkDemand, ClearDemand, CountDemand, WriteDemand, EqualDemand, LoadDemand, SameTableDemand}
+use Rattle.history.specs.Demands.{AddDemand, LinkDemand, ClearDemand, CountDemand, SqueezeDemand, TwiceDemand, WriteDemand, EqualDemand, LoadDemand, SameTableDemand}
 
 pub add-demand : (t : Table) → Sound t → (holder e kind content : ℕ) → addRefusal t holder e kind content ≡ 0 →
     AddDemand t holder e kind content (addCall t holder e kind content)
@@ -47,6 +55,44 @@ link-demand t s source e second f z =
     let g = link-fits t source e second f z in
     rw (unless-zero _ t _ z)
     (record { sound = link-sound s source e second f g; plan = link-plan s source e second f g; answer = refl })
+
+pub squeeze-demand : (t : Table) → Sound t → (c : ℕ) → squeezeRefusal t c ≡ 0 → SqueezeDemand t c (squeezeCall t c)
+unfolding squeezed
+squeeze-demand t s c z =
+    let f = squeeze-fits t c z in
+    let w = sound-wired s in
+    let r = squeezed-renumbered w c in
+    rw (squeeze-made t c z)
+    (record {
+      sound = squeeze-sound s c f;
+      plan = squeeze-plan s c f;
+      answer = refl;
+      capacity = refl;
+      last = let n = new-below w 0 (s .alarm) in omega arith;
+      moved = r;
+      each = used-new-step w (s .alarm) (renumbered-follows r);
+      order = λ i j u l. new-rises t i j l u;
+      strengths = λ i e u l. follow-strong w (s .alarm) (renumbered-follows r) i e u l;
+    })
+
+pub twice-demand : (t : Table) → Sound t → (c : ℕ) → squeezeRefusal t c ≡ 0 → (d : ℕ) → TwiceDemand t d (squeezeCall (squeezeCall t c .table) d)
+twice-demand t s c z d =
+    let f = squeeze-fits t c z in
+    let same = squeeze-refusal-same s c f d in
+    rw (squeeze-made t c z)
+    (record {
+      answer = squeeze-answer (squeezed t c) t d same;
+      table = λ y. ap (λ (o : Outcome). o .table) (squeeze-made (squeezed t c) d (same ∙ y)) ∙ squeeze-twice s c f d ∙ sym (ap (λ (o : Outcome). o .table) (squeeze-made t d y));
+    })
+
+-- what a squeezed table does: trials and clearings, under the new numbers
+pub squeezed-trial : (t : Table) → Sound t → (c : ℕ) → squeezeRefusal t c ≡ 0 → (results trace : List ℕ) →
+    trialCall (squeezeCall t c .table) results trace ≡ underNumbers (newNumber t) (trialCall t results trace)
+squeezed-trial t s c z results trace = rw (squeeze-made t c z) (squeeze-trial s c (squeeze-fits t c z) results trace)
+
+pub squeezed-clear : (t : Table) → Sound t → (c : ℕ) → squeezeRefusal t c ≡ 0 → (i e : ℕ) → inUse t i ≡ true →
+    ClearsAlike t (clearCall t i e) (clearCall (squeezeCall t c .table) (newNumber t i) e)
+squeezed-clear t s c z i e u = rw (squeeze-made t c z) (squeeze-clear s c (squeeze-fits t c z) i e u)
 
 -- a computed reach and its chains
 reach-iff : (t : Table) → ((a b : ℕ) → linked t a b ≡ true → b < t .capacity) → 0 < t .capacity → (k : ℕ) →

@@ -14,9 +14,10 @@ use Rattle.table.specs.declared.Tried.{Tried}
 use Rattle.table.specs.Answer.{Outcome, refusalOf, firstOf, secondOf, triedRefusal, endingOf, lastOf, movesOf}
 use Rattle.table.specs.Calls.{freshTable, freshConditions, freshCall, addConditions, addCall, linkConditions, linkCall, readConditions, readCall, trialConditions, trialCall}
 use Rattle.table.specs.Clear.{clearConditions, clearCall}
+use Rattle.table.specs.Squeeze.{squeezeConditions, squeezeCall}
 use Rattle.image.specs.Image.{writeConditions, writeCall, loadConditions, loadCall}
 use Rattle.keyline.specs.Keys.{keyConditions, keyCall}
-use Rattle.history.specs.History.{First, fresh, load, Call, add, link, clear, read, trial, write, keyLine}
+use Rattle.history.specs.History.{First, fresh, load, Call, add, link, clear, read, trial, write, keyLine, squeeze}
 
 pub data Act : Type 0 where
   begin : First → Act
@@ -55,6 +56,7 @@ callDone t (write buffer) =
     let o = writeCall t buffer in
     record { refusal = refusalOf (o .answer); numbers = firstOf (o .answer) ∷ secondOf (o .answer) ∷ []; lent = o .buffer; table = t }
 callDone t (keyLine bs) = told (keyCall t bs)
+callDone t (squeeze c) = told (squeezeCall t c)
 
 unfoldable pub doneBy : Table → Act → Done
 doneBy t (begin (fresh c)) = told (freshCall c)
@@ -70,6 +72,7 @@ answerSize (read i) = 13
 answerSize (trial results trace) = 3
 answerSize (write buffer) = 2
 answerSize (keyLine bs) = 2
+answerSize (squeeze c) = 2
 
 unfoldable pub lentTo : Call → List ℕ
 lentTo (add holder e kind content) = []
@@ -79,6 +82,7 @@ lentTo (read i) = []
 lentTo (trial results trace) = trace
 lentTo (write buffer) = buffer
 lentTo (keyLine bs) = []
+lentTo (squeeze c) = []
 
 -- "A refusal answers its number with all other numbers zero, and changes no table or buffer. Refused fresh and load hand back a fresh table of
 -- capacity 1."
@@ -97,3 +101,4 @@ conditionsOf t (call (read i)) = readConditions t i
 conditionsOf t (call (trial results trace)) = trialConditions t results trace
 conditionsOf t (call (write buffer)) = writeConditions t (length buffer)
 conditionsOf t (call (keyLine bs)) = keyConditions t bs
+conditionsOf t (call (squeeze c)) = squeezeConditions t c

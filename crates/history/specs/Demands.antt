@@ -3,6 +3,7 @@
 --   Demand1 t a         of a call made on the table t, or of fresh or load
 --   Demand3 f cs        of the history that begins with f and makes the calls cs
 --   AddDemand LinkDemand ClearDemand CountDemand   what an accepted call does on a sound table (demand 2)
+--   SqueezeDemand TwiceDemand   what an accepted squeeze does on a sound table, and a second one (W2)
 --   WriteDemand LoadDemand   both ways of an image, over the calls (demand 2)
 --   EqualDemand SameTableDemand   one table, one image (W1)
 use mathlib.Core.Path.{_≡_}
@@ -15,10 +16,11 @@ use Rattle.finite.specs.Below.{count}
 use Rattle.finite.specs.Reach.{Chain}
 use Rattle.table.specs.declared.Answer.the-variants.{Given}
 use Rattle.table.specs.Answer.{Outcome}
-use Rattle.table.specs.Table.{Table, places, counters, inUse, counterOf, holds, linked, linksTo, stepsInUse, StrongChain}
+use Rattle.table.specs.Table.{Table, places, counters, exitsOf, inUse, counterOf, strong, linked, linksTo, stepsInUse, StrongChain}
 use Rattle.table.specs.Sound.{Sound}
 use Rattle.table.specs.Clear.{emptied}
-use Rattle.table.specs.Plan.{planOf, planCount, planNumber, planAdd, planLink, planClear}
+use Rattle.table.specs.Squeeze.{newNumber, squeezeRefusal, squeezeCall, Renumbered}
+use Rattle.table.specs.Plan.{planOf, planCount, planNumber, planAdd, planLink, planClear, planSqueeze}
 use Rattle.image.specs.Image.{WriteOutcome, written, loadCall, SameRecords, Ascending}
 use Rattle.history.specs.History.{First, Call, tableAfter, heardBy, planAfter, drawnBy, firstRefusal, planFirstRefusal, firstTable, firstPlan}
 use Rattle.history.specs.Acts.{Act, doneBy, refusedBy, conditionsOf}
@@ -80,6 +82,26 @@ pub record ClearDemand (t : Table) (i e : ℕ) (o : Outcome) : Type 0 where
   pub counted : doubts ≡ count (t .capacity) doubtful
   -- "freed is the fall in steps in use"
   pub fall : stepsInUse (o .table) + freed ≡ stepsInUse t
+
+-- W2: an accepted squeeze of the sound table t to the capacity c
+pub record SqueezeDemand (t : Table) (c : ℕ) (o : Outcome) : Type 0 where
+  pub sound : Sound (o .table)
+  pub plan : planOf (o .table) ≡ planSqueeze (planOf t) c
+  pub answer : o .answer ≡ Given 0 0
+  -- "The new capacity is given; the last number given becomes steps in use less 1."
+  pub capacity : o .table .capacity ≡ c
+  pub last : o .table .last + 1 ≡ stepsInUse t
+  -- "Steps in use are renumbered from 0 upward in their old order, every target follows, and bits and counters travel with their steps."
+  pub moved : Renumbered t (o .table)
+  pub each : (k : ℕ) → inUse (o .table) k ≡ true → (i : ℕ) × (inUse t i ≡ true) × (newNumber t i ≡ k)
+  pub order : (i j : ℕ) → inUse t i ≡ true → i < j → newNumber t i < newNumber t j
+  -- and so strengths
+  pub strengths : (i e : ℕ) → inUse t i ≡ true → e < exitsOf i → strong (o .table) (newNumber t i) e ≡ strong t i e
+
+-- squeezing twice is squeezing once: p is the squeeze to d of the table that an accepted squeeze of t left
+pub record TwiceDemand (t : Table) (d : ℕ) (p : Outcome) : Type 0 where
+  pub answer : p .answer ≡ squeezeCall t d .answer
+  pub table : squeezeRefusal t d ≡ 0 → p .table ≡ squeezeCall t d .table
 
 -- "the spoken counts are of those steps and of the free rest"
 pub record CountDemand (t : Table) (o : Outcome) : Type 0 where

@@ -1,4 +1,4 @@
--- Histories (traces): a list of calls, run on the table and drawn on the plain plan (document 01, "A history"). Assumes nothing.
+-- Histories (traces): a list of calls, run on the table and drawn on the plain plan (document 01, "A history"; document 02, W2). Assumes nothing.
 --   First, Call        what a history begins with, and a call with its arguments
 --   Heard              what demand 3 compares of a call: refusal, number given, freed count, spoken counts
 --   run, draw          one call, on the table and on the plan
@@ -16,7 +16,8 @@ use Rattle.table.specs.Answer.{Outcome, badCapacity, tooShort, notKeyLine, notA
 use Rattle.table.specs.Sound.{capacityFits}
 use Rattle.table.specs.Calls.{freshCall, addCall, linkCall, readCall, trialCall}
 use Rattle.table.specs.Clear.{clearCall}
-use Rattle.table.specs.Plan.{Plan, planCount, planNumber, freshPlan, planAdd, planLink, planClear, planAddRefusal, planLinkRefusal, planClearRefusal, planReadRefusal, planTrialRefusal}
+use Rattle.table.specs.Squeeze.{squeezeCall}
+use Rattle.table.specs.Plan.{Plan, planCount, planNumber, freshPlan, planAdd, planLink, planClear, planSqueeze, planAddRefusal, planLinkRefusal, planClearRefusal, planReadRefusal, planTrialRefusal, planSqueezeRefusal}
 use Rattle.image.specs.Image.{imageSize, writeCall, loadCall, accepted, imagePlan}
 use Rattle.keyline.specs.declared.Command.{Command}
 use Rattle.keyline.specs.declared.Decoded.{Decoded}
@@ -30,13 +31,14 @@ pub data First : Type 0 where
   load : List ℕ → First
 
 -- "a list, of any length or empty, of add, link, clear, read, trial, write image and key line, with any arguments; line results and key bytes
--- stand in it by value", and so do the lent trace and buffer
+-- stand in it by value", and so do the lent trace and buffer. "A history may now hold a squeeze" (W2)
 pub data Call : Type 0 where
   add link : ℕ → ℕ → ℕ → ℕ → Call
   clear : ℕ → ℕ → Call
   read : ℕ → Call
   trial : List ℕ → List ℕ → Call
   write keyLine : List ℕ → Call
+  squeeze : ℕ → Call
 
 -- what demand 3 compares along the list; a number that a call does not give is zero
 pub record Heard : Type 0 where
@@ -50,7 +52,7 @@ pub record Heard : Type 0 where
 unfoldable pub onlyRefusal : ℕ → Heard
 onlyRefusal n = record { refusal = n; given = 0; freed = 0; spokenUsed = 0; spokenFree = 0 }
 
--- the answer of a call of the keys' number: 1 add, 2 link, 3 clear, 4 counts
+-- the answer of a call of the keys' number: 1 add, 2 link, 3 clear, 4 counts; of any other number, the refusal alone
 unfoldable pub heardAs : ℕ → Answer → Heard
 heardAs call a =
     record {
@@ -82,6 +84,7 @@ run t (read i) = record { heard = onlyRefusal (readCall t i .refusal); table = t
 run t (trial results trace) = record { heard = onlyRefusal (triedRefusal (trialCall t results trace .answer)); table = t }
 run t (write buffer) = record { heard = onlyRefusal (refusalOf (writeCall t buffer .answer)); table = t }
 run t (keyLine bs) = ran (callOf (decode bs)) (keyCall t bs)
+run t (squeeze c) = ran 0 (squeezeCall t c)
 
 -- one call on the plan
 pub record Drawn : Type 0 where
@@ -129,6 +132,10 @@ drawCount p =
       plan = p;
     }
 
+-- "after which the plain plan is the renumbered one"
+unfoldable pub drawSqueeze : Plan → ℕ → Drawn
+drawSqueeze p c = drawUnless (planSqueezeRefusal p c) p (record { heard = onlyRefusal 0; plan = planSqueeze p c })
+
 unfoldable pub unchanged : ℕ → Plan → Drawn
 unchanged n p = record { heard = onlyRefusal n; plan = p }
 
@@ -155,6 +162,7 @@ draw p (read i) = unchanged (planReadRefusal p i) p
 draw p (trial results trace) = unchanged (planTrialRefusal results (length trace)) p
 draw p (write buffer) = unchanged (planWriteRefusal p (length buffer)) p
 draw p (keyLine bs) = drawLine p (decode bs)
+draw p (squeeze c) = drawSqueeze p c
 
 -- "each later one the table as the call before left it, refused or not"
 unfoldable pub tableAfter : Table → List Call → Table

@@ -18,7 +18,7 @@ use Rattle.finite.proofs.Loops.{count-hit, count-miss}
 use Rattle.table.specs.Table.{Table, counterPlace, counterOf, countsAt, linksTo, withLinks}
 use Rattle.table.specs.Calls.{raised}
 use Rattle.table.proofs.Edits.{getD-zeros}
-use Rattle.words.proofs.Formed.{counts-here, counts-there}
+use Rattle.table.proofs.Links.{counts-here, counts-there}
 use Rattle.image.specs.Image.{counted}
 
 -- a list of zeros

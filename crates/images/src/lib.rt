@@ -239,11 +239,10 @@ fn put_record(t: &mut [u16; WORDS], r: StepRecord)
 {
     let i = words::wide(r.number);
     let bits = r.bits;
-    words::put_step(t, i, r.kind, r.content, bits / 16 % 2);
-    words::put_link(t, i, 0, r.first, bits % 2);
-    words::put_link(t, i, 1, r.second, bits / 2 % 2);
-    words::put_link(t, i, 2, r.third, bits / 4 % 2);
-    words::put_link(t, i, 3, r.fourth, bits / 8 % 2);
+    words::put_step(t, i, 1, r.kind, r.content, bits / 16 % 2);
+    let targets = [r.first, r.second, r.third, r.fourth];
+    let link_bits = [bits % 2, bits / 2 % 2, bits / 4 % 2, bits / 8 % 2];
+    words::put_links(t, i, targets, link_bits);
 }
 
 // Works out the counters of every step, all zero so far, from the links out of the steps below the capacity. A target that no table has is

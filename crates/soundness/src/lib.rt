@@ -4,7 +4,7 @@ ghost use mathlib.Core.Bool.{false};
 ghost use Prim.Native.Nat.{_*_, _≤_};
 ghost use lib.ListN.{getD};
 ghost use Rattle.table.specs.Table.{places, exits, counters};
-ghost use Rattle.table.specs.Sound.{contentFits, sound};
+ghost use Rattle.table.specs.Sound.{capacityFits, contentFits, sound};
 ghost use Rattle.table.specs.Answer.{first};
 ghost use Rattle.table.specs.Calls.{tableTests};
 ghost use Rattle.words.specs.Words.{tableOf};
@@ -158,11 +158,18 @@ fn counted(t: &[u16; WORDS]) -> u32
     n
 }
 
-// The capacity is 1 to 128, and the last number given is below it.
+// The capacities that a table may have: 1 to 128.
+pub fn capacity_fits(capacity: u16) -> bool
+    ensures { λ r. ⌜ r ≡ capacityFits capacity ⌝ }
+{
+    1 <= capacity && capacity <= 128
+}
+
+// The capacity is in range, and the last number given is below it.
 fn numbers_fit(capacity: u16, last: u16) -> bool
     ensures { λ r. ⌜ r ≡ numbersFit capacity last ⌝ }
 {
-    1 <= capacity && capacity <= 128 && last < capacity
+    capacity_fits(capacity) && last < capacity
 }
 
 // Step 0 is the alarm, in use, with a bit; its first counter counts nothing.

@@ -72,10 +72,19 @@ pub unless-refused : (n : ℕ) (t : Table) (o : Outcome) → (n ≡ 0 → ⊥) �
 unfolding unless
 unless-refused n t o d = rw (ne-eqb n 0 d)
 
--- a clearing that is not refused
+pub unless-answer : {n m : ℕ} (t u : Table) (o p : Outcome) → n ≡ m → o .answer ≡ p .answer → unless n t o .answer ≡ unless m u p .answer
+unfolding unless
+unless-answer {n} {m} t u o p q r =
+    ⊎-elim (λ (z : eqb m 0 ≡ true). rw (q, z) r) (λ (z : eqb m 0 ≡ false). rw (q, z)) (test (eqb m 0))
+
+-- a clearing that is not refused, and one that is
 pub clear-made : (t : Table) (i e : ℕ) → clearRefusal t i e ≡ 0 → clearCall t i e ≡ cleared t i e
 unfolding clearCall
 clear-made t i e z = unless-zero _ t (cleared t i e) z
+
+pub clear-refused : (t : Table) (i e : ℕ) → (clearRefusal t i e ≡ 0 → ⊥) → clearCall t i e ≡ record { answer = Refused (clearRefusal t i e); table = t }
+unfolding clearCall
+clear-refused t i e d = unless-refused _ t (cleared t i e) d
 
 -- a read or a trial that is refused, and a trial that is not
 pub read-refused : (t : Table) (i : ℕ) → (readRefusal t i ≡ 0 → ⊥) → readCall t i ≡ record { refusal = readRefusal t i; fields = noFields }

@@ -10,6 +10,11 @@ pub mod Restore
 pub mod Repair
 pub mod Release
 pub mod Clear
+pub mod Renumber
+pub mod Follow
 pub mod Plan
 pub mod Calls
 pub mod Trials
+pub mod Squeeze
+pub mod Squeezed
+pub mod SqueezeClear

@@ -10,7 +10,7 @@ use lib.Dec.{eqb}
 use borrow.Author.Tests.{eqb-true, eqb-false, eq-eqb, ne-eqb}
 use Rattle.finite.proofs.Bools.{and-intro, and-left, and-right, clash, refute, test, not-true-false, not-false-true}
 use Rattle.finite.proofs.Below.{le-or-lt, any-at, any-intro}
-use Rattle.table.specs.Table.{Table, places, exits, exitPlace, counterPlace, inUse, targetOf, linkBit, ownBit, holds, strong, leads, linked, stronglyLinked}
+use Rattle.table.specs.Table.{Table, places, exits, exitPlace, counterPlace, inUse, targetOf, linkBit, ownBit, holds, strong, leads, linked, stronglyLinked, countsAt}
 use Rattle.table.specs.Sound.{Shape, Blank, Sound}
 
 -- an exit that holds a link has a target other than 0, and the other way round
@@ -70,6 +70,22 @@ exit-strongly t i j e l h g =
 
 pub strongly-linked : (t : Table) (i j : ℕ) → stronglyLinked t i j ≡ true → linked t i j ≡ true
 strongly-linked t i j h = let r = strongly-exit t i j h in exit-linked t i j (r .0) (r .1) (strong-holds t i (r .0) (r .2)) (r .3)
+
+-- counter b of step j counts the links with bit b to j
+module _ (t : Table) (j b p : ℕ) where
+  pub counts-here : (j ≡ 0 → ⊥) → getD (t .targets) p 0 ≡ j → getD (t .bits) p 0 ≡ b → countsAt t j b p ≡ true
+  unfolding countsAt
+  counts-here d to bit = and-intro (and-intro (ap not (ne-eqb j 0 d)) (eq-eqb _ j to)) (eq-eqb _ b bit)
+
+  pub counts-there : countsAt t j b p ≡ true → (j ≡ 0 → ⊥) × (getD (t .targets) p 0 ≡ j) × (getD (t .bits) p 0 ≡ b)
+  unfolding countsAt
+  counts-there h =
+      let to = not (eqb j 0) && eqb (getD (t .targets) p 0) j in
+      let left = and-left to _ h in (
+        eqb-false j 0 (not-true-false _ (and-left (not (eqb j 0)) _ left)),
+        eqb-true _ _ (and-right (not (eqb j 0)) _ left),
+        eqb-true _ _ (and-right to _ h),
+      )
 
 pub record Wired (t : Table) : Type 0 where
   pub shape : Shape t

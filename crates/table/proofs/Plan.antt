@@ -33,7 +33,7 @@ plan-step-entry : (t : Table) (i : ℕ) → planStep t i ≡ entry (inUse t i) (
 unfolding planStep
 plan-step-entry t i = refl
 
-step-path : {k k′ c c′ : ℕ} {l l′ : List ℕ} → k ≡ k′ → c ≡ c′ → l ≡ l′ →
+pub step-path : {k k′ c c′ : ℕ} {l l′ : List ℕ} → k ≡ k′ → c ≡ c′ → l ≡ l′ →
     _≡_ {A = PlanStep} (record { kind = k; content = c; targets = l }) (record { kind = k′; content = c′; targets = l′ })
 step-path x y z = λ i. record { kind = x i; content = y i; targets = z i }
 
@@ -93,7 +93,7 @@ module _ {t : Table} (w : Wired t) where
   plan-count = count-ext (t .capacity) _ _ (λ i l. plan-used i)
 
 -- a plan is its three parts
-plan-path : {p q : Plan} → p .capacity ≡ q .capacity → p .last ≡ q .last → p .steps ≡ q .steps → p ≡ q
+pub plan-path : {p q : Plan} → p .capacity ≡ q .capacity → p .last ≡ q .last → p .steps ≡ q .steps → p ≡ q
 plan-path x y z = λ i. record { capacity = x i; last = y i; steps = z i }
 
 zeros : _≡_ {A = List ℕ} (tabulate exits (λ e. 0)) (replicate exits 0)

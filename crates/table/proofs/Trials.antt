@@ -29,21 +29,21 @@ record From (t : Table) (i moves : ℕ) (trace results : List ℕ) (o : TrialOut
 
 module _ (t : Table) where
   -- one result: the exit holds a link, or it is empty
-  try-on : (i moves : ℕ) (trace : List ℕ) (r : ℕ) (rs : List ℕ) → holds t i r ≡ true →
+  pub try-on : (i moves : ℕ) (trace : List ℕ) (r : ℕ) (rs : List ℕ) → holds t i r ≡ true →
       tryFrom t i moves trace (r ∷ rs) ≡ tryFrom t (targetOf t i r) (moves + 1) (set trace moves (targetOf t i r)) rs
   unfolding tryFrom
   try-on i moves trace r rs h = rw (h, tryFrom)
 
-  try-end : (i moves : ℕ) (trace : List ℕ) (r : ℕ) (rs : List ℕ) → holds t i r ≡ false →
+  pub try-end : (i moves : ℕ) (trace : List ℕ) (r : ℕ) (rs : List ℕ) → holds t i r ≡ false →
       tryFrom t i moves trace (r ∷ rs) ≡ record { answer = Ended Open i moves; trace = trace }
   unfolding tryFrom
   try-end i moves trace r rs h = rw (h, tryFrom)
 
-  entered-on : (i r : ℕ) (rs : List ℕ) → holds t i r ≡ true → entered t i (r ∷ rs) ≡ targetOf t i r ∷ entered t (targetOf t i r) rs
+  pub entered-on : (i r : ℕ) (rs : List ℕ) → holds t i r ≡ true → entered t i (r ∷ rs) ≡ targetOf t i r ∷ entered t (targetOf t i r) rs
   unfolding entered
   entered-on i r rs h = rw (h, entered)
 
-  entered-end : (i r : ℕ) (rs : List ℕ) → holds t i r ≡ false → entered t i (r ∷ rs) ≡ []
+  pub entered-end : (i r : ℕ) (rs : List ℕ) → holds t i r ≡ false → entered t i (r ∷ rs) ≡ []
   unfolding entered
   entered-end i r rs h = rw (h, entered)
 

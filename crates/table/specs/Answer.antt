@@ -53,6 +53,10 @@ tooShort = 11
 abbrev pub notAccepted : ℕ
 notAccepted = 12
 
+-- document 02, W2
+abbrev pub doesNotFit : ℕ
+doesNotFit = 13
+
 unfoldable pub first : List (Bool × ℕ) → ℕ
 first [] = 0
 first (x ∷ xs) = cond (x .0) (x .1) (first xs)

@@ -1,22 +1,24 @@
 -- The plain plan (the abstract state): a table without bits and counters, and the same calls drawn on it from their arguments alone
 -- (document 01, "The plain plan of a table"). What it shares with the table is what 01 shares: the ranges of contents and results, the number of
--- exits, add's rule for the number given, and the numbers of refusals and "the first that holds". Assumes nothing.
+-- exits, add's rule for the number given, and the numbers of refusals and "the first that holds"; with the squeeze of document 02, W2. Assumes
+-- nothing.
 --   planOf t        the plain plan of a table
 --   planInUse planTarget planHolds planLinked planCount   read on a plan what a table's steps and exits say
---   freshPlan planAdd planLink planClear   the plan after an accepted call
+--   freshPlan planAdd planLink planClear planSqueeze   the plan after an accepted call
+--   packed planRank   the steps of a plan without the gaps, and how many stand before a number
 --   planAddRefusal and so on   the refusal of a call, read on the plan; "1 never holds there"
 --   replan          a plan with another last number and other steps
 use mathlib.Core.Bool.{Bool, true, false, _&&_, not, cond}
-use mathlib.Core.List.{List, [], _∷_}
+use mathlib.Core.List.{List, [], _∷_, _++_, map}
 use mathlib.Core.Option.{Option, none, some}
-use Prim.Native.Nat.{ℕ}
-use lib.ListN.{length, getD, set, replicate}
+use Prim.Native.Nat.{ℕ, _-_}
+use lib.ListN.{length, getD, set, take, replicate}
 use lib.Dec.{eqb, leb, ltb}
 use Rattle.finite.specs.Below.{any, count, tabulate}
 use Rattle.finite.specs.Reach.{marked, reach}
 use Rattle.table.specs.Table.{Table, exits, exitsOf, inUse, kindOf, contentOf, targetOf}
-use Rattle.table.specs.Sound.{contentFits}
-use Rattle.table.specs.Answer.{notInUse, badExit, exitFilled, exitEmpty, badKind, full, badResult, tooShort, first}
+use Rattle.table.specs.Sound.{capacityFits, contentFits}
+use Rattle.table.specs.Answer.{badCapacity, notInUse, badExit, exitFilled, exitEmpty, badKind, full, badResult, tooShort, doesNotFit, first}
 use Rattle.table.specs.Calls.{numberGiven, resultsFit}
 
 -- what a plan keeps of a step in use: "the number, kind, content and four targets"; the number is its place in the list of steps
@@ -112,6 +114,28 @@ pruned p =
 unfoldable pub planClear : Plan → ℕ → ℕ → Plan
 planClear p i e = pruned (withTarget p i e 0)
 
+-- W2. "Steps in use are renumbered from 0 upward in their old order": the gaps between them go
+unfoldable pub packed : List (Option PlanStep) → List PlanStep
+packed [] = []
+packed (none ∷ xs) = packed xs
+packed (some s ∷ xs) = s ∷ packed xs
+
+unfoldable pub planRank : Plan → ℕ → ℕ
+planRank p i = length (packed (take i (p .steps)))
+
+-- "every target follows"
+unfoldable pub followed : Plan → PlanStep → PlanStep
+followed p s = record { kind = s .kind; content = s .content; targets = map (planRank p) (s .targets) }
+
+-- "the plain plan is the renumbered one, with the capacity given and that last number": steps in use less 1
+unfoldable pub planSqueeze : Plan → ℕ → Plan
+planSqueeze p c =
+    record {
+      capacity = c;
+      last = planCount p - 1;
+      steps = map (λ s. some (followed p s)) (packed (p .steps)) ++ replicate (c - planCount p) none;
+    }
+
 unfoldable pub planAddRefusal : Plan → ℕ → ℕ → ℕ → ℕ → ℕ
 planAddRefusal p holder e kind content =
     first
@@ -143,6 +167,9 @@ planClearRefusal p i e =
 
 unfoldable pub planReadRefusal : Plan → ℕ → ℕ
 planReadRefusal p i = first ((not (planInUse p i), notInUse) ∷ [])
+
+unfoldable pub planSqueezeRefusal : Plan → ℕ → ℕ
+planSqueezeRefusal p c = first ((not (capacityFits c), badCapacity) ∷ (ltb c (planCount p), doesNotFit) ∷ [])
 
 -- the results stand in the call by value, and of the trace only the length counts: nothing is asked of the plan
 unfoldable pub planTrialRefusal : List ℕ → ℕ → ℕ

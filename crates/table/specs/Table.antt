@@ -12,7 +12,8 @@
 --   linksTo t j b       the number of links with bit b to j
 --   stepsInUse t        the number of steps in use
 --   StrongChain t a b n   a strong chain (path) of n links from a to b
---   withLinks withSteps   a table with other links and counters, or with another last number and other steps
+--   withNumbers withLinks withSteps   a table with another capacity and last number, with other links and counters, or with another last number and
+--                       other steps
 use mathlib.Core.Path.{_≡_}
 use mathlib.Core.Bool.{Bool, true, _&&_, not}
 use mathlib.Core.List.{List}
@@ -117,7 +118,21 @@ pub record StrongChain (t : Table) (a b n : ℕ) : Type 0 where
   pub begins : inUse t a ≡ true
   pub row : Chain (stronglyLinked t) a b n
 
--- Two ways to write a table; what is not named is as it was.
+-- Three ways to write a table; what is not named is as it was.
+unfoldable pub withNumbers : Table → ℕ → ℕ → Table
+withNumbers t capacity last =
+    record {
+      capacity = capacity;
+      last = last;
+      used = t .used;
+      kinds = t .kinds;
+      contents = t .contents;
+      own = t .own;
+      targets = t .targets;
+      bits = t .bits;
+      counts = t .counts;
+    }
+
 unfoldable pub withLinks : Table → List ℕ → List ℕ → List ℕ → Table
 withLinks t targets bits counts =
     record {

@@ -1,11 +1,12 @@
-// The calls of document 01 as exported functions, for C and Rust. A table is an array of words that the caller owns and lends; a call that changes it
-// writes it in place. Any words may stand in it. Each function makes one proved call and gives its answer by the paper's numbers.
+// The calls of documents 01 and 02 as exported functions, for C and Rust. A table is an array of words that the caller owns and lends; a call that
+// changes it writes it in place. Any words may stand in it. Each function makes one proved call and gives its answer by the paper's numbers.
 ghost use mathlib.Core.Path.{_≡_};
 ghost use mathlib.Core.Bool.{cond};
 ghost use Rattle.table.specs.Sound.{sound};
 ghost use Rattle.table.specs.Answer.{endingNumber};
 ghost use Rattle.table.specs.Calls.{freshCall, addCall, linkCall, readCall, trialCall};
 ghost use Rattle.table.specs.Clear.{clearCall};
+ghost use Rattle.table.specs.Squeeze.{squeezeCall};
 ghost use Rattle.words.specs.Words.{tableOf, wordsOf};
 ghost use Rattle.image.specs.Image.{lengthCall, writeCall, loadCall};
 ghost use Rattle.keyline.specs.Keys.{countsCall, keyCall};
@@ -194,6 +195,15 @@ pub extern "C" fn plan_clear(t: &mut [u16; WORDS], step: u16, exit: u16) -> Repl
     ensures table { λ r. ⌜ now (t .exit) ≡ wordsOf (clearCall (tableOf (now (t .entry))) step exit .table) ⌝ }
 {
     reply_of(clearing::clear(t, step, exit))
+}
+
+// Squeeze: the steps in use get the lowest numbers, in their old order, and the table the capacity given. Refusals: 1, 2, 13.
+#[no_mangle]
+pub extern "C" fn plan_squeeze(t: &mut [u16; WORDS], capacity: u16) -> Reply
+    ensures answer { λ r. ⌜ r ≡ replyOf (squeezeCall (tableOf (now (t .entry))) capacity .answer) ⌝ }
+    ensures table { λ r. ⌜ now (t .exit) ≡ wordsOf (squeezeCall (tableOf (now (t .entry))) capacity .table) ⌝ }
+{
+    reply_of(squeezing::squeeze(t, capacity))
 }
 
 // Counts: first is the steps in use, second the free ones. Refusal: 1.

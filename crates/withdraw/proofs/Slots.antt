@@ -20,10 +20,10 @@ use Rattle.finite.proofs.Below.{le-or-lt, eq-or-ne, count-ext, count-none, coun
 use Rattle.finite.proofs.Loops.{count-add}
 use Rattle.table.specs.Table.{Table, places, exits, counters, exitPlace, counterPlace, inUse, ownBit, targetOf, linkBit, counterOf, stronglyLinked, countsAt, linksTo}
 use Rattle.table.specs.Sound.{Shape}
-use Rattle.table.proofs.Links.{target-holds, holder-used, strong-holds, strong-bit, bit-strong, holds-target, strongly-exit, exit-strongly}
+use Rattle.table.proofs.Links.{counts-here, counts-there, target-holds, holder-used, strong-holds, strong-bit, bit-strong, holds-target, strongly-exit, exit-strongly}
 use Rattle.table.proofs.Relink.{exit-place-split, exit-place-below, counter-place-same, counter-place-below}
 use Rattle.table.proofs.Formed.{Formed, formed-wired, formed-below}
-use Rattle.words.proofs.Formed.{counts-here, counts-there, target-place}
+use Rattle.words.proofs.Formed.{target-place}
 use Rattle.withdraw.specs.Search.{slotAt, ownSlot, lands, landing, Ranged, Exact}
 
 module _ (h : ℕ → ℕ) where

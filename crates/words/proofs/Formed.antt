@@ -1,39 +1,21 @@
--- What a counter counts, and that a table whose fields are in order lets the link in an exit be replaced. Assumes nothing.
---   counts-here counts-there   counter b of step j counts the links with bit b to j
+-- A table whose fields are in order lets the link in an exit be replaced. Assumes nothing.
 --   target-place      what an exit leads to, an empty one too, is a place
 --   formed-linked     what an exit of a step in use holds is in range and counted
 --   formed-room       no counter stands at its top: there are at most 512 links
 --   formed-relinkable both, for a link to any place with any bit
-use mathlib.Core.Path.{_≡_, refl, ap}
-use mathlib.Core.Bool.{true, false, _&&_, not}
+use mathlib.Core.Path.{_≡_, refl}
+use mathlib.Core.Bool.{true, false}
 use mathlib.Core.Logic.{⊎-elim}
 use Prim.Native.Nat.{ℕ, _+_, _*_, _/_, _%_, _≤_, _<_}
 use native.Mathlib.Omega.{arith}
 use lib.ListN.{getD, List·getD-eq-default}
-use lib.Dec.{eqb}
-use borrow.Author.Tests.{eqb-true, eqb-false, eq-eqb, ne-eqb}
-use Rattle.finite.proofs.Bools.{and-intro, and-left, and-right, test, not-true-false}
+use Rattle.finite.proofs.Bools.{test}
 use Rattle.finite.proofs.Below.{le-or-lt, count-le, count-pos}
 use Rattle.table.specs.Table.{Table, places, exits, counters, exitPlace, counterPlace, inUse, targetOf, linkBit, counterOf, holds, countsAt, linksTo}
-use Rattle.table.proofs.Links.{empty-target}
+use Rattle.table.proofs.Links.{counts-here, empty-target}
 use Rattle.table.proofs.Relink.{exit-place-below}
 use Rattle.table.proofs.Formed.{Formed, formed-wired, formed-place, formed-below, lead-used}
 use Rattle.words.specs.Words.{Linked, Relinkable}
-
-module _ (t : Table) (j b p : ℕ) where
-  pub counts-here : (j ≡ 0 → ⊥) → getD (t .targets) p 0 ≡ j → getD (t .bits) p 0 ≡ b → countsAt t j b p ≡ true
-  unfolding countsAt
-  counts-here d to bit = and-intro (and-intro (ap not (ne-eqb j 0 d)) (eq-eqb _ j to)) (eq-eqb _ b bit)
-
-  pub counts-there : countsAt t j b p ≡ true → (j ≡ 0 → ⊥) × (getD (t .targets) p 0 ≡ j) × (getD (t .bits) p 0 ≡ b)
-  unfolding countsAt
-  counts-there h =
-      let to = not (eqb j 0) && eqb (getD (t .targets) p 0) j in
-      let left = and-left to _ h in (
-        eqb-false j 0 (not-true-false _ (and-left (not (eqb j 0)) _ left)),
-        eqb-true _ _ (and-right (not (eqb j 0)) _ left),
-        eqb-true _ _ (and-right to _ h),
-      )
 
 module _ {t : Table} (g : Formed t) where
   pub target-place : (i e : ℕ) → e < exits → targetOf t i e < places

@@ -14,7 +14,7 @@ use lib.ListN.{length, getD, set, take, drop, length-drop}
 use lib.Seq.{set-out, getD-set-same, getD-set-other, getD-take, getD-drop, take-set-le, take-set-lt, drop-set-lt, drop-set-add, take-at, drop-at, take-all, take-add, drop-drop, length-take-le, drop-cons, drop-append-add}
 use lib.Dec.{eqb}
 use borrow.Author.Tests.{eq-eqb, ne-eqb}
-use Rattle.table.specs.Table.{Table, places, exits, counters, counterPlace, withLinks, withSteps}
+use Rattle.table.specs.Table.{Table, places, exits, counters, counterPlace, withLinks, withSteps, withNumbers}
 use Rattle.table.specs.Sound.{Shape}
 use Rattle.table.specs.Calls.{raised, lowered}
 use Rattle.finite.proofs.Bools.{test}
@@ -54,7 +54,7 @@ fields capacity last used kinds contents own targets bits counts =
       counts = counts;
     }
 
-same-fields : (t u : Table) → t .capacity ≡ u .capacity → t .last ≡ u .last → t .used ≡ u .used → t .kinds ≡ u .kinds → t .contents ≡ u .contents →
+pub same-fields : (t u : Table) → t .capacity ≡ u .capacity → t .last ≡ u .last → t .used ≡ u .used → t .kinds ≡ u .kinds → t .contents ≡ u .contents →
     t .own ≡ u .own → t .targets ≡ u .targets → t .bits ≡ u .bits → t .counts ≡ u .counts → t ≡ u
 unfolding fields
 same-fields t u a b c d e f g h i =
@@ -70,6 +70,20 @@ same-fields t u a b c d e f g h i =
 
 -- A store into one word changes the field that it belongs to.
 module _ (w : List ℕ) where
+  pub store-capacity : (x : ℕ) → 0 < length w → tableOf (set w 0 x) ≡ withNumbers (tableOf w) x (tableOf w .last)
+  unfolding tableOf withNumbers
+  store-capacity x l =
+      same-fields _ _
+      (getD-set-same w 0 x 0 l)
+      (getD-set-other w _ 1 x 0 (omega arith))
+      (part-below w usedFrom places _ x (omega arith))
+      (part-below w kindsFrom places _ x (omega arith))
+      (part-below w contentsFrom places _ x (omega arith))
+      (part-below w ownFrom places _ x (omega arith))
+      (part-below w targetsFrom (places * exits) _ x (omega arith))
+      (part-below w bitsFrom (places * exits) _ x (omega arith))
+      (part-below w countsFrom (places * counters) _ x (omega arith))
+
   pub store-last : (x : ℕ) → 1 < length w →
       tableOf (set w 1 x) ≡
       withSteps (tableOf w) x (tableOf w .used) (tableOf w .kinds) (tableOf w .contents) (tableOf w .own)

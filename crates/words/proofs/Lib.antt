@@ -3,3 +3,4 @@ pub mod Laws
 pub mod Refusals
 pub mod Formed
 pub mod Becomes
+pub mod Fields

@@ -4,14 +4,17 @@
 --   tableOf w       the table that the words w stand for
 --   wordsOf t       the words of the table t; `words-table` and `table-words` of the laws say that they are each other's inverse
 --   blankTable c l  the table with no step in use, all fields zero or empty
+--   withFields t i used f   the table with another record of step i
 --   Becomes w v t   the words w have become v: those of the table t, as many as before
 --   Linked t i e    exit e of step i has a place, and the link in it is in range and counted
 --   Relinkable t i e j b   a link to j with bit b can take the place of what exit e of step i holds
 use mathlib.Core.Path.{_≡_}
 use mathlib.Core.List.{List, _∷_, _++_}
 use Prim.Native.Nat.{ℕ, _*_, _<_}
-use lib.ListN.{length, getD, take, drop, replicate}
-use Rattle.table.specs.Table.{Table, places, exits, exitPlaces, counters, targetOf, linkBit, counterOf}
+use lib.ListN.{length, getD, set, take, drop, replicate}
+use lib.Seq.{sets}
+use Rattle.table.specs.declared.Fields.{Fields}
+use Rattle.table.specs.Table.{Table, places, exits, exitPlaces, counters, targetOf, linkBit, counterOf, withLinks, withSteps}
 
 abbrev pub words : ℕ
 words = 1794
@@ -73,6 +76,15 @@ blankTable capacity last =
       bits = replicate (exitPlaces places) 0;
       counts = replicate (places * counters) 0;
     }
+
+-- the table with another record of step i: whether it is in use, and its fields
+unfoldable pub withFields : Table → ℕ → ℕ → Fields → Table
+withFields t i used f =
+    withLinks
+    (withSteps t (t .last) (set (t .used) i used) (set (t .kinds) i (f .kind)) (set (t .contents) i (f .content)) (set (t .own) i (f .own)))
+    (sets (t .targets) (i * exits) (f .targets))
+    (sets (t .bits) (i * exits) (f .bits))
+    (sets (t .counts) (i * counters) (f .counts))
 
 pub record Becomes (before after : List ℕ) (t : Table) : Type 0 where
   pub table : tableOf after ≡ t

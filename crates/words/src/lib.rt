@@ -1,12 +1,14 @@
 // A table as an array of words that is lent to every call: which word is which field, the numbers that the documents give, and the reading and
 // writing of single fields. The one place that changes a link, with its counters, is `relink`.
 ghost use mathlib.Core.Path.{_≡_};
-ghost use Prim.Native.Nat.{ℕ, _*_, _<_};
+ghost use Prim.Native.Nat.{_*_, _<_};
 ghost use lib.ListN.{length, getD, set};
-ghost use Rattle.table.specs.Table.{places, exits, counters, exitPlace, inUse, kindOf, contentOf, ownBit, targetOf, linkBit, counterOf, withLinks, withSteps};
+ghost use lib.Seq.{sets};
+ghost use Rattle.table.specs.Table.{places, exits, counters, exitPlace, inUse, kindOf, contentOf, ownBit, targetOf, linkBit, counterOf, withLinks, withSteps, withNumbers};
 ghost use Rattle.table.specs.Calls.{lowered, raised, relink, withStep};
 ghost use Rattle.table.specs.Clear.{flipped, blanked};
-ghost use Rattle.words.specs.Words.{words, tableOf, wordsOf, blankTable, Becomes, Linked, Relinkable};
+ghost use Rattle.words.specs.Words.{words, tableOf, wordsOf, blankTable, withFields, Becomes, Relinkable};
+use table::Fields;
 
 // The words of a table.
 pub const WORDS: usize = 1794;
@@ -62,6 +64,8 @@ pub const BAD_RESULT: u16 = 10;
 pub const TOO_SHORT: u16 = 11;
 // Not an image that is accepted.
 pub const NOT_ACCEPTED: u16 = 12;
+// The capacity is below the steps in use (document 02, W2).
+pub const DOES_NOT_FIT: u16 = 13;
 
 // The same number, as an index.
 pub fn wide(x: u16) -> usize
@@ -197,14 +201,23 @@ pub fn take_step(t: &mut [u16; WORDS], n: u16, kind: u16, content: u16)
     t[CONTENTS_FROM + i] = content;
 }
 
-// Step i is in use, with these fields; its links and the number last given stay.
-pub fn put_step(t: &mut [u16; WORDS], i: usize, kind: u16, content: u16, own: u16)
+// The capacity and the last number given are set; the steps stay.
+pub fn put_numbers(t: &mut [u16; WORDS], capacity: u16, last: u16)
+    ensures { λ _. ⌜ Becomes (now (t .entry)) (now (t .exit)) (withNumbers (tableOf (now (t .entry))) capacity last) ⌝ }
+{
+    sized(t);
+    t[0] = capacity;
+    t[1] = last;
+}
+
+// Step i is in use where `used` is 1, free where it is 0, with these fields; its links, its counters and the number last given stay.
+pub fn put_step(t: &mut [u16; WORDS], i: usize, used: u16, kind: u16, content: u16, own: u16)
     requires { ⌜ i < places ⌝ }
     ensures { λ _. ⌜ Becomes (now (t .entry)) (now (t .exit)) (withSteps (tableOf (now (t .entry))) (tableOf (now (t .entry)) .last)
-        (set (tableOf (now (t .entry)) .used) i 1) (set (tableOf (now (t .entry)) .kinds) i kind)
+        (set (tableOf (now (t .entry)) .used) i used) (set (tableOf (now (t .entry)) .kinds) i kind)
         (set (tableOf (now (t .entry)) .contents) i content) (set (tableOf (now (t .entry)) .own) i own)) ⌝ }
 {
-    t[USED_FROM + i] = 1;
+    t[USED_FROM + i] = used;
     t[KINDS_FROM + i] = kind;
     t[CONTENTS_FROM + i] = content;
     t[OWN_FROM + i] = own;
@@ -223,13 +236,8 @@ pub fn blank_step(t: &mut [u16; WORDS], i: usize)
     requires { ⌜ i < places ⌝ }
     ensures { λ _. ⌜ Becomes (now (t .entry)) (now (t .exit)) (blanked (tableOf (now (t .entry))) i) ⌝ }
 {
-    t[USED_FROM + i] = 0;
-    t[KINDS_FROM + i] = 0;
-    t[CONTENTS_FROM + i] = 0;
-    t[OWN_FROM + i] = 0;
-    let q = i * COUNTERS;
-    t[COUNTS_FROM + q] = 0;
-    t[COUNTS_FROM + (q + 1)] = 0;
+    put_step(t, i, 0, 0, 0, 0);
+    put_counts(t, i, [0u16; COUNTERS]);
 }
 
 // A target and a bit are put into exit e of step i; no counter changes.
@@ -242,6 +250,43 @@ pub fn put_link(t: &mut [u16; WORDS], i: usize, e: usize, j: u16, b: u16)
     let p = i * EXITS + e;
     t[TARGETS_FROM + p] = j;
     t[BITS_FROM + p] = b;
+}
+
+// Targets and bits are put into the four exits of step i; no counter changes.
+pub fn put_links(t: &mut [u16; WORDS], i: usize, targets: [u16; EXITS], bits: [u16; EXITS])
+    requires { ⌜ i < places ⌝ }
+    ensures { λ _. ⌜ Becomes (now (t .entry)) (now (t .exit)) (withLinks (tableOf (now (t .entry)))
+        (sets (tableOf (now (t .entry)) .targets) (i * exits) targets) (sets (tableOf (now (t .entry)) .bits) (i * exits) bits)
+        (tableOf (now (t .entry)) .counts)) ⌝ }
+{
+    put_link(t, i, 0, targets[0], bits[0]);
+    put_link(t, i, 1, targets[1], bits[1]);
+    put_link(t, i, 2, targets[2], bits[2]);
+    put_link(t, i, 3, targets[3], bits[3]);
+}
+
+// Both counters of step i are set.
+fn put_counts(t: &mut [u16; WORDS], i: usize, counts: [u16; COUNTERS])
+    requires { ⌜ i < places ⌝ }
+    ensures { λ _. ⌜ Becomes (now (t .entry)) (now (t .exit)) (withLinks (tableOf (now (t .entry)))
+        (tableOf (now (t .entry)) .targets) (tableOf (now (t .entry)) .bits) (sets (tableOf (now (t .entry)) .counts) (i * counters) counts)) ⌝ }
+{
+    let q = i * COUNTERS;
+    t[COUNTS_FROM + q] = counts[0];
+    t[COUNTS_FROM + (q + 1)] = counts[1];
+}
+
+// The whole record of step i is set: in use where `used` is 1, free where it is 0, with these fields.
+pub fn put_fields(t: &mut [u16; WORDS], i: usize, used: u16, f: Fields)
+    requires { ⌜ i < places ⌝ }
+    ensures { λ _. ⌜ Becomes (now (t .entry)) (now (t .exit)) (withFields (tableOf (now (t .entry))) i used f) ⌝ }
+{
+    let targets = f.targets;
+    let bits = f.bits;
+    let counts = f.counts;
+    put_step(t, i, used, f.kind, f.content, f.own);
+    put_links(t, i, targets, bits);
+    put_counts(t, i, counts);
 }
 
 // Counter b of step j falls by one; step 0 stands for no step.

@@ -90,12 +90,14 @@ pub enum Refusal {
     TooShort,
     /// 12: image not accepted.
     NotAccepted,
+    /// 13: capacity below the steps in use.
+    DoesNotFit,
     /// A number that this crate does not know. The library of this edition gives none.
     Unknown(u16),
 }
 
 impl Refusal {
-    /// The number in document 01.
+    /// The number in documents 01 and 02.
     pub const fn number(self) -> u16 {
         match self {
             Refusal::NotSound => 1,
@@ -110,6 +112,7 @@ impl Refusal {
             Refusal::BadResult => 10,
             Refusal::TooShort => 11,
             Refusal::NotAccepted => 12,
+            Refusal::DoesNotFit => 13,
             Refusal::Unknown(number) => number,
         }
     }
@@ -130,6 +133,7 @@ impl Refusal {
             10 => Refusal::BadResult,
             11 => Refusal::TooShort,
             12 => Refusal::NotAccepted,
+            13 => Refusal::DoesNotFit,
             _ => Refusal::Unknown(number),
         })
     }
@@ -150,6 +154,7 @@ impl fmt::Display for Refusal {
             Refusal::BadResult => "some line result above 3",
             Refusal::TooShort => "lent buffer shorter than needed",
             Refusal::NotAccepted => "image not accepted",
+            Refusal::DoesNotFit => "capacity below the steps in use",
             Refusal::Unknown(number) => return write!(f, "unknown refusal {number}"),
         })
     }
@@ -367,6 +372,12 @@ impl Table {
     pub fn clear(&mut self, step: u16, exit: Exit) -> Result<Cleared, Refusal> {
         let (doubtful, freed) = two(raw::clear(&mut self.0, step, exit.number()))?;
         Ok(Cleared { doubtful, freed })
+    }
+
+    /// Squeezes the table into that capacity, which may also be larger. The steps in use are renumbered from 0 upward in their order, every target
+    /// follows, bits and counters travel with their steps, and the last number given becomes the highest of them.
+    pub fn squeeze(&mut self, capacity: u16) -> Result<(), Refusal> {
+        two(raw::squeeze(&mut self.0, capacity)).map(|_| ())
     }
 
     /// Carries out a key line, given without its byte 10; gives the two numbers that `keys` prints.

@@ -111,6 +111,8 @@ unsafe extern "C" {
     pub safe fn link(t: &mut Table, source: u16, from: u16, second: u16, into: u16) -> Reply;
     #[link_name = "plan_clear"]
     pub safe fn clear(t: &mut Table, step: u16, exit: u16) -> Reply;
+    #[link_name = "plan_squeeze"]
+    pub safe fn squeeze(t: &mut Table, capacity: u16) -> Reply;
     #[link_name = "plan_read"]
     pub safe fn read(t: &Table, step: u16) -> ReadReply;
     #[link_name = "plan_counts"]

@@ -13,13 +13,19 @@ fn edition_fits() {
 /// A table in which the fields of step 2 and the numbers of the table all differ, the bits but for a few. These are the bits of step 2's links, which
 /// are all strong.
 fn different(bits: [u16; 4]) -> raw::Table {
-    let mut table = raw::Table { capacity: 11, last: 9, ..raw::Table::ZERO };
-    let kinds = [(0, 0, 0), (1, 1, 11), (2, 3, 600), (3, 1, 12), (4, 2, 13), (6, 3, 14)];
-    for (step, kind, content) in kinds.into_iter().chain([(8, 1, 15), (10, 2, 7)]) {
+    numbered(11, 9, bits, [4, 6, 8, 10])
+}
+
+/// The same with these numbers for the four steps that step 2 leads to, of this capacity and with this last number.
+fn numbered(capacity: u16, last: u16, bits: [u16; 4], targets: [usize; 4]) -> raw::Table {
+    let mut table = raw::Table { capacity, last, ..raw::Table::ZERO };
+    let [a, b, c, d] = targets;
+    let kinds = [(0, 0, 0), (1, 1, 11), (2, 3, 600), (3, 1, 12), (a, 2, 13), (b, 3, 14)];
+    for (step, kind, content) in kinds.into_iter().chain([(c, 1, 15), (d, 2, 7)]) {
         (table.used[step], table.kinds[step], table.contents[step]) = (1, kind, content);
     }
     table.own[2] = 1;
-    for (exit, target) in [4, 6, 8, 10].into_iter().enumerate() {
+    for (exit, target) in targets.into_iter().enumerate() {
         (table.targets[2 * 4 + exit], table.bits[2 * 4 + exit]) = (target as u16, bits[exit]);
         table.own[target] = bits[exit];
         table.counts[target * 2 + usize::from(bits[exit])] = 1;
@@ -32,8 +38,8 @@ fn different(bits: [u16; 4]) -> raw::Table {
     table.bits[4..8].fill(1);
     table.targets[12..14].fill(2);
     table.bits[12..14].fill(1);
-    table.targets[16..20].fill(2);
-    table.targets[24] = 2;
+    table.targets[a * 4..a * 4 + 4].fill(2);
+    table.targets[b * 4] = 2;
     (table.counts[4], table.counts[5]) = (5, 7);
     table
 }
@@ -208,6 +214,69 @@ fn one_table_one_image() {
     assert_eq!(again, image);
 }
 
+/// Steps are renumbered in their order; links, bits and counters go with them, and nothing is left at the old places. A second squeeze changes
+/// nothing.
+#[test]
+fn squeezes() {
+    for bits in [[0, 1, 0, 1], [0, 0, 1, 1], [1, 0, 0, 1]] {
+        for capacity in [8, 9, 11, 128] {
+            let mut given = different(bits);
+            let mut expected = numbered(capacity, 7, bits, [4, 5, 6, 7]);
+            // the bit of step 0, and a weak link with bit 1 out of the last step
+            for (table, last) in [(&mut given, 10), (&mut expected, 7)] {
+                table.own[0] = 1;
+                (table.targets[last * 4 + 1], table.bits[last * 4 + 1]) = (3, 1);
+                table.counts[3 * 2 + 1] = 1;
+            }
+            let mut table = Table::from_raw(given.clone()).unwrap();
+            for _ in 0..2 {
+                assert_eq!((table.squeeze(capacity), table.as_raw()), (Ok(()), &expected));
+            }
+            let reply = raw::squeeze(&mut given, capacity);
+            assert_eq!((reply, given), (raw::Reply::default(), expected));
+        }
+    }
+}
+
+/// The number after the last, where the table has a place left; and the image of the squeezed table.
+#[test]
+fn squeezed_tables_are_used() {
+    let mut table = Table::from_raw(different([0, 1, 0, 1])).unwrap();
+    assert_eq!(table.squeeze(9), Ok(()));
+    let mut image = [0; 170];
+    assert_eq!(table.write_image(&mut image), Ok(170));
+    let numbers = image[10..].chunks(20).map(|record| record[4]);
+    assert!(image[4..10] == [9, 0, 7, 0, 8, 0] && numbers.eq(0..8));
+    assert_eq!(Table::load(&image), Ok(table.clone()));
+    let mut trace = [99; 3];
+    let trial = table.trial(&[2, 0, 3], &mut trace).unwrap();
+    assert_eq!((trial.ending, trial.last, trace), (Ending::Spent, 7, [3, 2, 7]));
+    assert_eq!(table.add(7, Exit::NoReply, Kind::Contact(99)), Ok(8));
+    assert_eq!(table.add(7, Exit::Engaged, Kind::Contact(99)), Err(Refusal::Full));
+    assert_eq!((table.squeeze(10), table.counts()), (Ok(()), Ok(Counts { in_use: 9, free: 1 })));
+    assert_eq!(table.add(7, Exit::Engaged, Kind::Contact(99)), Ok(9));
+}
+
+/// 1 before 2 before 13, and nothing changes. A safe table is sound, so 1 is for the calls on any table.
+#[test]
+fn squeezes_refused() {
+    let given = different([0, 0, 1, 1]);
+    let mut table = Table::from_raw(given.clone()).unwrap();
+    for capacity in [0, 129, 256, 257, 65535] {
+        assert_eq!(table.squeeze(capacity), Err(Refusal::BadCapacity));
+    }
+    for capacity in 1..8 {
+        assert_eq!(table.squeeze(capacity), Err(Refusal::DoesNotFit));
+    }
+    assert_eq!(*table.as_raw(), given);
+    let unsound = raw::Table { last: 11, ..given };
+    for capacity in [0, 1, 8, 129] {
+        let mut lent = unsound.clone();
+        let reply = raw::squeeze(&mut lent, capacity);
+        assert_eq!((reply, &lent), (raw::Reply { refusal: 1, first: 0, second: 0 }, &unsound));
+    }
+}
+
 #[test]
 fn tables_of_the_caller() {
     let table = Table::fresh(4).unwrap();
@@ -229,10 +298,11 @@ fn numbers_go_there_and_back() {
     for number in 1..=65535 {
         let refusal = Refusal::check(number).unwrap_err();
         assert_eq!(refusal.number(), number);
-        assert_eq!(matches!(refusal, Refusal::Unknown(_)), number > 12);
+        assert_eq!(matches!(refusal, Refusal::Unknown(_)), number > 13);
     }
     assert_eq!(Refusal::Full.to_string(), "steps in use equal the capacity");
-    assert_eq!(Refusal::Unknown(13).to_string(), "unknown refusal 13");
+    assert_eq!(Refusal::DoesNotFit.to_string(), "capacity below the steps in use");
+    assert_eq!(Refusal::Unknown(14).to_string(), "unknown refusal 14");
     for number in 0..=65535 {
         let exit = Exit::try_from(number);
         assert_eq!(exit.is_ok(), number < 4);

@@ -3,7 +3,7 @@ use mathlib.Core.Path.{_≡_, refl, sym, _∙_}
 use borrow.Author.Needs.{needs}
 use borrow.Author.Tests.{ne-eqb}
 use Rattle.finite.proofs.Bools.{not-false-true}
-use Rattle.table.specs.Calls.{noFields, readRefusal, readCall}
+use Rattle.table.specs.Calls.{readRefusal, readCall}
 use Rattle.table.proofs.Links.{used-place}
 use Rattle.table.proofs.Calls.{nonzero, first-zero}
 use Rattle.words.specs.Words.{tableOf}
@@ -16,10 +16,11 @@ accepted : (c : tie.Else1) → readRefusal (tableOf (c .before .before .args .t 
 accepted c = sym (c .before .read-refusal .ensures) ∙ c .if1 .left
 
 returns : tie.Need-returns
-unfolding readCall noFields
+unfolding readCall
 returns c =
-    let e = c .before .read-refusal .ensures in
-    rw (e, ne-eqb _ 0 (λ z. c .if1 .taken (e ∙ z)))
+    let out = c .before in
+    let e = out .before .read-refusal .ensures in
+    rw (e, ne-eqb _ 0 (λ z. out .if1 .taken (e ∙ z)), c .no-fields .ensures)
 
 fields-of-requires : tie.Need-fields-of-requires
 unfolding readRefusal nonzero
@@ -33,4 +34,4 @@ returns-2 c = rw (accepted (c .before .before), c .before .before .if1 .left, c 
 
 pub read-spec : {M : Type 1} → statement M
 read-spec =
-    tie.close (tie.spec (λ c κs. search needs) returns (λ c κs. search needs) fields-of-requires returns-2)
+    tie.close (tie.spec (λ c κs. search needs) (λ c κs. search needs) returns (λ c κs. search needs) fields-of-requires returns-2)

@@ -14,7 +14,7 @@ unfolding withSteps
 returns c =
     let w = c .args .t .now in
     let i = c .args .i in
-    let w₁ = set w (usedFrom + i) 1 in
+    let w₁ = set w (usedFrom + i) (c .args .used) in
     let w₂ = set w₁ (kindsFrom + i) (c .args .kind) in
     let w₃ = set w₂ (contentsFrom + i) (c .args .content) in
     record {
@@ -24,7 +24,7 @@ returns c =
           (store-contents w₂ i (c .args .content) (c .pre) ∙
           ap (λ (t : Table). withSteps t (t .last) (t .used) (t .kinds) (set (t .contents) i (c .args .content)) (t .own))
           (store-kinds w₁ i (c .args .kind) (c .pre) ∙
-          ap (λ (t : Table). withSteps t (t .last) (t .used) (set (t .kinds) i (c .args .kind)) (t .contents) (t .own)) (store-used w i 1 (c .pre))));
+          ap (λ (t : Table). withSteps t (t .last) (t .used) (set (t .kinds) i (c .args .kind)) (t .contents) (t .own)) (store-used w i (c .args .used) (c .pre))));
       size = length-set w₃ _ _ ∙ length-set w₂ _ _ ∙ length-set w₁ _ _ ∙ length-set w _ _;
     }
 

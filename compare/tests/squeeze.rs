@@ -1,0 +1,65 @@
+//! Squeezes through the interface and on the second program: every capacity on tables with any strengths, and the laws of a squeeze, of which each
+//! call is made by both.
+
+use compare::Pair;
+use reference::faults::Fault;
+use reference::generate::Random;
+use reference::history::{Call, Outcome};
+use reference::laws;
+use reference::sound::sound;
+use reference::table::Table;
+
+/// A call made by both programs, which have to agree. The table becomes the one that they hand back.
+fn both(table: &mut Table, call: &Call) -> Outcome {
+    let mut pair = Pair::new(table, Fault::None);
+    let outcome = pair.call(call).unwrap();
+    *table = pair.second;
+    outcome
+}
+
+/// Every capacity up to 8 bits and some above, on sound tables and damaged ones; of each refusal there are many.
+#[test]
+fn every_capacity() {
+    let mut random = Random(61);
+    let mut refusals = [0; 14];
+    for seed in 0..60 {
+        let mut table = Random(seed).sound_table();
+        for _ in 0..seed % 3 {
+            random.damage(&mut table);
+        }
+        for capacity in (0..=260).chain([32767, 32768, 65408, 65535]) {
+            let outcome = both(&mut table.clone(), &Call::Squeeze { capacity });
+            let expected = match capacity {
+                _ if !sound(&table) => 1,
+                0 | 129.. => 2,
+                _ if capacity < table.size() => 13,
+                _ => 0,
+            };
+            assert_eq!((outcome.refusal, outcome.numbers), (expected, vec![0, 0]), "{capacity}");
+            refusals[usize::from(expected)] += 1;
+        }
+    }
+    for refusal in [0, 1, 2, 13] {
+        assert!(refusals[refusal] > 500, "{refusals:?}");
+    }
+}
+
+#[test]
+fn steps_travel() {
+    assert!(laws::steps_travel(&both, 1000..1200) > 1000);
+}
+
+#[test]
+fn twice_is_once() {
+    assert!(laws::twice_is_once(&both, 1200..1400) > 100);
+}
+
+#[test]
+fn trials_end_alike() {
+    assert!(laws::trials_end_alike(&both, 1400..1600) > 1000);
+}
+
+#[test]
+fn clearings_count_alike() {
+    assert!(laws::clearings_count_alike(&both, 1600..1640) > 100);
+}

@@ -1,0 +1,151 @@
+-- A table by its steps: what a step's record is after one is written, and that tables with the same records are the same. Assumes nothing.
+--   stepAt t k        the record of step k: whether it is in use, and its fields
+--   Sized f           fields that have a place for each exit and counter
+--   with-fields-here with-fields-other with-fields-shape   a table with another record of one step
+--   with-numbers-shape with-numbers-step   a table with other numbers
+--   table-ext         tables with the same numbers and the same records are the same
+use mathlib.Core.Path.{_≡_, refl, sym, _∙_, ap}
+use mathlib.Core.List.{List, [], _∷_}
+use Prim.Native.Nat.{ℕ, zero, suc, _+_, _*_, _/_, _%_, _≤_, _<_}
+use native.Mathlib.Omega.{arith}
+use lib.ListN.{length, getD, set, length-set}
+use lib.Seq.{sets, length-sets, ext-getD, getD-set-same, getD-set-other}
+use Rattle.finite.specs.Below.{tabulate}
+use Rattle.finite.proofs.Below.{getD-tabulate, tabulate-ext}
+use Rattle.finite.proofs.Select.{tabulate-entries}
+use Rattle.table.specs.declared.Fields.{Fields}
+use Rattle.table.specs.Table.{Table, places, exits, counters, exitPlace, counterPlace, kindOf, contentOf, ownBit, targetOf, linkBit, counterOf, withLinks, withSteps, withNumbers}
+use Rattle.table.specs.Sound.{Shape}
+use Rattle.table.specs.Calls.{fieldsOf}
+use Rattle.words.specs.Words.{withFields}
+use Rattle.words.proofs.Laws.{same-fields}
+
+unfoldable pub stepAt : Table → ℕ → ℕ × Fields
+stepAt t k = (getD (t .used) k 0, fieldsOf t k)
+
+pub record Sized (f : Fields) : Type 0 where
+  pub targets : length (f .targets) ≡ exits
+  pub bits : length (f .bits) ≡ exits
+  pub counts : length (f .counts) ≡ counters
+
+-- what a run of stores leaves: elsewhere, and in the run
+sets-other : (vs l : List ℕ) (p q : ℕ) → ((e : ℕ) → e < length vs → q ≡ p + e → ⊥) → getD (sets l p vs) q 0 ≡ getD l q 0
+sets-other [] l p q d = refl
+sets-other (v ∷ vs) l p q d =
+    sets-other vs (set l p v) (suc p) q (λ e h s. d (suc e) (omega arith) (omega arith)) ∙
+    getD-set-other l p q v 0 (λ s. d 0 (omega arith) (omega arith))
+
+sets-here : (vs l : List ℕ) (p e : ℕ) → e < length vs → p + length vs ≤ length l → getD (sets l p vs) (p + e) 0 ≡ getD vs e 0
+sets-here [] l p e h r = absurd (omega arith)
+sets-here (v ∷ vs) l p zero h r =
+    let z : p + 0 ≡ p = omega arith in
+    rw z (sets-other vs (set l p v) (suc p) p (λ e h s. omega arith) ∙ getD-set-same l p v 0 (omega arith))
+sets-here (v ∷ vs) l p (suc e) h r =
+    let z : p + suc e ≡ suc p + e = omega arith in
+    rw z (sets-here vs (set l p v) (suc p) e (omega arith) (omega (arith, length-set l p v)))
+
+-- the w entries of l that belong to step k
+abbrev row : ℕ → List ℕ → ℕ → List ℕ
+row w l k = tabulate w (λ e. getD l (k * w + e) 0)
+
+row-here : (w k : ℕ) (l f : List ℕ) → length f ≡ w → k * w + w ≤ length l → row w (sets l (k * w) f) k ≡ f
+row-here w k l f n r = tabulate-entries w _ f 0 n (λ e h. sets-here f l (k * w) e (omega arith) (omega arith))
+
+row-other : (w j k : ℕ) (l f : List ℕ) → length f ≡ w → ((e d : ℕ) → e < w → d < w → j * w + e ≡ k * w + d → ⊥) →
+    row w (sets l (k * w) f) j ≡ row w l j
+row-other w j k l f n apart =
+    tabulate-ext w _ _ (λ e h. sets-other f l (k * w) (j * w + e) (λ d g s. apart e d h (omega arith) s))
+
+list-ext : (n : ℕ) (l m : List ℕ) → length l ≡ n → length m ≡ n → ((k : ℕ) → k < n → getD l k 0 ≡ getD m k 0) → l ≡ m
+list-ext n l m a b same = ext-getD 0 l m (a ∙ sym b) (λ k h. same k (omega arith))
+
+row-ext : (w n : ℕ) (l m : List ℕ) → length l ≡ n → length m ≡ n → ((p : ℕ) → p < n → (k : ℕ) × (e : ℕ) × (k < places) × (e < w) × (k * w + e ≡ p)) →
+    ((k : ℕ) → k < places → row w l k ≡ row w m k) → l ≡ m
+row-ext w n l m a b split same =
+    list-ext n l m a b
+    (λ p h.
+    let s = split p h in
+    let e = s .1 in
+    let here = ap (λ (xs : List ℕ). getD xs e 0) (same (s .0) (s .2)) in
+    let both : getD l (s .0 * w + e) 0 ≡ getD m (s .0 * w + e) 0 =
+    sym (getD-tabulate w (λ e. getD l (s .0 * w + e) 0) 0 e (s .3)) ∙ here ∙ getD-tabulate w (λ e. getD m (s .0 * w + e) 0) 0 e (s .3) in
+    rw (s .4) at both)
+
+module _ (t : Table) (s : Shape t) (k used : ℕ) (f : Fields) (z : Sized f) where
+  pub with-fields-shape : Shape (withFields t k used f)
+  unfolding withFields withLinks withSteps
+  with-fields-shape =
+      record {
+        used = length-set (t .used) k used ∙ s .used;
+        kinds = length-set (t .kinds) k _ ∙ s .kinds;
+        contents = length-set (t .contents) k _ ∙ s .contents;
+        own = length-set (t .own) k _ ∙ s .own;
+        targets = length-sets (t .targets) _ (f .targets) ∙ s .targets;
+        bits = length-sets (t .bits) _ (f .bits) ∙ s .bits;
+        counts = length-sets (t .counts) _ (f .counts) ∙ s .counts;
+      }
+
+  pub with-fields-here : k < places → stepAt (withFields t k used f) k ≡ (used, f)
+  unfolding stepAt fieldsOf kindOf contentOf ownBit targetOf linkBit counterOf exitPlace counterPlace withFields withLinks withSteps
+  with-fields-here l n = (
+    getD-set-same (t .used) k used 0 (omega (arith, s .used)) n,
+    record {
+      kind = getD-set-same (t .kinds) k (f .kind) 0 (omega (arith, s .kinds)) n;
+      content = getD-set-same (t .contents) k (f .content) 0 (omega (arith, s .contents)) n;
+      own = getD-set-same (t .own) k (f .own) 0 (omega (arith, s .own)) n;
+      targets = row-here exits k (t .targets) (f .targets) (z .targets) (omega (arith, s .targets)) n;
+      bits = row-here exits k (t .bits) (f .bits) (z .bits) (omega (arith, s .bits)) n;
+      counts = row-here counters k (t .counts) (f .counts) (z .counts) (omega (arith, s .counts)) n;
+    },
+  )
+
+  pub with-fields-other : (j : ℕ) → (j ≡ k → ⊥) → stepAt (withFields t k used f) j ≡ stepAt t j
+  unfolding stepAt fieldsOf kindOf contentOf ownBit targetOf linkBit counterOf exitPlace counterPlace withFields withLinks withSteps
+  with-fields-other j d n = (
+    getD-set-other (t .used) k j used 0 d n,
+    record {
+      kind = getD-set-other (t .kinds) k j (f .kind) 0 d n;
+      content = getD-set-other (t .contents) k j (f .content) 0 d n;
+      own = getD-set-other (t .own) k j (f .own) 0 d n;
+      targets = row-other exits j k (t .targets) (f .targets) (z .targets) (λ a b g h q. d (omega arith)) n;
+      bits = row-other exits j k (t .bits) (f .bits) (z .bits) (λ a b g h q. d (omega arith)) n;
+      counts = row-other counters j k (t .counts) (f .counts) (z .counts) (λ a b g h q. d (omega arith)) n;
+    },
+  )
+
+-- another capacity and last number given are no matter to the records
+pub with-numbers-shape : {t : Table} → Shape t → (capacity last : ℕ) → Shape (withNumbers t capacity last)
+unfolding withNumbers
+with-numbers-shape s capacity last =
+    record {
+      used = s .used;
+      kinds = s .kinds;
+      contents = s .contents;
+      own = s .own;
+      targets = s .targets;
+      bits = s .bits;
+      counts = s .counts;
+    }
+
+pub with-numbers-step : (t : Table) (capacity last k : ℕ) → stepAt (withNumbers t capacity last) k ≡ stepAt t k
+unfolding stepAt fieldsOf kindOf contentOf ownBit targetOf linkBit counterOf withNumbers
+with-numbers-step t capacity last k = refl
+
+pub table-ext : (t u : Table) → Shape t → Shape u → t .capacity ≡ u .capacity → t .last ≡ u .last →
+    ((k : ℕ) → k < places → stepAt t k ≡ stepAt u k) → t ≡ u
+unfolding stepAt fieldsOf kindOf contentOf ownBit targetOf linkBit counterOf exitPlace counterPlace
+table-ext t u s r c l same =
+    same-fields t u c l
+    (list-ext places _ _ (s .used) (r .used) (λ k h. ap (λ (x : ℕ × Fields). x .0) (same k h)))
+    (list-ext places _ _ (s .kinds) (r .kinds) (λ k h. ap (λ (x : ℕ × Fields). x .1 .kind) (same k h)))
+    (list-ext places _ _ (s .contents) (r .contents) (λ k h. ap (λ (x : ℕ × Fields). x .1 .content) (same k h)))
+    (list-ext places _ _ (s .own) (r .own) (λ k h. ap (λ (x : ℕ × Fields). x .1 .own) (same k h)))
+    (row-ext exits _ _ _ (s .targets) (r .targets) four (λ k h. ap (λ (x : ℕ × Fields). x .1 .targets) (same k h)))
+    (row-ext exits _ _ _ (s .bits) (r .bits) four (λ k h. ap (λ (x : ℕ × Fields). x .1 .bits) (same k h)))
+    (row-ext counters _ _ _ (s .counts) (r .counts) two (λ k h. ap (λ (x : ℕ × Fields). x .1 .counts) (same k h)))
+  where
+    four : (p : ℕ) → p < places * exits → (k : ℕ) × (e : ℕ) × (k < places) × (e < exits) × (k * exits + e ≡ p)
+    four p h = (p / exits, p % exits, omega arith, omega arith, omega arith)
+
+    two : (p : ℕ) → p < places * counters → (k : ℕ) × (e : ℕ) × (k < places) × (e < counters) × (k * counters + e ≡ p)
+    two p h = (p / counters, p % counters, omega arith, omega arith, omega arith)
