@@ -525,7 +525,7 @@ fn main() {
     for (name, table) in &taken_back {
         clear_row(&format!("127 taken back {name}"), table, (127, 0));
     }
-    println!("The worst order is 1, 127, 2, 126 and so on. Freeing 127 steps takes (a) {:.2} times its soundness test.\n", clearing.median() / test.median());
+    println!("The worst order is 1, 127, 2, 126 and so on. Freeing 127 steps takes (a) {:.2} times its soundness test.", clearing.median() / test.median());
 
     head("Copying a table and squeezing it", &programs);
     squeeze_row("64 of 128 steps in use, spread", &chain((2..128).step_by(2), Chain::Dense));
