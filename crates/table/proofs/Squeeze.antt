@@ -1,7 +1,9 @@
--- Squeeze on a sound table (document 02, W2): the table handed back is sound. Assumes nothing.
+-- Squeeze on a sound table, for any capacity (document 02, W2). Assumes nothing.
+--   squeeze-refusal   it is refused as the plan says
 --   SqueezeFits       the conditions of an accepted squeeze, as facts
+--   squeeze-made squeeze-answer   a squeeze that is not refused, and two that are refused alike
 --   squeeze-sound     the squeezed table is sound
---   squeeze-twice     squeezing twice is squeezing once
+--   squeeze-plan      its plain plan is the plan's squeeze
 use mathlib.Core.Path.{_≡_, refl, sym, _∙_, ap, ap₂, subst}
 use mathlib.Core.Bool.{true, false}
 use mathlib.Core.Logic.{⊎-elim}
@@ -28,7 +30,6 @@ use Rattle.table.proofs.Follow.{Follows, renumbered-follows, new-nonzer
 use Rattle.table.proofs.Plan.{step-path, plan-path, plan-count}
 use Rattle.table.proofs.Calls.{done, next, first-same, nonzero, first-zero, unless-zero, unless-answer, past-sound}
 
--- it is refused as its plan says
 pub squeeze-refusal : {t : Table} → Sound t → (c : ℕ) → squeezeRefusal t c ≡ planSqueezeRefusal (planOf t) c
 unfolding squeezeRefusal planSqueezeRefusal
 squeeze-refusal s c = past-sound s _ ∙ first-same (next refl (λ _. next (ap (ltb c) (sym (plan-count (sound-wired s)))) (λ _. done)))
