@@ -4,19 +4,20 @@
 --   count-past        a count whose last numbers all fail
 --   count-every       a count in which no number fails
 --   tabulate-next tabulate-past take-tabulate   a list by its entries: one more, some more that are all the same, the first of them
+--   tabulate-blocks                             an entry of a list that is made in blocks
 --   map-tabulate map-append                     a change of each entry
 use mathlib.Core.Path.{_≡_, refl, sym, _∙_, ap, ap₂}
 use mathlib.Core.Bool.{Bool, true, false}
 use mathlib.Core.Logic.{⊎-elim}
 use mathlib.Core.List.{List, [], _∷_, _++_, map}
-use Prim.Native.Nat.{ℕ, zero, suc, _+_, _*_, _-_, _≤_, _<_}
-use native.Mathlib.Nat.{zero-mul, suc-mul}
+use Prim.Native.Nat.{ℕ, zero, suc, _+_, _*_, _-_, _/_, _%_, _≤_, _<_}
+use native.Mathlib.Nat.{zero-mul, suc-mul, mul-le-mul-right, mul-add-div-right, mul-add-mod-self-right, div-eq-of-lt, mod-eq-of-lt}
 use native.Mathlib.Omega.{arith}
-use lib.ListN.{take, replicate}
+use lib.ListN.{getD, take, replicate}
 use lib.Seq.{take-at}
 use Rattle.finite.specs.Below.{one, count, tabulate, tabulateFrom}
 use Rattle.finite.proofs.Bools.{test}
-use Rattle.finite.proofs.Below.{count-ext, count-none, length-tabulate}
+use Rattle.finite.proofs.Below.{count-ext, count-none, length-tabulate, getD-tabulate}
 use Rattle.finite.proofs.Loops.{count-add}
 
 -- blocks of w places, one for each number below m; those that pass u are packed
@@ -88,6 +89,15 @@ module _ {A : Type 0} where
       ap (λ (k : ℕ). take n (tabulate k f)) (sym e)
       ∙ ap (take n) (tabulate-add n (c - n) f)
       ∙ take-at (tabulate n f) (tabulateFrom (c - n) n f) n (length-tabulate n f)
+
+-- a list by blocks of w entries: entry e of block k
+pub tabulate-blocks : (n w : ℕ) (g : ℕ → ℕ → ℕ) (k e : ℕ) → k < n → e < w → getD (tabulate (n * w) (λ p. g (p / w) (p % w))) (k * w + e) 0 ≡ g k e
+tabulate-blocks n w g k e l h =
+    let low : suc k * w ≤ n * w = mul-le-mul-right w l in
+    let step = suc-mul k w in
+    let q : (k * w + e) / w ≡ k = mul-add-div-right (omega arith) k e ∙ rw (div-eq-of-lt h) (omega arith) in
+    let r : (k * w + e) % w ≡ e = mul-add-mod-self-right k w e ∙ mod-eq-of-lt h in
+    getD-tabulate (n * w) (λ p. g (p / w) (p % w)) 0 (k * w + e) (omega arith) ∙ rw (q, r)
 
 module _ {A B : Type 0} where
   map-from : (g : A → B) (n k : ℕ) (f : ℕ → A) → map g (tabulateFrom n k f) ≡ tabulateFrom n k (λ i. g (f i))

@@ -14,14 +14,15 @@ use borrow.Author.Tests.{eq-eqb, ne-eqb}
 use Rattle.finite.proofs.Bools.{test}
 use Rattle.finite.proofs.Below.{eq-or-ne}
 use Rattle.table.specs.declared.Answer.the-variants.{Refused, Given}
-use Rattle.table.specs.Table.{Table, inUse, targetOf, holds, stepsInUse}
+use Rattle.table.specs.Table.{Table, targetOf, holds}
 use Rattle.table.specs.Sound.{Sound}
 use Rattle.table.specs.Answer.{Outcome, first, unless, refusalOf, firstOf, secondOf, triedRefusal}
 use Rattle.table.specs.Calls.{addCall, linkCall, readCall, trialRefusal, tryFrom, trialCall}
-use Rattle.table.specs.Clear.{emptied, clearCall}
+use Rattle.table.specs.Clear.{clearCall}
 use Rattle.table.specs.Plan.{planOf, planCount, planReadRefusal, planTrialRefusal}
 use Rattle.table.proofs.Links.{sound-wired}
 use Rattle.table.proofs.Plan.{plan-capacity, plan-count}
+use Rattle.table.proofs.Clear.{emptied-steps}
 use Rattle.table.proofs.Calls.{done, next, first-same, past-sound, unless-zero, unless-refused, add-refusal, link-refusal, clear-refusal, read-refusal, trial-refusal, add-fits, link-fits, clear-fits, number-plan, add-sound, add-plan, link-sound, link-plan, clear-cleared, clear-plan}
 use Rattle.table.specs.Squeeze.{squeezeCall}
 use Rattle.table.proofs.Squeeze.{squeeze-fits, squeeze-sound, squeeze-plan, squeeze-refusal}
@@ -91,9 +92,6 @@ module _ {t : Table} (s : Sound t) where
         heard = (unfold heardAs onlyRefusal refusalOf firstOf secondOf in refl);
       })
 
-  emptied-count : (i e : ℕ) → stepsInUse (emptied t i e) ≡ stepsInUse t
-  emptied-count i e = unfold stepsInUse emptied Rattle.table.specs.Calls.relink Rattle.table.specs.Table.withLinks inUse in refl
-
   beside-clear : (i e : ℕ) → Beside 3 (clearCall t i e) (drawClear (planOf t) i e)
   unfolding clearCall drawClear
   beside-clear i e =
@@ -111,7 +109,7 @@ module _ {t : Table} (s : Sound t) where
             (let before = plan-count (sound-wired s) in
             let after = ap planCount (sym (clear-plan s i e g)) ∙ plan-count (sound-wired (c .sound)) in
             let fall = c .fall in
-            let same = emptied-count i e in
+            let same = emptied-steps t i e in
             omega arith);
       })
     where

@@ -12,7 +12,7 @@ use Rattle.finite.specs.Reach.{Chain, reaches}
 use Rattle.finite.proofs.Bools.{and-intro, and-left, and-right, clash, refute, not-true-false}
 use Rattle.finite.proofs.Reach.{reach-sound, reach-complete}
 use Rattle.table.specs.declared.Answer.the-variants.{Given}
-use Rattle.table.specs.Table.{Table, inUse, linked, stronglyLinked, stepsInUse, withLinks}
+use Rattle.table.specs.Table.{Table, inUse, linked, stronglyLinked, withLinks}
 use Rattle.table.specs.Sound.{Sound}
 use Rattle.table.specs.Answer.{Outcome, first, firstOf, unless}
 use Rattle.table.specs.Calls.{relink, addRefusal, addCall, linkRefusal, linkCall, trialCall}
@@ -24,7 +24,7 @@ use Rattle.table.proofs.Links.{sound-wired, linked-below}
 use Rattle.table.proofs.Formed.{formed-wired}
 use Rattle.table.proofs.Spine.{strong-below}
 use Rattle.table.proofs.Calls.{unless-zero, clear-made, add-fits, link-fits, clear-fits, number-plan, add-sound, add-plan, link-sound, link-plan, clear-cleared, clear-plan}
-use Rattle.table.proofs.Clear.{formed-emptied, sound-reached}
+use Rattle.table.proofs.Clear.{emptied-steps, formed-emptied, sound-reached}
 use Rattle.table.proofs.Renumber.{new-rises, new-below, squeezed-renumbered}
 use Rattle.table.proofs.Follow.{renumbered-follows, used-new-step, follow-strong}
 use Rattle.table.proofs.Squeeze.{squeeze-made, squeeze-answer, squeeze-fits, squeeze-sound, squeeze-plan}
@@ -131,11 +131,8 @@ clear-demand t s i e z =
                 (ap not (refute _ (λ x. let p = reach-sound (stronglyLinked u) (u .capacity) 0 k x in y .1 (p .0) (record { begins = formed .alarm; row = p .1 })))),
           );
       counted = c .doubtfuls;
-      fall = c .fall ∙ emptied-count t i e;
+      fall = c .fall ∙ emptied-steps t i e;
     })
-  where
-    emptied-count : (t : Table) (i e : ℕ) → stepsInUse (emptied t i e) ≡ stepsInUse t
-    emptied-count t i e = unfold stepsInUse emptied relink withLinks inUse in refl
 
 pub count-demand : (t : Table) → Sound t → CountDemand t (spokenCounts t)
 count-demand t s = rw (spoken-plan t s) (record { same = refl; spoken = refl })

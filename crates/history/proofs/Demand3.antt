@@ -3,18 +3,17 @@ use mathlib.Core.Path.{_≡_, refl, _∙_, ap, ap₂}
 use mathlib.Core.Bool.{Bool, true, false, not, cond}
 use mathlib.Core.Logic.{⊎-elim}
 use mathlib.Core.List.{List, [], _∷_}
-use Prim.Native.Nat.{ℕ, _≤_, _<_}
+use Prim.Native.Nat.{ℕ, _<_}
 use native.Mathlib.Omega.{arith}
-use lib.Dec.{leb, eqb}
-use borrow.Author.Tests.{leb-true}
-use Rattle.finite.proofs.Bools.{and-left, and-right, test}
+use lib.Dec.{eqb}
+use Rattle.finite.proofs.Bools.{test}
 use Rattle.table.specs.declared.Answer.the-variants.{Given, Refused}
 use Rattle.table.specs.Table.{Table, places, counters, inUse, counterOf, linksTo, stepsInUse, StrongChain}
 use Rattle.table.specs.Sound.{Sound, sound, capacityFits}
 use Rattle.table.specs.Answer.{Outcome, badCapacity, notAccepted, first, unless, refusalOf}
 use Rattle.table.specs.Calls.{freshTable, freshCall}
 use Rattle.table.specs.Plan.{Plan, planOf, freshPlan}
-use Rattle.table.proofs.Sound.{test-sound, sound-test}
+use Rattle.table.proofs.Sound.{capacity-range, test-sound, sound-test}
 use Rattle.table.proofs.Formed.{sound-formed}
 use Rattle.table.proofs.Spine.{strong-chain-short}
 use Rattle.table.proofs.Edits.{sound-fresh}
@@ -39,10 +38,6 @@ only : (P : Outcome → Type 0) (c : Bool) (n : ℕ) (t : Table) (o : Outcome) �
     (c ≡ false → P (record { answer = Refused n; table = t })) → P (unless (first ((not c, n) ∷ [])) t o)
 only P c n t o z passed failed =
     ⊎-elim (λ h. rw (only-passed c n t o h) (passed h)) (λ h. rw (only-failed c n t o z h) (failed h)) (test c)
-
-capacity-range : (c : ℕ) → capacityFits c ≡ true → (1 ≤ c) × (c ≤ places)
-unfolding capacityFits
-capacity-range c h = (leb-true 1 c (and-left (leb 1 c) _ h), leb-true c places (and-right (leb 1 c) _ h))
 
 -- what a history begins with is sound, and its plan is the plan that it begins with
 record Begun (f : First) : Type 0 where

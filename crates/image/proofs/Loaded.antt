@@ -7,7 +7,7 @@ use mathlib.Core.Bool.{Bool, true, false, _&&_, not, cond}
 use mathlib.Core.Logic.{⊎-elim}
 use mathlib.Core.List.{List}
 use mathlib.Core.Option.{Option, none, some}
-use Prim.Native.Nat.{ℕ, _+_, _*_, _/_, _%_, _≤_, _<_}
+use Prim.Native.Nat.{ℕ, _*_, _/_, _%_, _≤_, _<_}
 use native.Mathlib.Omega.{arith}
 use lib.ListN.{length, getD}
 use lib.Dec.{eqb, leb, ltb}
@@ -16,6 +16,7 @@ use Rattle.finite.specs.Below.{all, one, tabulate}
 use Rattle.finite.proofs.Bools.{and-intro, and-left, and-right, not-true-false, test}
 use Rattle.finite.proofs.Below.{all-at, all-intro, lowest-passes, getD-tabulate, tabulate-ext}
 use Rattle.finite.proofs.Select.{isValue, lowest-any}
+use Rattle.finite.proofs.Packed.{tabulate-blocks}
 use Rattle.table.specs.Table.{places, exits, exitPlace, inUse, kindOf, contentOf, ownBit, targetOf, linkBit, withLinks}
 use Rattle.table.specs.Sound.{Sound, sound}
 use Rattle.table.specs.Plan.{PlanStep, planStep, planOf}
@@ -98,10 +99,7 @@ module _ (bs : List ℕ) where
   exit-field : (field : ℕ → ℕ → ℕ) (i e : ℕ) → i < places → e < exits →
       getD (tabulate (places * exits) (λ p. recordField bs (p / exits) (λ k. field k (p % exits)))) (exitPlace i e) 0 ≡ recordField bs i (λ k. field k e)
   unfolding exitPlace
-  exit-field field i e h l =
-      let q : (i * exits + e) / exits ≡ i = omega arith in
-      let r : (i * exits + e) % exits ≡ e = omega arith in
-      getD-tabulate (places * exits) (λ p. recordField bs (p / exits) (λ k. field k (p % exits))) 0 (i * exits + e) (omega arith) ∙ rw (q, r)
+  exit-field field i e h l = tabulate-blocks places exits (λ i e. recordField bs i (λ k. field k e)) i e h l
 
   pub table-target : (i e : ℕ) → i < places → e < exits → targetOf (imageTable bs) i e ≡ recordField bs i (λ k. targetIn bs k e)
   unfolding targetOf imageTable counted withLinks

@@ -25,7 +25,7 @@ use Rattle.table.proofs.Renumber.{new-used, new-free, new-most, new-rises, new-
 use Rattle.words.specs.Words.{withFields}
 use Rattle.words.proofs.Formed.{target-place}
 use Rattle.words.proofs.Fields.{stepAt, Sized, with-fields-here, with-fields-other, with-fields-shape, with-numbers-shape, with-numbers-step, table-ext}
-use Rattle.squeezing.specs.Moves.{followed, movedStep, renumbered, Movable}
+use Rattle.squeezing.specs.Moves.{followed, movedStep, squeezedSteps, Movable}
 
 -- a step in use under its new number, and a free one
 unfoldable pub stepMoved : Table → ℕ → ℕ × Fields
@@ -246,8 +246,8 @@ module _ {t u : Table} (w : Wired t) (g : Staged t u (t .capacity)) where
       rw (x .2) at (g .moved (x .0) (used-below w (x .0) (x .1)) (x .1) ∙ sym (squeezed-moved w (t .capacity) (x .0) (x .1))))
       (le-or-lt (stepsInUse t) k)
 
-  pub staged-done : Shape u → u ≡ renumbered t
-  unfolding renumbered withNumbers
+  pub staged-done : Shape u → u ≡ squeezedSteps t
+  unfolding squeezedSteps withNumbers
   staged-done s =
-      table-ext u (renumbered t) s (with-numbers-shape (squeezed-shape t (t .capacity)) (t .capacity) (t .last)) (g .capacity) (g .last)
+      table-ext u (squeezedSteps t) s (with-numbers-shape (squeezed-shape t (t .capacity)) (t .capacity) (t .last)) (g .capacity) (g .last)
       (λ k l. all-moved k l ∙ sym (with-numbers-step (squeezed t (t .capacity)) (t .capacity) (t .last) k))

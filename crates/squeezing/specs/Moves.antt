@@ -1,7 +1,7 @@
 -- Steps moved to their new numbers, one and all (document 02, W2). Assumes nothing.
 --   followed new f       the fields f with every target under its new number
 --   movedStep new i t    the table in which step i has moved to the number `new i`, and its old place is empty
---   renumbered t         the steps of the squeezed table, with the capacity and the last number given as they were
+--   squeezedSteps t      the steps of the squeezed table, with the capacity and the last number given as they were
 --   Movable numbers t i  step i can be moved: its number, its new number and its targets are places
 use mathlib.Core.List.{List, map}
 use Prim.Native.Nat.{ℕ, _<_}
@@ -26,8 +26,8 @@ followed new f =
 unfoldable pub movedStep : (ℕ → ℕ) → ℕ → Table → Table
 movedStep new i t = withFields (withFields t i 0 noFields) (new i) 1 (followed new (fieldsOf t i))
 
-unfoldable pub renumbered : Table → Table
-renumbered t = withNumbers (squeezed t (t .capacity)) (t .capacity) (t .last)
+unfoldable pub squeezedSteps : Table → Table
+squeezedSteps t = withNumbers (squeezed t (t .capacity)) (t .capacity) (t .last)
 
 pub record Movable (numbers : List ℕ) (t : Table) (i : ℕ) : Type 0 where
   pub step : i < places

@@ -9,7 +9,7 @@ ghost use Rattle.table.specs.Sound.{Sound};
 ghost use Rattle.table.specs.Calls.{fieldsOf};
 ghost use Rattle.table.specs.Squeeze.{newNumber, squeezeRefusal, squeezeCall};
 ghost use Rattle.words.specs.Words.{tableOf, wordsOf, Becomes};
-ghost use Rattle.squeezing.specs.Moves.{followed, movedStep, renumbered, Movable};
+ghost use Rattle.squeezing.specs.Moves.{followed, movedStep, squeezedSteps, Movable};
 use table::Answer;
 use table::Fields;
 use words::PLACES;
@@ -81,7 +81,7 @@ fn move_step(t: &mut [u16; WORDS], i: usize, numbers: &[u16; PLACES])
 // All steps in use are moved to their new numbers; the capacity and the last number given stay.
 fn move_steps(t: &mut [u16; WORDS])
     requires { ⌜ Sound (tableOf (now t)) ⌝ }
-    ensures { λ _. ⌜ Becomes (now (t .entry)) (now (t .exit)) (renumbered (tableOf (now (t .entry)))) ⌝ }
+    ensures { λ _. ⌜ Becomes (now (t .entry)) (now (t .exit)) (squeezedSteps (tableOf (now (t .entry)))) ⌝ }
 {
     words::sized(t);
     let numbers = new_numbers(t);

@@ -15,20 +15,19 @@ use lib.Dec.{eqb}
 use borrow.Author.Tests.{eqb-false, eq-eqb, ne-eqb, leb-false}
 use Rattle.finite.proofs.Bools.{and-left, and-right, test, not-true-false, not-false-true}
 use Rattle.finite.proofs.Below.{find-ext}
-use Rattle.finite.proofs.Reach.{chain-keeps, reach-sound}
 use Rattle.table.specs.declared.Answer.the-variants.{Given, Refused}
 use Rattle.table.specs.declared.Tried.the-variants.{Refused as TrialRefused}
-use Rattle.table.specs.Table.{Table, exits, inUse, targetOf, holds, linked, stepsInUse}
+use Rattle.table.specs.Table.{Table, exits, inUse, targetOf, holds, stepsInUse}
 use Rattle.table.specs.Sound.{Sound, contentFits, sound}
 use Rattle.table.specs.Answer.{Outcome, notSound, first, unless}
 use Rattle.table.specs.Calls.{numberGiven, withStep, addRefusal, addTable, weakBit, linkRefusal, linkTable, noFields, readRefusal, readCall, tryFrom, trialRefusal, trialCall}
 use Rattle.table.specs.Clear.{emptied, stops, repairOf, repaired, cleared, clearRefusal, clearCall}
 use Rattle.table.specs.Plan.{Plan, planOf, planNumber, replan, withTarget, planAdd, planLink, pruned, planClear, planAddRefusal, planLinkRefusal, planClearRefusal, planReadRefusal, planTrialRefusal}
-use Rattle.table.proofs.Links.{Wired, sound-wired, linked-used}
+use Rattle.table.proofs.Links.{Wired, sound-wired}
 use Rattle.table.proofs.Sound.{sound-test}
 use Rattle.table.proofs.Formed.{sound-formed, formed-wired}
 use Rattle.table.proofs.Edits.{number-given, sound-link, sound-add, formed-with-step, with-step-kept}
-use Rattle.table.proofs.Clear.{Cleared, formed-emptied, cleared-stop, cleared-repair}
+use Rattle.table.proofs.Clear.{reached-in-use, Cleared, formed-emptied, cleared-stop, cleared-repair}
 use Rattle.table.proofs.Plan.{plan-capacity, plan-used, plan-target, plan-holds, plan-count, plan-relink, plan-with-step, plan-pruned}
 
 -- two orders with the same conditions, each asked for only where those before it do not hold
@@ -261,8 +260,5 @@ module _ {t : Table} (s : Sound t) where
       where
         cleared-still : (k : ℕ) → inUse (cleared t i e .table) k ≡ true → inUse (emptied t i e) k ≡ true
         cleared-still k y =
-            let f = formed-wired (formed-emptied t s i e (g .used) (g .exit) (g .filled)) in
-            let r = reach-sound (linked (emptied t i e)) _ 0 k (sym (clear-cleared .3 .used k) ∙ y) in
-            chain-keeps (λ x. inUse (emptied t i e) x ≡ true) (λ a b _ l. linked-used f a b l .1)
-            (formed-emptied t s i e (g .used) (g .exit) (g .filled) .alarm)
-            (r .1)
+            let f = formed-emptied t s i e (g .used) (g .exit) (g .filled) in
+            reached-in-use (formed-wired f) (f .alarm) k (sym (clear-cleared .3 .used k) ∙ y)

@@ -2,34 +2,37 @@
 -- step 0 once the exit is emptied, and the two counts are what the rules say. Assumes nothing.
 --   Cleared t i e o     what a clearing of exit e of step i comes to
 --   clear-cleared       the four rules come to that
-use mathlib.Core.Path.{_≡_, refl, sym, _∙_, ap, ap₂, subst}
-use mathlib.Core.Bool.{Bool, true, false, _&&_, _||_, not, cond}
+use mathlib.Core.Path.{_≡_, refl, sym, _∙_, ap}
+use mathlib.Core.Bool.{Bool, true, false, _&&_, not}
 use mathlib.Core.Logic.{_⊎_, inl, inr, ⊎-elim}
 use mathlib.Core.List.{List}
-use Prim.Native.Nat.{ℕ, zero, suc, _+_, _*_, _-_, _/_, _%_, _≤_, _<_}
+use Prim.Native.Nat.{ℕ, _+_, _*_, _/_, _%_, _<_}
 use native.Mathlib.Omega.{arith}
-use lib.ListN.{length, getD, List·getD-eq-default}
-use lib.Dec.{eqb, ltb}
-use borrow.Author.Tests.{eqb-true, eqb-false, eq-eqb, ltb-true}
+use lib.ListN.{getD, List·getD-eq-default}
+use lib.Dec.{eqb}
+use borrow.Author.Tests.{eqb-true, ltb-true}
 use Rattle.finite.specs.Below.{count, tabulate}
 use Rattle.finite.specs.Reach.{Chain, start, then, marked, reach, reaches}
 use Rattle.finite.proofs.Bools.{and-intro, and-left, and-right, or-elim, clash, refute, test, same-test, not-true-false}
-use Rattle.finite.proofs.Below.{le-or-lt, eq-or-ne, count-ext, count-le, count-none, count-some, count-split, length-tabulate, getD-tabulate}
+use Rattle.finite.proofs.Below.{le-or-lt, count-ext, count-le, count-none, count-some, count-split, length-tabulate, getD-tabulate}
 use Rattle.finite.proofs.Reach.{chain-map, chain-keeps, reach-sound, reach-complete, reach-closed, reach-start, reach-below}
-use Rattle.table.specs.declared.Answer.the-variants.{Given}
-use Rattle.table.specs.Answer.{Outcome}
-use Rattle.table.specs.Table.{Table, places, exits, counters, exitPlace, inUse, kindOf, contentOf, ownBit, targetOf, linkBit, counterOf, holds, strong, linked, stronglyLinked, countsAt, linksTo, stepsInUse, withLinks}
+use Rattle.table.specs.Table.{Table, exits, counters, inUse, kindOf, contentOf, ownBit, targetOf, linkBit, holds, strong, linked, stronglyLinked, countsAt, linksTo, stepsInUse, withLinks}
 use Rattle.table.specs.Sound.{Sound}
 use Rattle.table.specs.Calls.{relink}
-use Rattle.table.specs.Clear.{Repair, emptied, heldStrongly, stops, doubtful, repair, release, size, repaired}
-use Rattle.table.proofs.Links.{sound-wired, holder-used, target-holds, empty-target, exit-linked, holds-target, strong-holds, bit-strong, strongly-exit, exit-strongly, strongly-linked, linked-used, linked-below}
-use Rattle.table.proofs.Relink.{exit-place-split, relink-target, relink-bit}
+use Rattle.table.specs.Clear.{Repair, emptied, heldStrongly, stops, doubtful, repair, release, size}
+use Rattle.table.proofs.Links.{Wired, sound-wired, holder-used, target-holds, empty-target, exit-linked, holds-target, strong-holds, bit-strong, strongly-exit, exit-strongly, strongly-linked, linked-used, linked-below}
+use Rattle.table.proofs.Relink.{exit-place-split, relink-target}
 use Rattle.table.proofs.Formed.{Formed, at-exit, sound-formed, formed-wired, formed-place, formed-below, formed-relink}
 use Rattle.table.proofs.Spine.{Spine, sound-spine, spine-sound, spine-fewer, spine-ext, strong-below}
 use Rattle.table.proofs.Edits.{strong-same, relink-strongly, relink-strongly-other}
-use Rattle.table.proofs.Alike.{alike-refl, alike-used, alike-target, alike-linked}
+use Rattle.table.proofs.Alike.{alike-refl, alike-used, alike-target}
 use Rattle.table.proofs.Repair.{keptIn, Repairing, Repaired, repair-done, no-link-out, kept-reached}
 use Rattle.table.proofs.Release.{Released, released}
+
+-- what links reach from step 0 is in use
+pub reached-in-use : {t : Table} → Wired t → inUse t 0 ≡ true → (k : ℕ) → reaches (linked t) (t .capacity) 0 k ≡ true → inUse t k ≡ true
+reached-in-use {t} w alarm k r =
+    chain-keeps (λ x. inUse t x ≡ true) (λ a b _ l. linked-used w a b l .1) alarm (reach-sound (linked t) (t .capacity) 0 k r .1)
 
 -- in a sound table the steps in use are those that links reach
 pub sound-reached : {t : Table} → Sound t → (k : ℕ) → inUse t k ≡ reaches (linked t) (t .capacity) 0 k
@@ -39,9 +42,7 @@ sound-reached {t} s k =
     (λ u.
     let c = s .reached k u in
     reach-complete (linked t) (t .capacity) (λ a b l. linked-below w a b l) (s .least) (chain-map (λ a b l. strongly-linked t a b l) (c .1 .row)))
-    (λ r.
-    let c = reach-sound (linked t) (t .capacity) 0 k r in
-    chain-keeps (λ x. inUse t x ≡ true) (λ a b u l. linked-used w a b l .1) (s .alarm) (c .1))
+    (reached-in-use w (s .alarm) k)
 
 -- What a clearing comes to: o is its outcome, and u the table with the exit emptied.
 pub record Cleared (u : Table) (doubts freed : ℕ) (v : Table) : Type 0 where
@@ -54,6 +55,16 @@ pub record Cleared (u : Table) (doubts freed : ℕ) (v : Table) : Type 0 where
   pub target : (k e : ℕ) → e < exits → inUse v k ≡ true → targetOf v k e ≡ targetOf u k e
   pub doubtfuls : doubts ≡ count (u .capacity) (λ k. inUse u k && not (reaches (stronglyLinked u) (u .capacity) 0 k))
   pub fall : stepsInUse v + freed ≡ stepsInUse u
+
+-- an emptied exit changes no step
+module _ (t : Table) (i e : ℕ) where
+  pub emptied-used : (k : ℕ) → inUse (emptied t i e) k ≡ inUse t k
+  unfolding emptied relink withLinks inUse
+  emptied-used k = refl
+
+  pub emptied-steps : stepsInUse (emptied t i e) ≡ stepsInUse t
+  unfolding stepsInUse inUse emptied relink withLinks
+  emptied-steps = refl
 
 module _ (t : Table) (s : Sound t) (i e : ℕ) (ui : inUse t i ≡ true) (le : e < exits) (h : holds t i e ≡ true) where
   abbrev u : Table
@@ -69,10 +80,6 @@ module _ (t : Table) (s : Sound t) (i e : ℕ) (ui : inUse t i ≡ true) (le : e
 
   emptied-weak : strong u i e ≡ false
   emptied-weak = refute _ (λ x. holds-target u i e (strong-holds u i e x) emptied-target)
-
-  pub emptied-used : (k : ℕ) → inUse u k ≡ inUse t k
-  unfolding emptied relink withLinks inUse
-  emptied-used k = refl
 
   pub emptied-fewer : (a b : ℕ) → stronglyLinked u a b ≡ true → stronglyLinked t a b ≡ true
   unfolding emptied
@@ -98,8 +105,8 @@ module _ (t : Table) (s : Sound t) (i e : ℕ) (ui : inUse t i ≡ true) (le : e
   held-parent j uj d x =
       let g = formed-emptied in
       let b = ownBit u j in
-      let lb : b < counters = g .own j (emptied-used j ∙ uj) in
-      let some : 0 < linksTo u j b = rw (sym (g .exact j b (formed-place g j (emptied-used j ∙ uj)) lb)) (ltb-true _ _ x) in
+      let lb : b < counters = g .own j (emptied-used t i e j ∙ uj) in
+      let some : 0 < linksTo u j b = rw (sym (g .exact j b (formed-place g j (emptied-used t i e j ∙ uj)) lb)) (ltb-true _ _ x) in
       let p = count-some (u .capacity * exits) _ some in
       let both = and-left (not (eqb j 0) && eqb (getD (u .targets) (p .0) 0) j) _ (p .2) in
       let a = p .0 / exits in
@@ -108,15 +115,15 @@ module _ (t : Table) (s : Sound t) (i e : ℕ) (ui : inUse t i ≡ true) (le : e
       let at : targetOf u a f ≡ j = ap (λ (q : ℕ). getD (u .targets) q 0) (exit-place-split (p .0)) ∙ eqb-true _ _ (and-right (not (eqb j 0)) _ both) in
       let bit : linkBit u a f ≡ b = ap (λ (q : ℕ). getD (u .bits) q 0) (exit-place-split (p .0)) ∙ eqb-true _ _ (and-right (not (eqb j 0) && eqb (getD (u .targets) (p .0) 0) j) _ (p .2)) in
       let filled = target-holds u a f (λ z. d (sym at ∙ z)) in
-      (a, sym (emptied-used a) ∙ holder-used (formed-wired g) a f lf filled, exit-strongly u a j f lf (bit-strong u a f filled (bit ∙ sym (ap (ownBit u) at))) at)
+      (a, sym (emptied-used t i e a) ∙ holder-used (formed-wired g) a f lf filled, exit-strongly u a j f lf (bit-strong u a f filled (bit ∙ sym (ap (ownBit u) at))) at)
 
   -- Rule 1 stops: every step keeps a parent.
   stop-sound : stops t i e ≡ true → Sound u
   unfolding stops
   stop-sound x =
       spine-sound formed-emptied
-      (spine-ext (λ k. sym (emptied-used k))
-      (spine-fewer (sound-spine s) u (λ k y. emptied-used k ∙ y) emptied-fewer
+      (spine-ext (λ k. sym (emptied-used t i e k))
+      (spine-fewer (sound-spine s) u (λ k y. emptied-used t i e k ∙ y) emptied-fewer
       (λ j y d.
       let p = sound-spine s .parent j y d in
       ⊎-elim (λ l. (p .0, p .1, l))
@@ -171,8 +178,8 @@ module _ (t : Table) (s : Sound t) (i e : ℕ) (ui : inUse t i ≡ true) (le : e
         top = p .top;
         root = reach-start (stronglyLinked u) (u .capacity) 0 low;
         used = reached-used;
-        low = λ k r. p .low k (sym (emptied-used k) ∙ reached-used k r);
-        rising = λ a b r l. p .rising a b (sym (emptied-used a) ∙ reached-used a r) (emptied-fewer a b l);
+        low = λ k r. p .low k (sym (emptied-used t i e k) ∙ reached-used k r);
+        rising = λ a b r l. p .rising a b (sym (emptied-used t i e a) ∙ reached-used a r) (emptied-fewer a b l);
         closed = λ a b r l. reach-closed (stronglyLinked u) (u .capacity) 0 low a b (reach-below (stronglyLinked u) (u .capacity) 0 a r) (edge a b l) r l;
         parent = λ j r d. let c = reach-sound (stronglyLinked u) (u .capacity) 0 j r in last-reached j (c .0) (c .1) d;
       }

@@ -7,14 +7,14 @@
 use mathlib.Core.Path.{_≡_, refl, _∙_, ap}
 use mathlib.Core.Bool.{Bool, true, false, _&&_, cond}
 use mathlib.Core.Logic.{⊎-elim}
-use Prim.Native.Nat.{ℕ, _+_, _*_, _/_, _%_, _≤_, _<_}
+use Prim.Native.Nat.{ℕ, _+_, _*_, _≤_, _<_}
 use native.Mathlib.Omega.{arith}
 use lib.ListN.{getD, List·getD-eq-default}
 use lib.Dec.{eqb, ltb}
 use borrow.Author.Tests.{eqb-true, eq-eqb, lt-ltb, le-ltb}
-use Rattle.finite.specs.Below.{tabulate}
 use Rattle.finite.proofs.Bools.{and-intro, and-left, and-right}
 use Rattle.finite.proofs.Below.{le-or-lt, count-le, length-tabulate, getD-tabulate}
+use Rattle.finite.proofs.Packed.{tabulate-blocks}
 use Rattle.finite.proofs.Loops.{count-zero, count-hit, count-miss}
 use Rattle.finite.proofs.Select.{select, count-rises, count-injective, lowest-only}
 use Rattle.table.specs.Table.{Table, places, exits, counters, exitPlace, counterPlace, inUse, kindOf, contentOf, ownBit, targetOf, linkBit, counterOf, stepsInUse}
@@ -114,29 +114,17 @@ module _ (t : Table) (c : ℕ) where
   unfolding ownBit squeezed
   squeezed-own k l = getD-tabulate places _ 0 k l
 
-  -- a field of each exit, tabulated over all exits, and one of each counter
-  exit-field : (field : ℕ → ℕ → ℕ) (k e : ℕ) → k < places → e < exits →
-      getD (tabulate (places * exits) (λ p. moved t (p / exits) (λ i. field i (p % exits)))) (exitPlace k e) 0 ≡ moved t k (λ i. field i e)
-  unfolding exitPlace
-  exit-field field k e l h =
-      let q : (k * exits + e) / exits ≡ k = omega arith in
-      let r : (k * exits + e) % exits ≡ e = omega arith in
-      getD-tabulate (places * exits) (λ p. moved t (p / exits) (λ i. field i (p % exits))) 0 (k * exits + e) (omega arith) ∙ rw (q, r)
-
   pub squeezed-target : (k e : ℕ) → k < places → e < exits → targetOf (squeezed t c) k e ≡ moved t k (λ i. newNumber t (targetOf t i e))
-  unfolding targetOf squeezed
-  squeezed-target k e l h = exit-field (λ i e. newNumber t (targetOf t i e)) k e l h
+  unfolding targetOf exitPlace squeezed
+  squeezed-target k e l h = tabulate-blocks places exits (λ k e. moved t k (λ i. newNumber t (targetOf t i e))) k e l h
 
   pub squeezed-bit : (k e : ℕ) → k < places → e < exits → linkBit (squeezed t c) k e ≡ moved t k (λ i. linkBit t i e)
-  unfolding linkBit squeezed
-  squeezed-bit k e l h = exit-field (linkBit t) k e l h
+  unfolding linkBit exitPlace squeezed
+  squeezed-bit k e l h = tabulate-blocks places exits (λ k e. moved t k (λ i. linkBit t i e)) k e l h
 
   pub squeezed-counter : (k b : ℕ) → k < places → b < counters → counterOf (squeezed t c) k b ≡ moved t k (λ i. counterOf t i b)
   unfolding counterOf counterPlace squeezed
-  squeezed-counter k b l h =
-      let q : (k * counters + b) / counters ≡ k = omega arith in
-      let r : (k * counters + b) % counters ≡ b = omega arith in
-      getD-tabulate (places * counters) (λ q. moved t (q / counters) (λ i. counterOf t i (q % counters))) 0 (k * counters + b) (omega arith) ∙ rw (q, r)
+  squeezed-counter k b l h = tabulate-blocks places counters (λ k b. moved t k (λ i. counterOf t i b)) k b l h
 
   pub squeezed-entry : (k : ℕ) → k < places → getD (squeezed t c .used) k 0 ≡ moved t k (λ i. 1)
   unfolding squeezed

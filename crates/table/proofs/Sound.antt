@@ -1,21 +1,18 @@
 -- The statement and the test of soundness are one: `test-sound` and `sound-test`. Assumes nothing.
-use mathlib.Core.Path.{_≡_, refl, sym, _∙_, ap}
-use mathlib.Core.Bool.{Bool, true, false, _&&_, _||_, not}
-use mathlib.Core.Logic.{_⊎_, inl, inr, ⊎-elim}
-use mathlib.Core.List.{List, [], _∷_}
-use Prim.Native.Nat.{ℕ, zero, suc, _+_, _*_, _≤_, _<_}
+use mathlib.Core.Path.{_≡_, refl, ap}
+use mathlib.Core.Bool.{Bool, true, not}
+use Prim.Native.Nat.{ℕ, _≤_, _<_}
 use native.Mathlib.Omega.{arith}
-use lib.ListN.{length, getD}
-use lib.Dec.{eqb, leb, ltb}
+use lib.Dec.{leb}
 use borrow.Author.Tests.{eqb-true, eq-eqb, leb-true, le-leb, ltb-true, lt-ltb}
-use Rattle.finite.specs.Below.{all, passes}
-use Rattle.finite.specs.Reach.{Chain, reaches}
-use Rattle.finite.proofs.Bools.{passes-at, and-intro, and-left, and-right, clash, refute, test, implied, imply, otherwise, either, not-true-false}
-use Rattle.finite.proofs.Below.{le-or-lt, all-at, all-intro}
+use Rattle.finite.specs.Below.{passes}
+use Rattle.finite.specs.Reach.{reaches}
+use Rattle.finite.proofs.Bools.{passes-at, and-intro, and-left, and-right, clash, refute, implied, imply, otherwise, either, not-true-false}
+use Rattle.finite.proofs.Below.{all-at, all-intro}
 use Rattle.finite.proofs.Reach.{chain-head, reach-sound, reach-complete, chain-first}
-use Rattle.table.specs.Table.{Table, places, exits, counters, inUse, kindOf, contentOf, ownBit, targetOf, linkBit, counterOf, holds, stronglyLinked, linksTo, StrongChain}
-use Rattle.table.specs.Sound.{Shape, Blank, Sound, capacityFits, eachUsed, shapeTests, blankTests, ringless, soundTests, sound, kindFits}
-use Rattle.table.proofs.Links.{Wired, sound-wired, used-below, used-place, linked-used, linked-below, strongly-linked}
+use Rattle.table.specs.Table.{Table, places, exits, counters, inUse, holds, stronglyLinked}
+use Rattle.table.specs.Sound.{Shape, Blank, Sound, capacityFits, eachUsed, shapeTests, blankTests, ringless, soundTests, sound}
+use Rattle.table.proofs.Links.{Wired, sound-wired, used-below, used-place, linked-below, strongly-linked}
 
 pub each-used-at : (t : Table) (p : ℕ → Bool) → eachUsed t p ≡ true → (i : ℕ) → i < places → inUse t i ≡ true → p i ≡ true
 unfolding eachUsed
@@ -73,6 +70,11 @@ blank-tests t i s =
     (and-intro (all-intro exits _ (λ e l. eq-eqb _ _ (s .targets e l)))
     (and-intro (all-intro exits _ (λ e l. eq-eqb _ _ (s .bits e l)))
     (and-intro (all-intro counters _ (λ b l. eq-eqb _ _ (s .counts b l))) refl))))))
+
+-- a capacity in range
+pub capacity-range : (c : ℕ) → capacityFits c ≡ true → (1 ≤ c) × (c ≤ places)
+unfolding capacityFits
+capacity-range c h = (leb-true 1 c (and-left (leb 1 c) _ h), leb-true c places (and-right (leb 1 c) _ h))
 
 module _ (t : Table) where
   tests-wired : passes (soundTests t) ≡ true → Wired t

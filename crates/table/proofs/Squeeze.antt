@@ -12,18 +12,19 @@ use mathlib.Core.Option.{Option, none, some}
 use Prim.Native.Nat.{ℕ, zero, suc, _+_, _-_, _≤_, _<_}
 use native.Mathlib.Omega.{arith}
 use lib.ListN.{length, replicate, length-map}
-use lib.Dec.{leb, ltb}
-use borrow.Author.Tests.{ne-eqb, leb-true, ltb-false, le-ltb}
-use Rattle.finite.proofs.Bools.{and-left, and-right, test, not-false-true}
+use lib.Dec.{ltb}
+use borrow.Author.Tests.{ne-eqb, ltb-false, le-ltb}
+use Rattle.finite.proofs.Bools.{test, not-false-true}
 use Rattle.finite.proofs.Below.{eq-or-ne, length-tabulate, tabulate-ext}
 use Rattle.finite.proofs.Packed.{tabulate-next, tabulate-past, take-tabulate, map-tabulate, map-append}
 use Rattle.finite.specs.Below.{tabulate, tabulateFrom}
 use Rattle.finite.specs.Reach.{Chain}
 use Rattle.table.specs.declared.Answer.the-variants.{Given}
 use Rattle.table.specs.Table.{Table, places, exits, inUse, kindOf, contentOf, ownBit, targetOf, linkBit, counterOf, holds, stronglyLinked, linksTo, stepsInUse, StrongChain}
-use Rattle.table.specs.Sound.{Blank, Sound, capacityFits, contentFits, kindFits}
+use Rattle.table.specs.Sound.{Blank, Sound, contentFits, kindFits}
 use Rattle.table.specs.Squeeze.{newNumber, squeezed, squeezeRefusal, squeezeCall, Renumbered}
 use Rattle.table.specs.Plan.{PlanStep, planStep, planOf, packed, planRank, followed, planSqueeze, planSqueezeRefusal}
+use Rattle.table.proofs.Sound.{capacity-range}
 use Rattle.table.proofs.Links.{Wired, sound-wired, empty-target, used-below}
 use Rattle.table.proofs.Renumber.{new-zero, new-used, new-free, new-all, new-once, new-below, moved-none, squeezed-shape, squeezed-entry, squeezed-kind, squeezed-content, squeezed-own, squeezed-target, squeezed-bit, squeezed-counter, squeezed-renumbered}
 use Rattle.table.proofs.Follow.{Follows, renumbered-follows, new-nonzero, used-new-step, new-used-step, follow-holds, follow-chain, follow-chain-back, follow-links}
@@ -40,11 +41,11 @@ pub record SqueezeFits (t : Table) (c : ℕ) : Type 0 where
   pub room : stepsInUse t ≤ c
 
 pub squeeze-fits : (t : Table) (c : ℕ) → squeezeRefusal t c ≡ 0 → SqueezeFits t c
-unfolding squeezeRefusal nonzero capacityFits
+unfolding squeezeRefusal nonzero
 squeeze-fits t c z =
     let at = first-zero _ z refl in
-    let h = not-false-true _ (at 1) in
-    record { least = leb-true 1 c (and-left (leb 1 c) _ h); most = leb-true c places (and-right (leb 1 c) _ h); room = ltb-false c _ (at 2) }
+    let r = capacity-range c (not-false-true _ (at 1)) in
+    record { least = r .0; most = r .1; room = ltb-false c _ (at 2) }
 
 -- a squeeze that is not refused, and two that are refused alike
 pub squeeze-made : (t : Table) (c : ℕ) → squeezeRefusal t c ≡ 0 → squeezeCall t c ≡ record { answer = Given 0 0; table = squeezed t c }

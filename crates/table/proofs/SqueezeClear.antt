@@ -9,20 +9,18 @@ use native.Mathlib.Omega.{arith}
 use lib.Dec.{ltb}
 use borrow.Author.Tests.{leb-false}
 use Rattle.finite.specs.Below.{count}
-use Rattle.finite.specs.Reach.{reaches}
 use Rattle.finite.proofs.Bools.{and-left}
 use Rattle.finite.proofs.Below.{eq-or-ne}
-use Rattle.finite.proofs.Reach.{chain-keeps, reach-sound}
 use Rattle.table.specs.declared.Answer.the-variants.{Given, Refused}
-use Rattle.table.specs.Table.{Table, places, exits, inUse, ownBit, targetOf, linkBit, linked, stepsInUse, withLinks}
+use Rattle.table.specs.Table.{Table, places, exits, inUse, ownBit, targetOf, linkBit, stepsInUse, withLinks}
 use Rattle.table.specs.Sound.{Sound}
 use Rattle.table.specs.Calls.{relink}
 use Rattle.table.specs.Clear.{emptied, cleared, clearRefusal, clearCall}
 use Rattle.table.specs.Squeeze.{newNumber, squeezed, ClearsAlike}
-use Rattle.table.proofs.Links.{Wired, sound-wired, used-place, linked-used}
+use Rattle.table.proofs.Links.{Wired, sound-wired, used-place}
 use Rattle.table.proofs.Relink.{relink-target, relink-target-other, relink-bit, relink-bit-other}
 use Rattle.table.proofs.Formed.{at-exit, formed-wired}
-use Rattle.table.proofs.Clear.{Cleared, formed-emptied}
+use Rattle.table.proofs.Clear.{reached-in-use, Cleared, emptied-used, emptied-steps, formed-emptied}
 use Rattle.table.proofs.Calls.{done, next, first-same, past-sound, clear-made, clear-refused, ClearFits, clear-fits, clear-cleared}
 use Rattle.table.proofs.Renumber.{new-zero, new-once, squeezed-renumbered}
 use Rattle.table.proofs.Follow.{Follows, renumbered-follows, new-used-step, follow-holds, follow-used, follow-reach, follow-strong-reach, follow-count}
@@ -34,17 +32,9 @@ module _ (t : Table) (i e : ℕ) where
   unfolding newNumber inUse emptied relink withLinks
   emptied-new k = refl
 
-  emptied-steps : stepsInUse (emptied t i e) ≡ stepsInUse t
-  unfolding stepsInUse inUse emptied relink withLinks
-  emptied-steps = refl
-
   emptied-own : (k : ℕ) → ownBit (emptied t i e) k ≡ ownBit t k
   unfolding ownBit emptied relink withLinks
   emptied-own k = refl
-
-  emptied-in-use : (k : ℕ) → inUse (emptied t i e) k ≡ inUse t k
-  unfolding inUse emptied relink withLinks
-  emptied-in-use k = refl
 
 module _ {t : Table} (s : Sound t) (c : ℕ) (fit : SqueezeFits t c) (i e : ℕ) (used : inUse t i ≡ true) where
   abbrev u : Table
@@ -108,14 +98,14 @@ module _ {t : Table} (s : Sound t) (c : ℕ) (fit : SqueezeFits t c) (i e : ℕ)
     emptied-follows : Follows (emptied t i e) (emptied u k e)
     emptied-follows =
         record {
-          used = λ j. emptied-in-use u k e j ∙ f .used j ∙ ap (ltb j) (sym (emptied-steps t i e));
+          used = λ j. emptied-used u k e j ∙ f .used j ∙ ap (ltb j) (sym (emptied-steps t i e));
           target =
               λ j g x l.
-              rw (emptied-new t i e j, emptied-new t i e (targetOf (emptied t i e) j g)) (target-there j g (sym (emptied-in-use t i e j) ∙ x) l);
+              rw (emptied-new t i e j, emptied-new t i e (targetOf (emptied t i e) j g)) (target-there j g (sym (emptied-used t i e j) ∙ x) l);
           own =
               λ j x.
-              rw (emptied-new t i e j) (emptied-own u k e (newNumber t j) ∙ f .own j (sym (emptied-in-use t i e j) ∙ x) ∙ sym (emptied-own t i e j));
-          bit = λ j g x l. rw (emptied-new t i e j) (bit-there j g (sym (emptied-in-use t i e j) ∙ x) l);
+              rw (emptied-new t i e j) (emptied-own u k e (newNumber t j) ∙ f .own j (sym (emptied-used t i e j) ∙ x) ∙ sym (emptied-own t i e j));
+          bit = λ j g x l. rw (emptied-new t i e j) (bit-there j g (sym (emptied-used t i e j) ∙ x) l);
         }
 
   -- a clearing that is made
@@ -127,7 +117,7 @@ module _ {t : Table} (s : Sound t) (c : ℕ) (fit : SqueezeFits t c) (i e : ℕ)
     wired′ = formed-wired (formed-emptied u v k e (h .used) (h .exit) (h .filled))
 
     alarm : inUse (emptied t i e) 0 ≡ true
-    alarm = emptied-in-use t i e 0 ∙ s .alarm
+    alarm = emptied-used t i e 0 ∙ s .alarm
 
     follows : Follows (emptied t i e) (emptied u k e)
     follows = emptied-follows (g .exit)
@@ -150,14 +140,10 @@ module _ {t : Table} (s : Sound t) (c : ℕ) (fit : SqueezeFits t c) (i e : ℕ)
         (λ j y. and-left (inUse (emptied u k e) j) _ y)
         ∙ sym (a .doubtfuls)
 
-    -- what links reach is in use
-    reached-used : {t : Table} → Wired t → inUse t 0 ≡ true → (j : ℕ) → reaches (linked t) (t .capacity) 0 j ≡ true → inUse t j ≡ true
-    reached-used {t} w z j y = chain-keeps (λ x. inUse t x ≡ true) (λ p q _ l. linked-used w p q l .1) z (reach-sound (linked t) (t .capacity) 0 j y .1)
-
     kept-same : (j : ℕ) → inUse t j ≡ true → inUse (cleared u k e .table) (newNumber t j) ≡ inUse (cleared t i e .table) j
     kept-same j x =
         b .used (newNumber t j)
-        ∙ (rw (emptied-new t i e j) at (follow-reach wired alarm follows wired′ j (emptied-in-use t i e j ∙ x)))
+        ∙ (rw (emptied-new t i e j) at (follow-reach wired alarm follows wired′ j (emptied-used t i e j ∙ x)))
         ∙ sym (a .used j)
 
     steps-same : stepsInUse (cleared u k e .table) ≡ stepsInUse (cleared t i e .table)
@@ -166,8 +152,8 @@ module _ {t : Table} (s : Sound t) (c : ℕ) (fit : SqueezeFits t c) (i e : ℕ)
         ap (λ (n : ℕ). count n (inUse (cleared u k e .table))) (b .capacity)
         ∙ follow-count wired alarm follows wired′ (inUse (cleared t i e .table)) (inUse (cleared u k e .table))
         (λ j x. b .used (newNumber (emptied t i e) j) ∙ follow-reach wired alarm follows wired′ j x ∙ sym (a .used j))
-        (λ j y. reached-used wired alarm j (sym (a .used j) ∙ y))
-        (λ j y. reached-used wired′ (emptied-in-use u k e 0 ∙ v .alarm) j (sym (b .used j) ∙ y))
+        (λ j y. reached-in-use wired alarm j (sym (a .used j) ∙ y))
+        (λ j y. reached-in-use wired′ (emptied-used u k e 0 ∙ v .alarm) j (sym (b .used j) ∙ y))
         ∙ ap (λ (n : ℕ). count n (inUse (cleared t i e .table))) (sym (a .capacity))
 
     freed-same : clear-cleared v k e h .1 ≡ clear-cleared s i e g .1

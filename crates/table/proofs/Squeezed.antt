@@ -10,21 +10,21 @@ use native.Mathlib.Omega.{arith}
 use lib.ListN.{length, getD, set, take, drop, length-map}
 use lib.Seq.{take-at, drop-at}
 use lib.Dec.{ltb}
-use borrow.Author.Tests.{ltb-true, lt-ltb}
+use borrow.Author.Tests.{lt-ltb}
 use Rattle.finite.proofs.Bools.{test, not-false-true}
-use Rattle.finite.proofs.Below.{eq-or-ne, le-or-lt, all-at, tabulate-ext}
+use Rattle.finite.proofs.Below.{eq-or-ne, le-or-lt, tabulate-ext}
 use Rattle.finite.proofs.Packed.{count-every}
 use Rattle.table.specs.Table.{Table, places, exits, counters, inUse, kindOf, contentOf, ownBit, targetOf, linkBit, counterOf, holds, stepsInUse}
 use Rattle.table.specs.Sound.{Sound}
 use Rattle.table.specs.Answer.{movesOf}
-use Rattle.table.specs.Calls.{tryFrom, resultsFit, trialConditions, trialRefusal, trialCall}
+use Rattle.table.specs.Calls.{tryFrom, trialConditions, trialRefusal, trialCall}
 use Rattle.table.specs.Trial.{entered, triedUnder, underNumbers}
 use Rattle.table.specs.Squeeze.{newNumber, oldNumber, moved, squeezed, squeezeRefusal, Renumbered}
 use Rattle.table.proofs.Links.{Wired, sound-wired, empty-target}
 use Rattle.table.proofs.Renumber.{new-zero, new-step, new-below, moved-step, moved-none, moved-new, old-new, squeezed-renumbered}
 use Rattle.table.proofs.Follow.{Follows, renumbered-follows, follow-holds, follow-used}
 use Rattle.table.proofs.Calls.{done, next, first-same, past-sound, trial-refusal, nonzero, first-zero, trial-refused, trial-made}
-use Rattle.table.proofs.Trials.{try-on, try-end, entered-on, entered-end, trial-demand}
+use Rattle.table.proofs.Trials.{results-at, try-on, try-end, entered-on, entered-end, trial-demand}
 use Rattle.table.proofs.Squeeze.{SqueezeFits, squeezed-wired, squeeze-sound}
 
 -- a field of each step of u is that of the steps of t that were moved there
@@ -113,10 +113,6 @@ module _ {t : Table} (s : Sound t) (c : ℕ) (fit : SqueezeFits t c) where
   Fit : List ℕ → Type 0
   Fit results = (k : ℕ) → k < length results → getD results k 0 < exits
 
-  results-fit : (results : List ℕ) → resultsFit results ≡ true → Fit results
-  unfolding resultsFit Fit
-  results-fit results h k l = ltb-true _ _ (all-at (length results) _ h k l)
-
   -- from a step in use: the steps entered, and how it ends
   entered-under : (i : ℕ) (results : List ℕ) → inUse t i ≡ true → Fit results →
       entered u (newNumber t i) results ≡ map (newNumber t) (entered t i results)
@@ -153,8 +149,8 @@ module _ {t : Table} (s : Sound t) (c : ℕ) (fit : SqueezeFits t c) where
   trial-refusal-same results trace = trial-refusal (squeeze-sound s c fit) results trace ∙ sym (trial-refusal s results trace)
 
   accepted-fit : (results trace : List ℕ) → trialRefusal t results trace ≡ 0 → Fit results
-  unfolding trialRefusal nonzero
-  accepted-fit results trace z = results-fit results (not-false-true _ (first-zero (trialConditions t results trace) z refl 1))
+  unfolding trialRefusal nonzero Fit
+  accepted-fit results trace z = results-at results (not-false-true _ (first-zero (trialConditions t results trace) z refl 1))
 
   trial-made-under : (results trace : List ℕ) → trialRefusal t results trace ≡ 0 →
       trialCall u results trace ≡ underNumbers (newNumber t) (trialCall t results trace)

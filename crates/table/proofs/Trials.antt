@@ -1,24 +1,30 @@
 -- What a trial that is not refused does: its moves are the steps entered, and the trace has them first. Assumes nothing.
 use mathlib.Core.Path.{_≡_, refl, sym, _∙_, ap}
-use mathlib.Core.Bool.{Bool, true, false}
+use mathlib.Core.Bool.{true, false}
 use mathlib.Core.Logic.{⊎-elim}
 use mathlib.Core.List.{List, [], _∷_, _++_}
 use Prim.Native.Nat.{ℕ, suc, _+_, _≤_, _<_}
 use native.Mathlib.Omega.{arith}
 use native.Mathlib.Nat.{zero-add}
 use native.Mathlib.Numerals.{add-one}
-use lib.ListN.{length, set, take, drop, length-set, take-append-drop}
-use lib.Seq.{take-suc-set, drop-set-lt, append-snoc, drop-drop}
-use lib.Dec.{eqb, ltb}
-use borrow.Author.Tests.{eq-eqb, ltb-false}
+use lib.ListN.{length, getD, set, take, drop, length-set, take-append-drop}
+use lib.Seq.{take-suc-set, drop-set-lt, append-snoc}
+use lib.Dec.{ltb}
+use borrow.Author.Tests.{ltb-true, ltb-false}
 use Rattle.finite.proofs.Bools.{test}
-use Rattle.table.specs.declared.Ending.the-variants.{Open, Spent}
+use Rattle.finite.proofs.Below.{all-at}
+use Rattle.table.specs.declared.Ending.the-variants.{Open}
 use Rattle.table.specs.declared.Tried.the-variants.{Ended}
-use Rattle.table.specs.Table.{Table, targetOf, holds}
+use Rattle.table.specs.Table.{Table, exits, targetOf, holds}
 use Rattle.table.specs.Answer.{endingNumber, endingOf, movesOf}
-use Rattle.table.specs.Calls.{TrialOutcome, tryFrom, trialConditions, trialRefusal, trialCall}
+use Rattle.table.specs.Calls.{TrialOutcome, tryFrom, resultsFit, trialConditions, trialRefusal, trialCall}
 use Rattle.table.proofs.Calls.{nonzero, first-zero, trial-made}
 use Rattle.table.specs.Trial.{entered, TrialDemand}
+
+-- each line result of a trial that is not refused with 10
+pub results-at : (results : List ℕ) → resultsFit results ≡ true → (k : ℕ) → k < length results → getD results k 0 < exits
+unfolding resultsFit
+results-at results h k l = ltb-true (getD results k 0) exits (all-at (length results) _ h k l)
 
 -- from step i, after so many moves
 record From (t : Table) (i moves : ℕ) (trace results : List ℕ) (o : TrialOutcome) : Type 0 where

@@ -8,22 +8,17 @@ use native.Mathlib.Numerals.{add-one}
 use native.Mathlib.Omega.{arith}
 use lib.ListN.{length, getD, set, drop, length-set}
 use lib.Seq.{drop-cons, drop-length}
-use borrow.Author.Tests.{ltb-true, lt-ltb, le-ltb, ne-eqb}
-use Rattle.finite.proofs.Below.{all-at}
+use borrow.Author.Tests.{lt-ltb, le-ltb, ne-eqb}
 use Rattle.table.specs.declared.Ending.the-variants.{Open, Spent}
 use Rattle.table.specs.declared.Tried.{Tried}
 use Rattle.table.specs.declared.Tried.the-variants.{Refused, Ended}
-use Rattle.table.specs.Table.{Table, places, exits, targetOf}
+use Rattle.table.specs.Table.{Table, places, targetOf}
 use Rattle.table.specs.Sound.{Sound}
 use Rattle.table.specs.Answer.{badResult, tooShort, first}
 use Rattle.table.specs.Calls.{TrialOutcome, tableTests, tryFrom, resultsFit, trialRefusal, trialCall}
 use Rattle.table.proofs.Links.{target-holds, target-empty}
 use Rattle.table.proofs.Sound.{sound-test}
 use Rattle.words.proofs.Refusals.{table-stopped}
-
-pub results-at : (results : List ℕ) → resultsFit results ≡ true → (k : ℕ) → k < length results → getD results k 0 < exits
-unfolding resultsFit
-results-at results h k l = ltb-true (getD results k 0) exits (all-at (length results) _ h k l)
 
 -- the trial after so many moves: no result is left, or the next one ends it, or makes a move
 module _ (t : Table) (i moves : ℕ) (trace results : List ℕ) where

@@ -49,7 +49,7 @@ module _ (t : Table) (i e : ℕ) (s : Sound t) (ui : inUse t i ≡ true) (le : e
   g = formed-emptied t s i e ui le h
 
   start-used : inUse u start ≡ true
-  start-used = emptied-used t s i e ui le h start ∙ s .targets i e ui le h
+  start-used = emptied-used t i e start ∙ s .targets i e ui le h
 
   start-low : start < places
   start-low = formed-place g start start-used
@@ -121,14 +121,14 @@ module _ (t : Table) (i e : ℕ) (s : Sound t) (ui : inUse t i ≡ true) (le : e
         ⊎-elim
         (λ (z : j ≡ 0). rw z (reach-start (stronglyLinked u) (u .capacity) 0 (g .least)))
         (λ (d : j ≡ 0 → ⊥).
-        let p = sound-spine s .parent j (sym (emptied-used t s i e ui le h j) ∙ y) d in
+        let p = sound-spine s .parent j (sym (emptied-used t i e j) ∙ y) d in
         let here : stronglyLinked u (p .0) j ≡ true =
         ⊎-elim (λ x. x) (λ x. clash (rw (x .0) start-marked) m) (emptied-strongly t s i e ui le h (p .0) j (p .2)) in
-        let low-p : p .0 < places = formed-place g (p .0) (emptied-used t s i e ui le h (p .0) ∙ p .1) in
+        let low-p : p .0 < places = formed-place g (p .0) (emptied-used t i e (p .0) ∙ p .1) in
         let some = landing-some u (p .0) j low-p here in
         let k = kept-parent u ranged (u .counts) exact left marks ended j (omega arith) (formed-place g j y) m some in
         let uk = linked-used (formed-wired g) (k .0) j (strongly-linked u (k .0) j (k .2)) .0 in
-        let rise = sound-spine s .rising (k .0) j (sym (emptied-used t s i e ui le h (k .0)) ∙ uk) (emptied-fewer t s i e ui le h (k .0) j (k .2)) in
+        let rise = sound-spine s .rising (k .0) j (sym (emptied-used t i e (k .0)) ∙ uk) (emptied-fewer t s i e ui le h (k .0) j (k .2)) in
         let r = unmarked-reached n (k .0) (omega arith) uk (k .1) in
         reach-closed (stronglyLinked u) (u .capacity) 0 (g .least) (k .0) j (formed-below g (k .0) uk) (formed-below g j y) r (k .2))
         (eq-or-ne j 0)

@@ -70,35 +70,30 @@ same-fields t u a b c d e f g h i =
 
 -- A store into one word changes the field that it belongs to.
 module _ (w : List ℕ) where
-  pub store-capacity : (x : ℕ) → 0 < length w → tableOf (set w 0 x) ≡ withNumbers (tableOf w) x (tableOf w .last)
+  -- the two words before the parts
+  store-number : (q x : ℕ) → q < usedFrom → tableOf (set w q x) ≡ withNumbers (tableOf w) (getD (set w q x) 0 0) (getD (set w q x) 1 0)
   unfolding tableOf withNumbers
-  store-capacity x l =
+  store-number q x l =
       same-fields _ _
-      (getD-set-same w 0 x 0 l)
-      (getD-set-other w _ 1 x 0 (omega arith))
-      (part-below w usedFrom places _ x (omega arith))
-      (part-below w kindsFrom places _ x (omega arith))
-      (part-below w contentsFrom places _ x (omega arith))
-      (part-below w ownFrom places _ x (omega arith))
-      (part-below w targetsFrom (places * exits) _ x (omega arith))
-      (part-below w bitsFrom (places * exits) _ x (omega arith))
-      (part-below w countsFrom (places * counters) _ x (omega arith))
+      refl
+      refl
+      (part-below w usedFrom places q x (omega arith))
+      (part-below w kindsFrom places q x (omega arith))
+      (part-below w contentsFrom places q x (omega arith))
+      (part-below w ownFrom places q x (omega arith))
+      (part-below w targetsFrom (places * exits) q x (omega arith))
+      (part-below w bitsFrom (places * exits) q x (omega arith))
+      (part-below w countsFrom (places * counters) q x (omega arith))
+
+  pub store-capacity : (x : ℕ) → 0 < length w → tableOf (set w 0 x) ≡ withNumbers (tableOf w) x (tableOf w .last)
+  unfolding tableOf
+  store-capacity x l = store-number 0 x (omega arith) ∙ rw (getD-set-same w 0 x 0 l, getD-set-other w 0 1 x 0 (omega arith))
 
   pub store-last : (x : ℕ) → 1 < length w →
       tableOf (set w 1 x) ≡
       withSteps (tableOf w) x (tableOf w .used) (tableOf w .kinds) (tableOf w .contents) (tableOf w .own)
-  unfolding tableOf withSteps
-  store-last x l =
-      same-fields _ _
-      (getD-set-other w _ 0 x 0 (omega arith))
-      (getD-set-same w 1 x 0 l)
-      (part-below w usedFrom places _ x (omega arith))
-      (part-below w kindsFrom places _ x (omega arith))
-      (part-below w contentsFrom places _ x (omega arith))
-      (part-below w ownFrom places _ x (omega arith))
-      (part-below w targetsFrom (places * exits) _ x (omega arith))
-      (part-below w bitsFrom (places * exits) _ x (omega arith))
-      (part-below w countsFrom (places * counters) _ x (omega arith))
+  unfolding tableOf withNumbers withSteps
+  store-last x l = store-number 1 x (omega arith) ∙ rw (getD-set-same w 1 x 0 l, getD-set-other w 1 0 x 0 (omega arith))
 
   pub store-used : (k x : ℕ) → k < places →
       tableOf (set w (usedFrom + k) x) ≡

@@ -10,7 +10,7 @@ use Rattle.table.proofs.Links.{sound-wired}
 use Rattle.table.proofs.Renumber.{new-below}
 use Rattle.words.specs.Words.{tableOf}
 use Rattle.words.proofs.Refusals.{accepted-sound, refused-answer, refused-words, given-answer, given-words}
-use Rattle.squeezing.specs.Moves.{renumbered}
+use Rattle.squeezing.specs.Moves.{squeezedSteps}
 use Rattle.squeezing.proofs.squeeze.Statement.{statement}
 use Rattle.squeezing.proofs.squeeze.Tie as tie
 
@@ -32,7 +32,7 @@ sub-put-numbers c =
     omega (arith, used .count-used .ensures, new-below (sound-wired s) 0 (s .alarm))
 
 returns-2 : tie.Need-returns-2
-unfolding squeezeCall squeezed renumbered withNumbers
+unfolding squeezeCall squeezed squeezedSteps withNumbers
 returns-2 c =
     let moved = c .before .before in
     let used = moved .before .before in

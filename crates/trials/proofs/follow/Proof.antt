@@ -7,8 +7,9 @@ use borrow.Author.Needs.{needs}
 use Rattle.table.specs.Table.{places, exits, targetOf}
 use Rattle.words.specs.Words.{tableOf}
 use Rattle.table.proofs.Formed.{sound-formed}
+use Rattle.table.proofs.Trials.{results-at}
 use Rattle.words.proofs.Formed.{target-place}
-use Rattle.trials.proofs.Laws.{Followed, results-at, try-spent, followed-open, followed-move}
+use Rattle.trials.proofs.Laws.{Followed, try-spent, followed-open, followed-move}
 use Rattle.trials.proofs.follow.Statement.{statement}
 use Rattle.trials.proofs.follow.Tie as tie
 
