@@ -43,7 +43,7 @@
 extern "C" {
 #endif
 
-#define PLAN_EDITION 2        /* of this interface; edition 1 passed tables by value */
+#define PLAN_EDITION 3        /* of this interface; in edition 1 tables went by value, in edition 2 a trial had no limit */
 #define PLAN_PLACES 128       /* the largest capacity */
 #define PLAN_EXITS 4          /* exits of a step */
 #define PLAN_IMAGE_MAX 2570   /* bytes of the largest image */
@@ -84,7 +84,8 @@ enum plan_refusal {
 
 enum plan_ending {
     PLAN_OPEN = 0,            /* the trial ended at an empty exit */
-    PLAN_SPENT = 1            /* no results were left */
+    PLAN_SPENT = 1,           /* at a contact with no result left */
+    PLAN_STOPPED = 2          /* at the limit of moves */
 };
 
 /* A table. Change it by calls only: a table that was changed otherwise may not be sound. */
@@ -121,9 +122,9 @@ typedef struct {
 /* How a trial ended. */
 typedef struct {
     uint16_t refusal;
-    uint16_t ending;          /* PLAN_OPEN or PLAN_SPENT */
+    uint16_t ending;          /* PLAN_OPEN, PLAN_SPENT or PLAN_STOPPED */
     uint16_t last;            /* the step where it ended */
-    size_t moves;             /* the steps entered */
+    uint16_t moves;           /* the steps entered, at most the limit */
 } plan_trial_reply;
 
 typedef struct {
@@ -151,8 +152,8 @@ PLAN_LAYOUT(offsetof(plan_table, counts) == 3076, counts);
 PLAN_LAYOUT(sizeof(plan_reply) == 6, size_of_a_reply);
 PLAN_LAYOUT(sizeof(plan_read_reply) == 28, size_of_a_read_reply);
 PLAN_LAYOUT(offsetof(plan_read_reply, counts) == 24, counts_in_a_read_reply);
-PLAN_LAYOUT(sizeof(plan_trial_reply) == 16, size_of_a_trial_reply);
-PLAN_LAYOUT(offsetof(plan_trial_reply, moves) == 8, moves_in_a_trial_reply);
+PLAN_LAYOUT(sizeof(plan_trial_reply) == 8, size_of_a_trial_reply);
+PLAN_LAYOUT(offsetof(plan_trial_reply, moves) == 6, moves_in_a_trial_reply);
 PLAN_LAYOUT(sizeof(plan_write_reply) == 4, size_of_a_write_reply);
 PLAN_LAYOUT(sizeof(size_t) == 8, size_of_a_length);
 #undef PLAN_LAYOUT
@@ -190,10 +191,13 @@ plan_read_reply plan_read(const plan_table *t, uint16_t step);
 /* first: steps in use; second: free ones, so that both make the capacity. Refusal: 1. */
 plan_reply plan_counts(const plan_table *t);
 
-/* Follows line results, each 0 to 3, from step 0. The number of each step entered is written to the trace, a byte each, from its start; bytes past
- * the moves are not touched. The trace must be as long as the results, whatever the trial does.
+/* Goes through the plan from step 0. A contact uses up the next line result, 0 to 3, and leads on by that exit; all other steps use up none and lead
+ * on by the answered exit. At each step, step 0 too, in this order: a contact with no result left ends the trial spent, an empty exit ends it open,
+ * and as many moves as the limit, 0 to 65535, end it stopped, as they end a ring of waits.
+ * The number of each step entered is written to the trace, a byte each, from its start; bytes past the moves are not touched. The trace must be as
+ * long as the limit, whatever the trial does, and all results must be 0 to 3, used up or not; there may be more of them than moves.
  * Refusals, in order: 1, 10, 11. */
-plan_trial_reply plan_trial(const plan_table *t, const uint8_t *results, size_t results_length, uint8_t *trace, size_t trace_length);
+plan_trial_reply plan_trial(const plan_table *t, uint16_t limit, const uint8_t *results, size_t results_length, uint8_t *trace, size_t trace_length);
 
 /* The length of the table's image: 10 bytes and 20 for each step in use. Refusal: 1. */
 plan_write_reply plan_image_length(const plan_table *t);

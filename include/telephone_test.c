@@ -1,6 +1,6 @@
 /* Links libtelephone.a and tries each call from C, or from C++: edition, names and words, the worked examples P1 to P10, every refusal of every call,
- * squeezes, the case of `keys`, fields that all differ, lengths past 16 bits, and bytes that are no sound table. A table is lent with bytes around it,
- * which have to stay; a refused call has to leave every byte. Prints a line for each case that fails, and 'N passed, M failed' last. */
+ * squeezes, trials, the case of `keys`, fields that all differ, lengths past 16 bits, and bytes that are no sound table. A table is lent with bytes
+ * around it, which have to stay; a refused call has to leave every byte. Prints a line for each case that fails, and 'N passed, M failed' last. */
 #include "telephone.h"
 #include <stdio.h>
 #include <string.h>
@@ -63,7 +63,7 @@ static void names(void) {
         PLAN_DONE, PLAN_NOT_SOUND, PLAN_BAD_CAPACITY, PLAN_NOT_IN_USE, PLAN_BAD_EXIT, PLAN_EXIT_FILLED, PLAN_EXIT_EMPTY, PLAN_BAD_KIND, PLAN_FULL,
         PLAN_NOT_KEY_LINE, PLAN_BAD_RESULT, PLAN_TOO_SHORT, PLAN_NOT_ACCEPTED, PLAN_DOES_NOT_FIT};
     int all = 1;
-    expect(plan_edition() == PLAN_EDITION && PLAN_EDITION == 2, "edition");
+    expect(plan_edition() == PLAN_EDITION && PLAN_EDITION == 3, "edition");
     expect(sizeof(plan_table) == 3588, "size of a table");
     for (int i = 0; i < 14; i++) all = all && refusals[i] == i && strcmp(plan_refusal_words((uint16_t)i), words[i]) == 0;
     expect(all, "refusals 0 to 13 and their words");
@@ -72,7 +72,7 @@ static void names(void) {
     expect(all, "words of all other numbers");
     expect(PLAN_ALARM == 0 && PLAN_CONTACT == 1 && PLAN_MESSAGE == 2 && PLAN_WAIT == 3, "kinds");
     expect(PLAN_ANSWERED == 0 && PLAN_ENGAGED == 1 && PLAN_NO_REPLY == 2 && PLAN_LINE_FAULT == 3, "exits");
-    expect(PLAN_OPEN == 0 && PLAN_SPENT == 1, "endings");
+    expect(PLAN_OPEN == 0 && PLAN_SPENT == 1 && PLAN_STOPPED == 2, "endings");
     expect(PLAN_PLACES == 128 && PLAN_EXITS == 4 && PLAN_IMAGE_MAX == 10 + 20 * PLAN_PLACES, "sizes");
 }
 
@@ -148,9 +148,8 @@ static const uint16_t patterns[3][4] = {{0, 1, 0, 1}, {0, 0, 1, 1}, {1, 0, 0, 1}
 
 /* Every field of every reply and every argument has a number of its own, so that no two can be exchanged unseen. */
 static void fields(void) {
-    static const uint8_t spent[4] = {1, 1, 0, 2}, open[5] = {2, 0, 3, 0, 1};
-    static const uint8_t spent_trace[5] = {2, 6, 2, 8, UNTOUCHED}, open_trace[5] = {3, 2, 10, 8, UNTOUCHED};
-    uint8_t trace[5];
+    static const uint8_t results[5] = {3, 3, 3, 3, 3}, entered[7] = {1, 2, 4, 2, 4, 2, 4};
+    uint8_t trace[9];
     plan_table t;
     for (int p = 0; p < 3; p++) {
         const uint16_t *bits = patterns[p];
@@ -161,10 +160,9 @@ static void fields(void) {
         expect(memcmp(s.bits, bits, sizeof s.bits) == 0, "bits of a step");
         expect(gave(plan_counts(&t), 0, 8, 3) && gave(plan_key_line(&t, (const uint8_t *)"H*4A", 4), 0, 8, 3), "8 in use, 3 free");
         memset(trace, UNTOUCHED, sizeof trace);
-        plan_trial_reply r = plan_trial(&t, spent, 4, trace, 5);
-        expect(r.refusal == 0 && r.ending == PLAN_SPENT && r.last == 8 && r.moves == 4 && memcmp(trace, spent_trace, 5) == 0, "spent at 8 after 4");
-        r = plan_trial(&t, open, 5, trace, 5);
-        expect(r.refusal == 0 && r.ending == PLAN_OPEN && r.last == 10 && r.moves == 3 && memcmp(trace, open_trace, 5) == 0, "open at 10 after 3");
+        plan_trial_reply r = plan_trial(&t, 7, results, 5, trace, 9);
+        expect(r.refusal == 0 && r.ending == PLAN_STOPPED && r.last == 4 && r.moves == 7, "stopped at 4 after 7");
+        expect(memcmp(trace, entered, 7) == 0 && all_untouched(trace + 7, 2), "its trace");
         expect(gave(plan_add(&t, 10, PLAN_NO_REPLY, PLAN_CONTACT, 99), 0, 5, 0) && t.targets[10 * 4 + 2] == 5, "add 10, 2, 1, 99");
         expect(t.kinds[5] == PLAN_CONTACT && t.contents[5] == 99 && t.last == 5, "the step added");
         expect(gave(plan_link(&t, 2, PLAN_LINE_FAULT, 8, PLAN_ENGAGED), 0, 0, 0) && t.targets[8 * 4 + 1] == 10, "link 2, 3 to 8, 1");
@@ -253,7 +251,7 @@ static int leaves_every_byte(lent *m, const uint16_t a[4], const uint8_t *line) 
     if (plan_key_line(t, line, strlen((const char *)line)).refusal) all = all && memcmp(m, &was, sizeof was) == 0;
     *m = was;
     memset(lent_bytes, UNTOUCHED, room);
-    if (plan_trial(t, results, 2, lent_bytes, a[2] < room ? a[2] : room).refusal) all = all && all_untouched(lent_bytes, room);
+    if (plan_trial(t, a[3], results, 2, lent_bytes, a[2] < room ? a[2] : room).refusal) all = all && all_untouched(lent_bytes, room);
     memset(lent_bytes, UNTOUCHED, room);
     if (plan_write_image(t, lent_bytes, a[3] < room ? a[3] : room).refusal) all = all && all_untouched(lent_bytes, room);
     (void)plan_read(t, a[0]);
@@ -292,7 +290,7 @@ static void refusals(void) {
     expect(plan_is_sound(&out.table) == 0 && plan_read(&out.table, 9).refusal == 1, "read of a table that is not sound");
     expect(plan_image_length(&out.table).refusal == 1 && plan_image_length(&out.table).length == 0, "image length of one");
     expect(plan_write_image(&out.table, one.before, 0).refusal == 1, "image of one");
-    expect(plan_trial(&out.table, out.before, EDGE, one.before, 0).refusal == 1 && edges_stand(&one), "trial of one");
+    expect(plan_trial(&out.table, 1, out.before, EDGE, one.before, 0).refusal == 1 && edges_stand(&one), "trial of one");
     expect(plan_read(&f.table, 1).refusal == 3 && plan_read(&f.table, 65535).refusal == 3, "F4, read 1");
     REFUSED(3, f, plan_add(&f.table, 1, 4, 0, 0));
     REFUSED(3, f, plan_link(&f.table, 256, 4, 9, 9));
@@ -373,27 +371,112 @@ static void squeezes(void) {
     }
 }
 
-/* Lengths that 8 or 16 bits do not hold: results, traces, buffers, images and key lines. */
+/* Whether a trial ends so after these steps, and leaves the table and the bytes around the trace and past the moves. The trace is as long as the
+ * limit, and then longer, up to what 16 bits do not hold. */
+static int tried(const plan_table *t, uint16_t limit, const uint8_t *results, size_t length, int ending, const uint8_t *entered, size_t moves) {
+    enum { MOST = 65535 + 1 };
+    static uint8_t around[EDGE + MOST + EDGE];
+    const size_t rooms[3] = {limit, (size_t)limit + 1, MOST};
+    const plan_table was = *t;
+    int all = 1;
+    for (int i = 0; i < 3; i++) {
+        memset(around, UNTOUCHED, sizeof around);
+        plan_trial_reply r = plan_trial(t, limit, results, length, around + EDGE, rooms[i]);
+        all = all && r.refusal == 0 && r.ending == ending && r.last == (moves ? entered[moves - 1] : 0) && r.moves == moves;
+        all = all && all_untouched(around, EDGE) && memcmp(around + EDGE, entered, moves) == 0;
+        all = all && all_untouched(around + EDGE + moves, sizeof around - EDGE - moves);
+    }
+    return all && same(t, &was);
+}
+
+/* Whether a trial is refused so, with all other numbers 0, and writes nothing. */
+static int not_tried(const plan_table *t, uint16_t limit, const uint8_t *results, size_t length, size_t room, int refusal) {
+    static uint8_t trace[65536 + EDGE];
+    memset(trace, UNTOUCHED, sizeof trace);
+    plan_trial_reply r = plan_trial(t, limit, results, length, trace, room);
+    return r.refusal == refusal && r.ending == 0 && r.last == 0 && r.moves == 0 && all_untouched(trace, sizeof trace);
+}
+
+/* Trials (W3): a wait that leads to itself, F4, a chain of messages, and a ring 1 to 2 to 3 to 4 to 1 of a contact, a message, a wait and a contact,
+ * which step 0 enters at 1. From 4 a line fault leads to wait 5, and from 1 an answer to contact 6; neither leads on. Message and wait have other
+ * exits too. */
+static void trials(void) {
+    static uint8_t upward[127];
+    static const uint16_t adds[6][4] = {{0, 0, 1, 1}, {1, 1, 2, 2}, {2, 0, 3, 3}, {3, 0, 1, 4}, {4, 3, 3, 5}, {1, 0, 1, 6}};
+    static const uint8_t results[6] = {1, 2, 1, 3, 0, 2}, shut[4] = {1, 2, 1, 0}, answers[2] = {0, 0}, unfit[3] = {0, 0, 4};
+    static const uint8_t round[9] = {1, 2, 3, 4, 1, 2, 3, 4, 5}, other[2] = {1, 6}, wait[3] = {1, 1, 1};
+    lent m = f4(), f = f4();
+    plan_table *t = &m.table;
+    plan_add(t, 0, 0, PLAN_WAIT, 1);
+    plan_link(t, 0, 0, 1, 0);
+    expect(tried(t, 3, results, 0, PLAN_STOPPED, wait, 3), "W3's example");
+    expect(tried(&f.table, 0, results, 0, PLAN_OPEN, wait, 0), "F4 with limit 0");
+    expect(tried(&f.table, 65535, results, 6, PLAN_OPEN, wait, 0), "F4 with limit 65535");
+    plan_fresh(t, 128);
+    for (uint16_t step = 0; step < 127; step++) upward[step] = (uint8_t)plan_add(t, step, 0, PLAN_MESSAGE, 0).first;
+    expect(tried(t, 127, results, 6, PLAN_OPEN, upward, 127), "127 messages, open at the limit");
+    expect(tried(t, 126, results, 6, PLAN_STOPPED, upward, 126), "127 messages, stopped before the last");
+    plan_fresh(t, 7);
+    for (int i = 0; i < 6; i++) plan_add(t, adds[i][0], adds[i][1], adds[i][2], adds[i][3]);
+    plan_link(t, 0, 0, 4, PLAN_NO_REPLY);
+    plan_link(t, 0, 0, 2, PLAN_ENGAGED);
+    plan_link(t, 0, 0, 3, PLAN_NO_REPLY);
+    expect(tried(t, 9, results, 4, PLAN_OPEN, round, 9), "open at the limit");
+    expect(tried(t, 20, results, 4, PLAN_OPEN, round, 9), "open before the limit");
+    expect(tried(t, 20, results, 6, PLAN_OPEN, round, 9), "open with results left");
+    for (uint16_t limit = 8; limit < 11; limit++) {
+        expect(tried(t, limit, results, 3, PLAN_SPENT, round, 8), "spent at the limit and before it");
+        expect(tried(t, limit, shut, 4, PLAN_OPEN, round, 8), "open by the last result");
+    }
+    for (uint16_t limit = 0; limit < 9; limit++) expect(tried(t, limit, results, 4, PLAN_STOPPED, round, limit), "stopped");
+    for (uint16_t limit = 2; limit < 4; limit++) {
+        expect(tried(t, limit, answers, 1, PLAN_SPENT, other, 2), "spent at a contact with no links");
+        expect(tried(t, limit, answers, 2, PLAN_OPEN, other, 2), "open there");
+    }
+    expect(tried(t, 1, results, 0, PLAN_SPENT, round, 1), "no results");
+    expect(tried(t, 0, results, 0, PLAN_STOPPED, round, 0), "no results and no moves");
+    for (uint16_t limit = 0; limit < 3; limit++) {
+        expect(not_tried(t, limit, unfit, 3, limit, PLAN_BAD_RESULT), "a result above 3 that is not used up");
+        expect(not_tried(t, limit, unfit + 2, 1, 0, PLAN_BAD_RESULT), "a result above 3, whatever the trace");
+    }
+    expect(not_tried(t, 1, results, 0, 0, PLAN_TOO_SHORT) && not_tried(t, 20, results, 6, 19, PLAN_TOO_SHORT), "a trace too short");
+    expect(not_tried(t, 65535, results, 6, 65534, PLAN_TOO_SHORT) && not_tried(t, 65535, results, 0, 0, PLAN_TOO_SHORT), "for the largest limit");
+    f.table.used[0] = 0;
+    expect(not_tried(&f.table, 3, results, 6, 3, PLAN_NOT_SOUND) && not_tried(&f.table, 3, unfit, 3, 2, PLAN_NOT_SOUND), "a table that is not sound");
+    expect(edges_stand(&m) && edges_stand(&f), "after the trials");
+}
+
+/* Lengths that 8 or 16 bits do not hold: limits, results, traces, buffers, images and key lines. */
 static void lengths(void) {
     enum { MOST = 70000, LINE = 1000000 };
-    static const size_t moves[6] = {256, 300, 65535, 65536, 65537, MOST};
-    static uint8_t results[MOST], lent_bytes[MOST + 1], line[LINE];
+    static const uint16_t limits[5] = {256, 257, 300, 65534, 65535};
+    static const size_t many[4] = {65535, 65536, 65537, MOST};
+    static uint8_t results[MOST], lent_bytes[MOST + 1], line[LINE], ones[65535];
     lent m = p1();
+    memset(ones, 1, sizeof ones);
+    memset(results, PLAN_ENGAGED, sizeof results);
+    plan_fresh(&m.table, 4);
+    plan_add(&m.table, 0, 0, PLAN_WAIT, 600);
+    plan_link(&m.table, 0, 0, 1, 0);
+    for (int i = 0; i < 5; i++) {
+        expect(tried(&m.table, limits[i], results, 0, PLAN_STOPPED, ones, limits[i]), "a ring of waits, no results");
+        expect(tried(&m.table, limits[i], results, 65536, PLAN_STOPPED, ones, limits[i]), "a ring of waits, results left");
+    }
     plan_fresh(&m.table, 4);
     plan_add(&m.table, 0, 0, PLAN_CONTACT, 0);
-    plan_link(&m.table, 0, 0, 1, 0);
+    plan_link(&m.table, 0, 0, 1, PLAN_ENGAGED);
     const lent was = m;
-    for (int i = 0; i < 6; i++) {
-        const size_t n = moves[i];
-        size_t entered = 0;
-        memset(lent_bytes, UNTOUCHED, sizeof lent_bytes);
-        plan_trial_reply r = plan_trial(&m.table, results, n, lent_bytes, n - 1);
-        expect(r.refusal == PLAN_TOO_SHORT && r.moves == 0 && all_untouched(lent_bytes, sizeof lent_bytes), "a long trace, one byte short");
-        r = plan_trial(&m.table, results, n, lent_bytes, sizeof lent_bytes);
-        while (entered < sizeof lent_bytes && lent_bytes[entered] == 1) entered++;
-        expect(r.refusal == 0 && r.ending == PLAN_SPENT && r.last == 1 && r.moves == n, "a long trial");
-        expect(entered == n && all_untouched(lent_bytes + n, sizeof lent_bytes - n), "its trace");
+    for (int i = 0; i < 5; i++) {
+        const uint16_t n = limits[i];
+        for (int k = 0; k < 4; k++) expect(tried(&m.table, n, results, many[k], PLAN_STOPPED, ones, n), "a ring of contacts, results left");
+        expect(tried(&m.table, n, results, n, PLAN_STOPPED, ones, n), "one result left");
+        expect(tried(&m.table, n, results, (size_t)n - 1, PLAN_SPENT, ones, n), "the last result used up at the limit");
+        expect(tried(&m.table, n, results, (size_t)n - 2, PLAN_SPENT, ones, (size_t)n - 1), "the last result used up before the limit");
+        expect(not_tried(&m.table, n, results, MOST, (size_t)n - 1, PLAN_TOO_SHORT), "a long trace, one byte short");
+        expect(not_tried(&m.table, n, results, 0, n % 256, PLAN_TOO_SHORT), "a trace of what 8 bits leave of the limit");
     }
+    results[MOST - 1] = 4;
+    expect(not_tried(&m.table, 300, results, MOST, 300, PLAN_BAD_RESULT), "a result above 3 behind 65,536 others");
     memset(lent_bytes, UNTOUCHED, sizeof lent_bytes);
     plan_write_reply w = plan_write_image(&m.table, lent_bytes, 65536);
     expect(w.refusal == 0 && w.length == 50 && all_untouched(lent_bytes + 50, sizeof lent_bytes - 50), "an image into 65,536 bytes");
@@ -403,22 +486,6 @@ static void lengths(void) {
     REFUSED(9, m, plan_key_line(&m.table, line, LINE));
     expect(gave(plan_load_image(&m.table, lent_bytes, 65536 + 50), PLAN_NOT_ACCEPTED, 0, 0), "an image and 65,536 bytes");
     expect(gave(plan_load_image(&m.table, lent_bytes, 50), 0, 0, 0) && same(&m.table, &was.table), "the image alone");
-}
-
-static void trials(void) {
-    static const uint8_t fits[2] = {PLAN_ANSWERED, PLAN_LINE_FAULT}, unfit[2] = {0, 4};
-    lent m = p1();
-    const lent was = m;
-    uint8_t around[5], *trace = around + 1;
-    memset(around, UNTOUCHED, sizeof around);
-    expect(plan_trial(&m.table, unfit, 2, trace, 2).refusal == PLAN_BAD_RESULT && all_untouched(trace, 3), "results 0, 4");
-    expect(plan_trial(&m.table, fits, 2, trace, 1).refusal == PLAN_TOO_SHORT && all_untouched(trace, 3), "a trace too short");
-    plan_trial_reply r = plan_trial(&m.table, fits, 2, trace, 3);
-    expect(r.refusal == 0 && r.ending == PLAN_OPEN && r.last == 1 && r.moves == 1, "a trial that ends open");
-    expect(trace[0] == 1 && all_untouched(around, 1) && all_untouched(trace + 1, 3), "its trace");
-    r = plan_trial(&m.table, fits, 1, trace, 1);
-    expect(r.refusal == 0 && r.ending == PLAN_SPENT && r.last == 1 && r.moves == 1, "a trial that ends spent");
-    expect(memcmp(&m, &was, sizeof m) == 0, "trials leave the table");
 }
 
 static void keys(void) {
@@ -455,8 +522,8 @@ int main(void) {
     one_image();
     refusals();
     squeezes();
-    lengths();
     trials();
+    lengths();
     keys();
     wild();
     printf("%d passed, %d failed\n", passed, failed);

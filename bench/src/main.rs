@@ -9,11 +9,12 @@ mod marked;
 mod tuned;
 
 use compare::stack::depth;
-use compare::{kept, lend};
+use compare::{kept, lend, ring, rounds};
 use reference::calls::Command;
 use reference::generate::Random;
 use reference::history::Call;
 use reference::plan::Plan;
+use reference::sound::{CONTACT, WAIT};
 use std::hint::black_box;
 use telephone::raw::{self, Table};
 
@@ -423,6 +424,49 @@ fn squeeze_row(name: &str, table: &Table) {
     );
 }
 
+/// Makes a trial by (a) and (d), and holds the answer and the trace to those of (a). Gives the answer.
+fn trial(table: &Table, limit: u16, results: &[u8], room: usize) -> Result<[u16; 3], u16> {
+    let (mut a, mut d) = (vec![0; room], vec![0; room]);
+    let answer = proved_trial(table, limit, results, &mut a);
+    assert_eq!(tuned::trial(table, limit, results, &mut d), answer, "(d) differs: {limit}");
+    assert!(a == d, "(d) has another trace: {limit}");
+    answer
+}
+
+fn proved_trial(
+    table: &Table,
+    limit: u16,
+    results: &[u8],
+    trace: &mut [u8],
+) -> Result<[u16; 3], u16> {
+    match raw::trial(table, limit, results, trace) {
+        raw::TrialReply { refusal: 0, ending, last, moves } => Ok([ending, last, moves]),
+        reply => Err(reply.refusal),
+    }
+}
+
+/// A trial of 65535 moves by (a) and (d), in microseconds, round a ring of 127 steps of one kind.
+fn trial_row(name: &str, kind: u16) {
+    let kinds = [kind; 127];
+    let (table, results) = (lend(&ring(&kinds)), rounds(&kinds, 65535));
+    let mut trace = vec![0; 65535];
+    let answer = trial(&table, 65535, &results, trace.len()).expect("a trial");
+    assert_eq!(answer[2], 65535, "{name}");
+    let mut other = trace.clone();
+    let times = passes(
+        10,
+        [
+            &mut || {
+                black_box(proved_trial(black_box(&table), 65535, &results, &mut trace)).unwrap();
+            },
+            &mut || {
+                black_box(tuned::trial(black_box(&table), 65535, &results, &mut other)).unwrap();
+            },
+        ],
+    );
+    row(name, &times.map(|time| time.each(1000)));
+}
+
 /// What holds the first step of a chain beside the link that is cleared, and what stands in the exits that the chain leaves empty.
 #[derive(Clone, Copy)]
 enum Chain {
@@ -530,6 +574,10 @@ fn main() {
     head("Copying a table and squeezing it", &programs);
     squeeze_row("64 of 128 steps in use, spread", &chain((2..128).step_by(2), Chain::Dense));
     squeeze_row("128 in use, none moved", &taken_back[3].1);
+
+    head("A trial of 65535 moves, microseconds", &["(a)", "(d)"]);
+    trial_row("ring of 127 waits", WAIT);
+    trial_row("ring of 127 contacts", CONTACT);
     println!();
 
     keys::print();
@@ -544,6 +592,7 @@ fn main() {
 #[cfg(test)]
 mod tests {
     use super::*;
+    use reference::plan::plan_of;
 
     #[test]
     fn programs_agree() {
@@ -570,6 +619,31 @@ mod tests {
             }
         }
         assert!(accepted > 1000, "{accepted}");
+    }
+
+    /// Generated trials, with every ending and refusal.
+    #[test]
+    fn trials_agree() {
+        let mut random = Random(7);
+        let (mut endings, mut refusals) = ([0; 3], [0; 12]);
+        for seed in 0..300 {
+            let mut table = Random(seed).sound_table();
+            let plan = plan_of(&table);
+            if seed % 6 == 5 {
+                random.damage(&mut table);
+            }
+            for _ in 0..10 {
+                let Call::Trial { limit, results, trace: room } = random.trial(&plan) else {
+                    unreachable!()
+                };
+                match trial(&lend(&table), limit, &results, room) {
+                    Ok([ending, ..]) => endings[usize::from(ending)] += 1,
+                    Err(refusal) => refusals[usize::from(refusal)] += 1,
+                }
+            }
+        }
+        let many = endings.into_iter().chain([1, 10, 11].map(|refusal: usize| refusals[refusal]));
+        assert!(many.into_iter().all(|number| number > 100), "{endings:?} {refusals:?}");
     }
 
     /// Every chain that is timed, cleared once by all four.

@@ -10,6 +10,8 @@ const PLACES: usize = 128;
 const EXITS: usize = 4;
 const LINKS: usize = PLACES * EXITS;
 const COUNTERS: usize = PLACES * 2;
+/// The kind of a contact.
+const CONTACT: u16 = 1;
 
 /// Set in a counter of weak links while a search runs, so that it never comes to 0.
 const WEAK: u16 = 0x8000;
@@ -250,6 +252,42 @@ pub fn squeeze(t: &mut Table, capacity: u16) -> Result<(), u16> {
     }
     only_below(t, size);
     Ok(())
+}
+
+/// The ending, the last step and the moves of a trial, or its refusal.
+#[inline(never)]
+pub fn trial(t: &Table, limit: u16, results: &[u8], trace: &mut [u8]) -> Result<[u16; 3], u16> {
+    if !sound(t) {
+        return Err(1);
+    }
+    if results.iter().fold(0, |bits, result| bits | result) >= EXITS as u8 {
+        return Err(10);
+    }
+    let Some(trace) = trace.get_mut(..usize::from(limit)) else {
+        return Err(11);
+    };
+    let (targets, _) = t.targets.as_chunks::<EXITS>();
+    let mut left = results.iter();
+    let (mut step, mut moves) = (0, 0);
+    loop {
+        let mut exit = 0;
+        if t.kinds[step] == CONTACT {
+            let Some(&result) = left.next() else {
+                return Ok([1, step as u16, moves as u16]);
+            };
+            exit = usize::from(result) % EXITS;
+        }
+        let next = targets[step][exit];
+        if next == 0 {
+            return Ok([0, step as u16, moves as u16]);
+        }
+        let Some(byte) = trace.get_mut(moves) else {
+            return Ok([2, step as u16, moves as u16]);
+        };
+        *byte = next as u8;
+        step = usize::from(next) % PLACES;
+        moves += 1;
+    }
 }
 
 /// Moves the fields of a step to another, where each step has so many.

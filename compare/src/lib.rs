@@ -8,6 +8,7 @@ pub mod stack;
 use reference::calls::{add, fresh, link, Command};
 use reference::faults::Fault;
 use reference::history::{self, Call, Outcome, Start, UNTOUCHED};
+use reference::sound::CONTACT;
 use reference::table::Table;
 use std::fmt::{self, Debug};
 use telephone::raw;
@@ -111,11 +112,11 @@ pub fn call(table: &mut raw::Table, call: &Call) -> Outcome {
             Outcome { lent, ..length(reply) }
         }
         Call::ImageLength => length(raw::image_length(table)),
-        Call::Trial { results, trace } => {
+        Call::Trial { limit, results, trace } => {
             let (reply, lent) = with_buffer(*trace, |trace| {
-                with_bytes(results, |results| raw::trial(table, results, trace))
+                with_bytes(results, |results| raw::trial(table, *limit, results, trace))
             });
-            let numbers = vec![reply.ending.into(), reply.last.into(), reply.moves];
+            let numbers = vec![reply.ending.into(), reply.last.into(), reply.moves.into()];
             Outcome { refusal: reply.refusal, numbers, lent }
         }
         Call::Read { step } => {
@@ -235,6 +236,14 @@ impl Pair {
     }
 }
 
+/// A call made by both programs, which have to agree. The table becomes the one that they hand back.
+pub fn both(table: &mut Table, call: &Call) -> Outcome {
+    let mut pair = Pair::new(table, Fault::None);
+    let outcome = pair.call(call).unwrap();
+    *table = pair.second;
+    outcome
+}
+
 /// The first field in which two tables differ.
 pub fn difference(proved: &Table, second: &Table) -> String {
     let fields = |table: &Table| {
@@ -248,18 +257,28 @@ pub fn difference(proved: &Table, second: &Table) -> String {
     }
 }
 
-/// A table of capacity 128 with a ring of steps 1 up to so many, which step 0 leads to. Step i leads to the next by exit i % 4.
-pub fn ring(steps: u16) -> Table {
+/// A table of capacity 128 with a ring of steps 1 upward that have these kinds, which step 0 leads to. Contact i leads to the next by exit i % 4,
+/// every other step by the answered exit.
+pub fn ring(kinds: &[u16]) -> Table {
     let (mut table, _) = fresh(128);
-    for step in 0..steps {
-        assert_eq!(add(&mut table, step, step % 4, 1, step % 100).refusal, 0);
+    let exits: Vec<u16> = [0].into_iter().chain(exits(kinds)).collect();
+    for (step, &kind) in kinds.iter().enumerate() {
+        let content = 1 + step as u16 % 15;
+        assert_eq!(add(&mut table, step as u16, exits[step], kind, content).refusal, 0);
     }
-    assert_eq!(link(&mut table, 0, 0, steps, steps % 4).refusal, 0);
+    let last = kinds.len();
+    assert_eq!(link(&mut table, 0, 0, last as u16, exits[last]).refusal, 0);
     table
 }
 
-/// So many results that go round in that ring.
-pub fn rounds(steps: u16, results: usize) -> Vec<u8> {
-    let round = (1..=steps).map(|step| (step % 4) as u8);
-    [0].into_iter().chain(round.cycle()).take(results).collect()
+/// So many results that go round in that ring; none where it has no contact.
+pub fn rounds(kinds: &[u16], results: usize) -> Vec<u8> {
+    let round: Vec<(&u16, u16)> = kinds.iter().zip(exits(kinds)).collect();
+    let contacts = round.iter().filter(|(&kind, _)| kind == CONTACT);
+    contacts.map(|(_, exit)| *exit as u8).cycle().take(results).collect()
+}
+
+/// The exits by which the steps of that ring lead on.
+fn exits(kinds: &[u16]) -> impl Iterator<Item = u16> + '_ {
+    (1..).zip(kinds).map(|(step, &kind)| if kind == CONTACT { step % 4 } else { 0 })
 }

@@ -7,6 +7,7 @@ use reference::generate::{key_text, Generator, Random};
 use reference::history::{run, Call, Start};
 use reference::image::write;
 use reference::plan::plan_of;
+use reference::sound::{ALARM, CONTACT, MESSAGE, WAIT};
 use reference::table::Table;
 use std::collections::BTreeSet;
 
@@ -33,7 +34,7 @@ fn cases() -> Vec<(Table, Call)> {
             run(&mut table, &call, Fault::None);
         }
     }
-    let mut unsound = ring(5);
+    let mut unsound = ring(&[CONTACT; 5]);
     unsound.counts[3] += 1;
     let each = [
         Call::Edit(Command::Add { holder: 0, exit: 3, kind: 1, content: 0 }),
@@ -42,19 +43,20 @@ fn cases() -> Vec<(Table, Call)> {
         Call::Edit(Command::Count),
         Call::Squeeze { capacity: 128 },
         Call::Read { step: 0 },
-        Call::Trial { results: vec![0, 1], trace: 4 },
+        Call::Trial { limit: 4, results: vec![0, 1], trace: 4 },
         Call::Write { buffer: 2570 },
         Call::ImageLength,
         Call::KeyLine(b"H*4A".to_vec()),
     ];
     cases.extend(each.map(|call| (unsound.clone(), call)));
-    let ring = ring(5);
+    let kinds = [CONTACT; 5];
+    let ring = ring(&kinds);
     let refused = Command::Add { holder: 0, exit: 0, kind: 0, content: 0 };
     cases.push((ring.clone(), Call::KeyLine(key_text(refused))));
-    for length in [300, 70_000] {
-        cases.push((ring.clone(), Call::Trial { results: rounds(5, length), trace: length }));
+    for (limit, results, trace) in [(300, 300, 300), (65535, 70_000, 65_535), (9, 7, 65_536)] {
+        let results = rounds(&kinds, results);
+        cases.push((ring.clone(), Call::Trial { limit, results, trace }));
     }
-    cases.push((ring.clone(), Call::Trial { results: rounds(5, 7), trace: 65_536 }));
     cases.push((ring.clone(), Call::Write { buffer: 65_536 }));
     let line = [&b"H*4A"[..], &vec![b'0'; 65_536]].concat();
     cases.push((ring, Call::KeyLine(line)));
@@ -64,7 +66,7 @@ fn cases() -> Vec<(Table, Call)> {
 /// First calls: fresh and load, accepted and refused.
 fn starts() -> Vec<Start> {
     let mut image = vec![0; 2570];
-    let written = write(&ring(5), &mut image).first;
+    let written = write(&ring(&[CONTACT; 5]), &mut image).first;
     image.truncate(written.into());
     let long = [&image[..], &vec![0; 65_536]].concat();
     let loads = [image, Vec::new(), long].map(|image| Start::Load { image });
@@ -106,14 +108,17 @@ fn named() -> Vec<(Fault, Vec<Sort>, Vec<Vec<Evidence>>)> {
         (CountersStay, vec![Squeeze], vec![vec![Table]]),
         (RecordsStay, vec![Squeeze], vec![vec![Table]]),
         (LastStays, vec![Squeeze], vec![vec![Table]]),
+        (StoppedBeforeOpen, vec![Trial], vec![vec![Number(0)]]),
+        (StoppedBeforeSpent, vec![Trial], vec![vec![Number(0)]]),
+        (OpenBeforeSpent, vec![Trial], vec![vec![Number(0)]]),
         (DoubtfulSaidFreed, vec![Clear], vec![vec![Number(1)]]),
         (CountsExchanged, vec![Count], vec![vec![Number(0), Number(1)]]),
         (CountersExchanged, vec![Read], vec![vec![Number(11), Number(12)]]),
         (SpentSaidOpen, vec![Trial], vec![vec![Number(0)]]),
+        (StoppedSaidSpent, vec![Trial], vec![vec![Number(0)]]),
         (TraceOneBehind, vec![Trial], vec![vec![Lent]]),
         (WrittenDescending, vec![Write], vec![vec![Lent]]),
-        (MovesIn(8), vec![Trial], vec![vec![Number(2)]]),
-        (MovesIn(16), vec![Trial], vec![vec![Number(2)]]),
+        (MovesInAByte, vec![Trial], vec![vec![Number(2)]]),
     ]
 }
 
@@ -126,6 +131,33 @@ fn planted_faults_show() {
         println!("{fault:?} is found by {found:?}");
         let pairs = sorts.iter().flat_map(|sort| ways.iter().map(|way| (*sort, way.clone())));
         assert_eq!(found, pairs.collect(), "{fault:?}");
+    }
+}
+
+/// Faults that lead a trial another way show in its numbers and its trace, and never in the refusal. Those that refuse by another rule show in the
+/// refusal of each such call, and in all that the call gives or withholds.
+#[test]
+fn faults_of_trials_show() {
+    use Evidence::*;
+    let (starts, cases) = (starts(), cases());
+    let numbers = [Number(0), Number(1), Number(2)];
+    for (fault, refusal) in [
+        (Fault::UsesUp(ALARM), false),
+        (Fault::UsesUp(MESSAGE), false),
+        (Fault::UsesUp(WAIT), false),
+        (Fault::WaitTakesResult, false),
+        (Fault::OneMoveMore, false),
+        (Fault::TraceAsResults, true),
+        (Fault::UsedResultsOnly, true),
+    ] {
+        let found = found(fault, &starts, &cases);
+        println!("{fault:?} is found by {found:?}");
+        for (sort, way) in &found {
+            assert_eq!((*sort, way.contains(&Refusal)), (Sort::Trial, refusal), "{fault:?}");
+        }
+        let parts: BTreeSet<Evidence> = found.into_iter().flat_map(|(_, way)| way).collect();
+        let expected = numbers.into_iter().chain([Lent]).chain(refusal.then_some(Refusal));
+        assert_eq!(parts, expected.collect(), "{fault:?}");
     }
 }
 

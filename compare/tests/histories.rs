@@ -19,6 +19,8 @@ struct Seen {
     refilled: usize,
     squeezed: usize,
     renumbered: usize,
+    /// Trials by their ending.
+    endings: [usize; 3],
 }
 
 impl Seen {
@@ -66,6 +68,9 @@ fn history(seed: u64, start: &Table, calls: usize, seen: &mut Seen) -> Result<()
             seen.squeezed += 1;
             seen.renumbered += usize::from(pair.second.used != used);
         }
+        if outcome.refusal == 0 && matches!(call, Call::Trial { .. }) {
+            seen.endings[outcome.numbers[0]] += 1;
+        }
         let clear = matches!(call, Call::Edit(reference::calls::Command::Clear { .. }));
         seen.note(outcome.refusal, &outcome.numbers, clear, &pair.second);
     }
@@ -103,6 +108,7 @@ fn histories_agree() {
         history(seed, &start, 150, &mut seen).unwrap();
     }
     assert!(seen.squeezed > 300 && seen.renumbered > 100, "squeezes gave new numbers");
+    assert!(seen.endings.iter().all(|&ended| ended > 300), "trials ended {:?}", seen.endings);
     for refusal in [0, 2, 3, 4, 5, 6, 7, 8, 9, 10, 11, 13] {
         assert!(seen.refusals[refusal] > 0, "refusal {refusal} came up");
     }

@@ -98,9 +98,16 @@ fn odd_inputs() {
     agrees(&[&long[..], b"\nH*4A\n", &long, b"\n\nH*4A"].concat());
 }
 
-/// Over 5 MB of lines: visits one after the other, and among them blank lines and long ones with any bytes.
+/// An add at every exit in turn: most tables become full, and then adds are refused.
+fn fill() -> Vec<u8> {
+    let add = |place| format!("H*1{:03}{}2015A\n", place / 4, place % 4).into_bytes();
+    (0..512).flat_map(add).collect()
+}
+
+/// Over 5 MB of lines: visits one after the other, some that fill the table, and among them blank lines and long ones with any bytes.
 fn long_input() -> Vec<u8> {
-    let visits: Vec<Vec<u8>> = (3000..3012).map(|seed| visit(2 * seed, 1500)).collect();
+    let mut visits: Vec<Vec<u8>> = (3000..3012).map(|seed| visit(2 * seed, 1500)).collect();
+    visits.push(fill());
     let mut random = Random(3);
     let mut input = Vec::new();
     while input.len() < 5_000_000 {

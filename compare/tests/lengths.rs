@@ -1,26 +1,28 @@
-//! Lengths at and past 8 and 16 bits: trials of that many results, and traces, buffers, images and key lines of that many bytes. Both programs run
-//! each call; answers, written bytes and untouched ones are also held to what this file works out by itself.
+//! Limits of trials and lengths: small ones each, and those at and past 8 and 16 bits of limits, results, traces, buffers, images and key lines. Both
+//! programs run each call; answers, written bytes and untouched ones are also held to what this file works out by itself.
 
-use compare::{ring, rounds, Pair};
-use reference::calls::fresh;
+use compare::{both, ring, rounds, Pair};
+use reference::calls::{fresh, Ending};
 use reference::faults::Fault;
 use reference::generate::Random;
 use reference::history::{Call, Outcome, Start, UNTOUCHED};
 use reference::image::{write, HEADER, RECORD};
+use reference::sound::{CONTACT, MESSAGE, WAIT};
 use reference::table::Table;
 
 /// Around 8 and 16 bits, and others.
-const LENGTHS: [usize; 11] =
-    [255, 256, 257, 300, 512, 65_535, 65_536, 65_537, 70_000, 131_072, 200_000];
+const RESULTS: [usize; 11] =
+    [0, 255, 256, 300, 32_768, 65_533, 65_534, 65_535, 65_536, 70_000, 131_072];
+const LIMITS: [u16; 8] = [127, 255, 256, 257, 300, 65_533, 65_534, 65_535];
 
 /// Around 16 bits and past them; 16 bits leave 0, 1 and 29 of three of them.
 const LONG: [usize; 6] = [65_535, 65_536, 65_537, 70_000, 131_072 + 29, 1_000_000];
 
 /// Makes a call on a table with both programs, which have to agree, and leave the table.
 fn made(table: &Table, call: Call) -> Outcome {
-    let mut pair = Pair::new(table, Fault::None);
-    let outcome = pair.call(&call).unwrap();
-    assert!(pair.second == *table, "the call changed the table");
+    let mut lent = table.clone();
+    let outcome = both(&mut lent, &call);
+    assert!(lent == *table, "the call changed the table");
     outcome
 }
 
@@ -28,82 +30,99 @@ fn untouched(bytes: &[u8]) -> bool {
     bytes.iter().all(|&byte| byte == UNTOUCHED)
 }
 
-/// The steps that the first moves in a ring enter.
-fn entered(steps: u16, moves: usize) -> Vec<u8> {
-    (1..=steps as u8).cycle().take(moves).collect()
+/// Makes a trial in a ring of so many steps, which has to be accepted. Its moves go round.
+fn tried(table: &Table, steps: usize, call: Call, ending: Ending, moves: usize) {
+    let Outcome { refusal, numbers, lent } = made(table, call);
+    let entered: Vec<u8> = (1..=steps as u8).cycle().take(moves).collect();
+    let last = entered.last().map_or(0, |&step| step.into());
+    assert_eq!((refusal, numbers), (0, vec![ending as usize, last, moves]));
+    assert!(lent[..moves] == entered && untouched(&lent[moves..]));
 }
 
-/// A trial goes round until its results are spent; traces of that length, longer, and one byte too short.
+/// Makes a trial that has to be refused, and write nothing.
+fn refused(table: &Table, call: Call, refusal: u16) {
+    let outcome = made(table, call);
+    assert_eq!((outcome.refusal, outcome.numbers), (refusal, vec![0, 0, 0]));
+    assert!(untouched(&outcome.lent));
+}
+
+/// The moves after which a trial in a ring of these kinds comes to the contact that asks for this result, counted from 0; none without contacts.
+fn asked_for(kinds: &[u16], result: usize) -> Option<usize> {
+    let contacts: Vec<usize> = (0..kinds.len()).filter(|&i| kinds[i] == CONTACT).collect();
+    let round = result.checked_div(contacts.len())?;
+    Some(round * kinds.len() + contacts[result % contacts.len()] + 1)
+}
+
+/// Trials in a ring of these kinds with so many results and with this limit: spent, with an empty exit behind the results and more of them, with a
+/// wrong result behind them all; traces of these lengths, which are not too short, and of others, which are.
+fn trials(kinds: &[u16], results: usize, limit: u16, traces: &[usize]) {
+    let (table, steps) = (ring(kinds), kinds.len());
+    let good = rounds(kinds, results);
+    let end = asked_for(kinds, good.len()).filter(|&moves| moves <= limit.into());
+    let moves = end.unwrap_or(limit.into());
+    // step i of the ring has exit i % 4, and this is the next one
+    let empty = asked_for(kinds, good.len()).map_or(0, |moves| (moves - 1) % steps + 2) % 4;
+    let open = [&good[..], &[empty as u8, 0, 0, 0]].concat();
+    let wrong = [&open[..], &[4]].concat();
+    let call = |results: &Vec<u8>, trace| Call::Trial { limit, results: results.clone(), trace };
+    for &trace in traces {
+        let ending = |ending| end.map_or(Ending::Stopped, |_| ending);
+        tried(&table, steps, call(&good, trace), ending(Ending::Spent), moves);
+        tried(&table, steps, call(&open, trace), ending(Ending::Open), moves);
+        refused(&table, call(&wrong, trace), 10);
+    }
+    let room = usize::from(limit);
+    for trace in [room.saturating_sub(1), room % 256, 0] {
+        if trace < room {
+            refused(&table, call(&good, trace), 11);
+            refused(&table, call(&wrong, trace), 10);
+        }
+    }
+}
+
+/// Every ring of up to three steps, with each limit and number of results that goes round it twice.
 #[test]
-fn long_trials_spent() {
-    for steps in [1, 2, 127] {
-        let table = ring(steps);
-        for length in LENGTHS {
-            let results = rounds(steps, length);
-            let expected = entered(steps, length);
-            for trace in [length, length + 1, length + 77, 2 * length] {
-                let call = Call::Trial { results: results.clone(), trace };
-                let Outcome { refusal, numbers, lent } = made(&table, call);
-                let last = usize::from(expected[length - 1]);
-                assert_eq!((refusal, numbers), (0, vec![1, last, length]), "{steps} {trace}");
-                assert!(lent[..length] == expected && untouched(&lent[length..]));
-                assert_eq!(lent.len(), trace);
-            }
-            for trace in [length - 1, length % 256, length % 65_536, 0] {
-                if trace < length {
-                    let call = Call::Trial { results: results.clone(), trace };
-                    let outcome = made(&table, call);
-                    assert_eq!((outcome.refusal, outcome.numbers), (11, vec![0, 0, 0]));
-                    assert!(outcome.lent.len() == trace && untouched(&outcome.lent));
-                }
+fn small_trials() {
+    let kinds = [CONTACT, MESSAGE, WAIT];
+    let rings = (0..3).flat_map(|i| (0..3).flat_map(move |j| (0..3).map(move |k| [i, j, k])));
+    for ring in rings.map(|ring| ring.map(|i| kinds[i])) {
+        for kinds in [&ring[..1], &ring[..2], &ring] {
+            for (results, limit) in (0..7).flat_map(|results| (0..9).map(move |l| (results, l))) {
+                let room = usize::from(limit);
+                trials(kinds, results, limit, &[room, room + 1, room + 30]);
             }
         }
     }
 }
 
-/// A trial that meets an empty exit after so many moves, with results left; and one with a wrong result behind them all.
+/// Rings of contacts, of waits and messages, and mixed ones, short and long.
 #[test]
-fn long_trials_open_and_refused() {
-    for steps in [1, 2, 127] {
-        let table = ring(steps);
-        for moves in LENGTHS {
-            let mut results = rounds(steps, moves);
-            let last = usize::from(entered(steps, moves)[moves - 1]);
-            // the ring's steps have one exit each, and this is another
-            results.push(((last + 1) % 4) as u8);
-            results.extend(vec![0; 300]);
-            for trace in [results.len(), results.len() + 77] {
-                let call = Call::Trial { results: results.clone(), trace };
-                let Outcome { refusal, numbers, lent } = made(&table, call);
-                assert_eq!((refusal, numbers), (0, vec![0, last, moves]), "{steps} {trace}");
-                assert!(lent[..moves] == entered(steps, moves) && untouched(&lent[moves..]));
-            }
-            results.push(4);
-            for trace in [results.len(), results.len() - 1, 0] {
-                let call = Call::Trial { results: results.clone(), trace };
-                let outcome = made(&table, call);
-                assert_eq!((outcome.refusal, outcome.numbers), (10, vec![0, 0, 0]));
-                assert!(untouched(&outcome.lent));
+fn long_trials() {
+    let mixed: Vec<u16> = [WAIT, CONTACT, MESSAGE].into_iter().cycle().take(127).collect();
+    let rings = [&[CONTACT; 127][..1], &[CONTACT; 127], &[WAIT], &[WAIT, MESSAGE], &mixed];
+    for kinds in rings {
+        for results in RESULTS {
+            for limit in LIMITS {
+                trials(kinds, results, limit, &[limit.into(), usize::from(limit) + 77]);
             }
         }
     }
 }
 
-/// A few results and a long trace.
+/// Traces that 16 bits cannot measure, with limits from the smallest to the largest.
 #[test]
 fn long_traces() {
-    let table = ring(5);
     for trace in LONG {
-        for moves in [0, 1, 12] {
-            let results = rounds(5, moves);
-            let Outcome { refusal, numbers, lent } = made(&table, Call::Trial { results, trace });
-            let expected = entered(5, moves);
-            let last = expected.last().map_or(0, |&step| step.into());
-            assert_eq!((refusal, numbers), (0, vec![1, last, moves]), "{trace}");
-            assert!(lent[..moves] == expected && untouched(&lent[moves..]));
-            assert_eq!(lent.len(), trace);
+        for limit in [0, 1, 12, 65_535] {
+            trials(&[CONTACT, WAIT], 5, limit, &[trace]);
+            trials(&[WAIT], 0, limit, &[trace]);
         }
     }
+}
+
+/// Small tables and large ones.
+fn tables() -> [Table; 4] {
+    [fresh(4).0, ring(&[CONTACT; 5]), ring(&[CONTACT; 127]), Random(3).sound_table()]
 }
 
 /// The image of a table, by the second program, into a buffer that just fits.
@@ -115,7 +134,7 @@ fn image_of(table: &Table) -> Vec<u8> {
 
 #[test]
 fn long_buffers() {
-    for table in [fresh(4).0, ring(5), ring(127), Random(3).sound_table()] {
+    for table in tables() {
         let image = image_of(&table);
         for buffer in LONG.into_iter().chain([65_536 + image.len() - 1, 65_536 + image.len()]) {
             let Outcome { refusal, numbers, lent } = made(&table, Call::Write { buffer });
@@ -127,7 +146,7 @@ fn long_buffers() {
 }
 
 /// A load that has to be refused, by both programs; it hands back a fresh table of capacity 1.
-fn refused(image: Vec<u8>) {
+fn load_refused(image: Vec<u8>) {
     let (pair, compared) = Pair::begin(&Start::Load { image }, Fault::None);
     let outcome = compared.unwrap();
     assert_eq!((outcome.refusal, outcome.numbers), (12, vec![0, 0]));
@@ -139,22 +158,22 @@ fn refused(image: Vec<u8>) {
 fn long_images() {
     for length in LONG {
         for byte in [0, 1, 10, UNTOUCHED] {
-            refused(vec![byte; length]);
+            load_refused(vec![byte; length]);
         }
     }
-    for table in [fresh(4).0, ring(5), ring(127), Random(3).sound_table()] {
+    for table in tables() {
         let image = image_of(&table);
         let start = Start::Load { image: image.clone() };
         assert_eq!(Pair::begin(&start, Fault::None).1.unwrap().refusal, 0);
         for more in LONG.into_iter().chain([65_520, 65_540, 2 * 65_536, 5 * 65_536]) {
-            refused([&image[..], &vec![0; more]].concat());
+            load_refused([&image[..], &vec![0; more]].concat());
             // records again and again, with the count that the header has and with the count that is right in 16 bits
             let records = image[HEADER..].iter().copied().cycle().take(more);
             let mut long: Vec<u8> = image.iter().copied().chain(records).collect();
-            refused(long.clone());
+            load_refused(long.clone());
             let count = ((long.len() - HEADER) / RECORD) as u16;
             long[8..10].copy_from_slice(&count.to_le_bytes());
-            refused(long);
+            load_refused(long);
         }
     }
 }
@@ -162,7 +181,7 @@ fn long_images() {
 /// Key lines with more behind them or before them, and other bytes.
 #[test]
 fn long_key_lines() {
-    let table = ring(5);
+    let table = ring(&[CONTACT; 5]);
     let lines: [&[u8]; 6] = [b"H*100131099A", b"H*200000013A", b"H*30000A", b"H*4A", b"H*5A", b""];
     for line in lines {
         for more in LONG {

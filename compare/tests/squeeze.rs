@@ -1,21 +1,11 @@
 //! Squeezes through the interface and on the second program: every capacity on tables with any strengths, and the laws of a squeeze, of which each
 //! call is made by both.
 
-use compare::Pair;
-use reference::faults::Fault;
+use compare::both;
 use reference::generate::Random;
-use reference::history::{Call, Outcome};
+use reference::history::Call;
 use reference::laws;
 use reference::sound::sound;
-use reference::table::Table;
-
-/// A call made by both programs, which have to agree. The table becomes the one that they hand back.
-fn both(table: &mut Table, call: &Call) -> Outcome {
-    let mut pair = Pair::new(table, Fault::None);
-    let outcome = pair.call(call).unwrap();
-    *table = pair.second;
-    outcome
-}
 
 /// Every capacity up to 8 bits and some above, on sound tables and damaged ones; of each refusal there are many.
 #[test]

@@ -1,8 +1,9 @@
 //! Every call keeps to 16 kB of stack, the caller's table counted. Each is measured by itself, on tables where it has the most to do.
 
-use compare::lend;
 use compare::stack::depth;
+use compare::{lend, ring, rounds};
 use reference::calls::{add, clear, fresh, link};
+use reference::sound::{CONTACT, WAIT};
 use reference::table::Table;
 use std::hint::black_box;
 use telephone::{raw, Exit, Kind};
@@ -70,11 +71,13 @@ fn calls(exit: u16) -> Vec<(&'static str, usize)> {
     let image = image_of(&chain);
     let (mut buffer, mut trace) = ([0; 2570], [0; 127]);
     let results = [exit as u8; 127];
+    let (mut longest, rings) = (vec![0; 65535], [CONTACT, WAIT].map(|kind| ring(&[kind; 127])));
+    let rounds = rounds(&[CONTACT; 127], 70_000);
     let adds = format!("H*1126{exit}1099A").into_bytes();
     let links = format!("H*2000{exit}127{exit}A").into_bytes();
     let clears = format!("H*3000{exit}A").into_bytes();
     vec![
-        taken("edition", &chain, 2, |_| raw::edition()),
+        taken("edition", &chain, telephone::EDITION, |_| raw::edition()),
         taken("fresh", &chain, 0, |t| raw::fresh(t, 128).refusal),
         taken("fresh, refused", &chain, 2, |t| raw::fresh(t, 129).refusal),
         taken("soundness test", &chain, 1, |t| raw::is_sound(t)),
@@ -90,7 +93,14 @@ fn calls(exit: u16) -> Vec<(&'static str, usize)> {
         taken("squeeze, 126 moved", &gap, 0, |t| raw::squeeze(t, 127).refusal),
         taken("squeeze, none moved", &chain, 0, |t| raw::squeeze(t, 128).refusal),
         taken("squeeze, refused", &chain, 13, |t| raw::squeeze(t, 127).refusal),
-        taken("trial", &chain, 127, |t| raw::trial(t, &results, &mut trace).last),
+        taken("trial", &chain, 0, |t| raw::trial(t, 127, &results, &mut trace).refusal),
+        taken("trial, 65535 contacts", &rings[0], 65535, |t| {
+            raw::trial(t, 65535, &rounds, &mut longest).moves
+        }),
+        taken("trial, 65535 waits", &rings[1], 65535, |t| {
+            raw::trial(t, 65535, &[], &mut longest).moves
+        }),
+        taken("trial, refused", &chain, 11, |t| raw::trial(t, 128, &[], &mut trace).refusal),
         taken("write image", &chain, 2570, |t| raw::write_image(t, &mut buffer).length),
         taken("load image", &open, 0, |t| raw::load_image(t, &image).refusal),
         taken("load image, refused", &open, 12, |t| raw::load_image(t, &image[1..]).refusal),

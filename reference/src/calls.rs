@@ -1,10 +1,12 @@
 //! The calls on a table but squeezes, images and key lines; refusals are ordered lists of
-//! conditions. Edits take a `Fault`, so that wrong variants can be run against the right one.
-//! Renders "Calls" and "Reasons for no" of document 01.
+//! conditions. Edits and trials take a `Fault`, so that wrong variants can be run against the right
+//! one. Renders "Calls" and "Reasons for no" of document 01, and W3's trial.
+
+use std::iter::successors;
 
 use crate::clearing;
 use crate::faults::Fault;
-use crate::sound::{capacity_fits, fits, sound};
+use crate::sound::{capacity_fits, fits, sound, CONTACT, WAIT};
 use crate::table::{place, Table, EXITS};
 
 /// An answer: the refusal or 0, then two numbers.
@@ -27,21 +29,22 @@ pub struct ReadAnswer {
     pub counts: [u16; 2],
 }
 
-/// How a trial ends: at an empty exit, or with no results left.
+/// How a trial ends: at an empty exit, at a contact with no result left, or at the limit of moves.
 #[derive(Clone, Copy, PartialEq, Eq, Debug, Default)]
 pub enum Ending {
     #[default]
     Open = 0,
     Spent = 1,
+    Stopped = 2,
 }
 
-/// The answer to a trial. `moves` is as wide as the length of the results.
+/// The answer to a trial.
 #[derive(Clone, PartialEq, Eq, Debug, Default)]
 pub struct TrialAnswer {
     pub refusal: u16,
     pub ending: Ending,
     pub last: u16,
-    pub moves: usize,
+    pub moves: u16,
 }
 
 /// What a key line can ask for. Each is a call of its own too.
@@ -112,28 +115,92 @@ pub fn read(table: &Table, step: u16) -> ReadAnswer {
     }
 }
 
-/// Follows line results from step 0 and writes each step entered into the trace.
-pub fn trial(table: &Table, results: &[u8], trace: &mut [u8]) -> TrialAnswer {
+/// Goes on from step 0, where each contact uses up a line result, for at most as many moves as the
+/// limit; writes each step entered into the trace.
+pub fn trial(table: &Table, limit: u16, results: &[u8], trace: &mut [u8]) -> TrialAnswer {
+    trial_with(table, limit, results, trace, Fault::None)
+}
+
+/// Makes a trial, with a fault or without. Where the path stands when the limit has cut it says how
+/// the trial ends: it is stopped where it could go on.
+pub fn trial_with(
+    table: &Table,
+    limit: u16,
+    results: &[u8],
+    trace: &mut [u8],
+    fault: Fault,
+) -> TrialAnswer {
+    let most = match fault {
+        Fault::OneMoveMore if trace.len() > limit.into() => usize::from(limit) + 1,
+        _ => limit.into(),
+    };
+    let path: Vec<Position> = path(table, results, fault).take(1 + most).collect();
+    let end = path[path.len() - 1];
+    let looked_at = match fault {
+        Fault::UsedResultsOnly => end.used + usize::from(table.kind(end.step) == CONTACT),
+        _ => results.len(),
+    };
+    let needed = match fault {
+        Fault::TraceAsResults => results.len(),
+        _ => limit.into(),
+    };
     let refusal = first_refusal(&[
         (1, !sound(table)),
-        (10, results.iter().any(|&result| result > 3)),
-        (11, trace.len() < results.len()),
+        (10, results.iter().take(looked_at).any(|&result| result > 3)),
+        (11, trace.len() < needed),
     ]);
-    let mut answer = TrialAnswer { refusal, ..Default::default() };
     if refusal != 0 {
-        return answer;
+        return TrialAnswer { refusal, ..Default::default() };
     }
-    for &result in results {
-        let target = table.target(answer.last, result.into());
-        if target == 0 {
-            return answer;
+    for (byte, entered) in trace.iter_mut().zip(&path[1..]) {
+        *byte = entered.step as u8;
+    }
+    let at_limit = path.len() > most;
+    let ending = match (onward(table, results, end, fault), fault) {
+        (Err(Ending::Open), Fault::StoppedBeforeOpen) if at_limit => Ending::Stopped,
+        (Err(Ending::Spent), Fault::StoppedBeforeSpent) if at_limit => Ending::Stopped,
+        (Err(ending), _) => ending,
+        (Ok(_), _) => Ending::Stopped,
+    };
+    TrialAnswer { refusal: 0, ending, last: end.step, moves: (path.len() - 1) as u16 }
+}
+
+/// Where a trial stands: a step, and how many results are used up.
+#[derive(Clone, Copy)]
+struct Position {
+    step: u16,
+    used: usize,
+}
+
+/// The positions of a trial that has no limit, which may go on for ever. They can be read on any
+/// table.
+fn path<'a>(
+    table: &'a Table,
+    results: &'a [u8],
+    fault: Fault,
+) -> impl Iterator<Item = Position> + 'a {
+    let start = Position { step: 0, used: 0 };
+    successors(Some(start), move |&at| onward(table, results, at, fault).ok())
+}
+
+/// The position after a move, or why there is none.
+fn onward(table: &Table, results: &[u8], at: Position, fault: Fault) -> Result<Position, Ending> {
+    let target = |exit| table.target(at.step, exit);
+    let kind = table.kind(at.step);
+    let (exit, used) = match (kind, results.get(at.used)) {
+        (CONTACT, None) => {
+            let open = fault == Fault::OpenBeforeSpent && (0..4).all(|exit| target(exit) == 0);
+            return Err(if open { Ending::Open } else { Ending::Spent });
         }
-        trace[answer.moves] = target as u8;
-        answer.moves += 1;
-        answer.last = target;
+        (CONTACT, Some(&result)) => (result, at.used + 1),
+        (WAIT, Some(&result)) if fault == Fault::WaitTakesResult => (result, at.used),
+        (_, Some(_)) if fault == Fault::UsesUp(kind) => (0, at.used + 1),
+        _ => (0, at.used),
+    };
+    match target(exit.into()) {
+        0 => Err(Ending::Open),
+        step => Ok(Position { step, used }),
     }
-    answer.ending = Ending::Spent;
-    answer
 }
 
 /// Carries out a command, with a fault or without.

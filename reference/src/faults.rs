@@ -1,8 +1,9 @@
 //! Deliberate errors, so that wrong variants can be run against the right one.
 //! The first six are other ways to edit and stand in `calls` and `clearing`, the next seven are
-//! other ways to squeeze. Each of the rest spoils what a right call gives, in one part of it.
+//! other ways to squeeze, and the next eight other ways to make a trial. Each of the rest spoils
+//! what a right call gives, in one part of it.
 
-use crate::calls::Command;
+use crate::calls::{Command, Ending};
 use crate::history::{Call, Outcome, Start};
 use crate::image::{HEADER, RECORD};
 use crate::table::Table;
@@ -38,6 +39,22 @@ pub enum Fault {
     RecordsStay,
     /// A squeeze leaves the last number given.
     LastStays,
+    /// A step of this kind, which is not a contact, uses up a line result where one is left.
+    UsesUp(u16),
+    /// A wait takes the exit of the next line result and leaves it to the next contact.
+    WaitTakesResult,
+    /// A trial looks at the limit before the empty exit.
+    StoppedBeforeOpen,
+    /// A trial looks at the limit before the results left.
+    StoppedBeforeSpent,
+    /// A trial says open at a contact with no result left and no link.
+    OpenBeforeSpent,
+    /// A trial makes one move past the limit, where the trace has room for it.
+    OneMoveMore,
+    /// The trace must be as long as the results, and not as the limit.
+    TraceAsResults,
+    /// Only results that a contact uses up are looked at for refusal 10.
+    UsedResultsOnly,
     /// Clearing says that all doubtful steps were freed.
     DoubtfulSaidFreed,
     /// A count gives the free steps first.
@@ -46,12 +63,14 @@ pub enum Fault {
     CountersExchanged,
     /// A trial that is spent says open.
     SpentSaidOpen,
+    /// A trial that is stopped says spent.
+    StoppedSaidSpent,
     /// A trial writes the step that it leaves, not the one that it enters.
     TraceOneBehind,
     /// The step records are written in descending step number.
     WrittenDescending,
-    /// The moves of a trial are counted in so many bits.
-    MovesIn(u32),
+    /// The moves of a trial are counted in 8 bits.
+    MovesInAByte,
     /// A lent length is cut to 16 bits.
     Cut(Length),
     /// One part of what calls of one sort give is wrong, where they are refused or where not.
@@ -182,11 +201,15 @@ pub fn cut(fault: Fault, which: Length, length: usize) -> usize {
 /// Spoils what a right call gave.
 pub fn spoil(fault: Fault, sort: Sort, table: &mut Table, outcome: &mut Outcome) {
     let accepted = outcome.refusal == 0;
+    let ended = |ending| sort == Sort::Trial && outcome.numbers[0] == ending as usize;
     match fault {
         Fault::DoubtfulSaidFreed if sort == Sort::Clear => outcome.numbers[1] = outcome.numbers[0],
         Fault::CountsExchanged if sort == Sort::Count => outcome.numbers.swap(0, 1),
         Fault::CountersExchanged if sort == Sort::Read => outcome.numbers.swap(11, 12),
-        Fault::SpentSaidOpen if sort == Sort::Trial => outcome.numbers[0] = 0,
+        Fault::SpentSaidOpen if ended(Ending::Spent) => outcome.numbers[0] = Ending::Open as usize,
+        Fault::StoppedSaidSpent if ended(Ending::Stopped) => {
+            outcome.numbers[0] = Ending::Spent as usize;
+        }
         Fault::TraceOneBehind if sort == Sort::Trial && outcome.numbers[2] > 0 => {
             outcome.lent[..outcome.numbers[2]].rotate_right(1);
             outcome.lent[0] = 0;
@@ -196,7 +219,7 @@ pub fn spoil(fault: Fault, sort: Sort, table: &mut Table, outcome: &mut Outcome)
             let descending = steps.chunks(RECORD).rev().collect::<Vec<_>>().concat();
             steps.copy_from_slice(&descending);
         }
-        Fault::MovesIn(bits) if sort == Sort::Trial => outcome.numbers[2] %= 1 << bits,
+        Fault::MovesInAByte if sort == Sort::Trial => outcome.numbers[2] %= 256,
         Fault::Spoiled { sort: of, refused, part } if of == sort && refused != accepted => {
             let written = match sort {
                 _ if refused => 0,

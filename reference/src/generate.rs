@@ -5,17 +5,18 @@
 use crate::calls::Command;
 use crate::history::Call;
 use crate::image::{HEADER, RECORD};
-use crate::plan::Plan;
+use crate::plan::{Plan, PlanStep};
+use crate::sound::{CONTACT, MESSAGE, WAIT};
 use crate::table::{place, Table, EXITS, PLACES};
 
 /// Numbers at and beyond the ends of ranges, and numbers that would wrap to small ones.
 const ODD: [u16; 18] =
     [0, 1, 2, 3, 4, 5, 15, 16, 99, 100, 127, 128, 255, 256, 257, 600, 601, 65535];
 
-/// Phases of a history: fill, make rings, clear, mix. Each lists add, link, clear, squeeze and
-/// other calls by a letter, as often as it has them.
+/// Phases of a history: fill, make rings, clear, mix. Each lists add, link, clear, squeeze, trial
+/// and other calls by a letter, as often as it has them.
 const PHASES: [&[u8]; 4] =
-    [b"aaaaaaaaaallcsoo", b"aalllllllllccsoo", b"allcccccccccsoo", b"aaalllcccsooooo"];
+    [b"aaaaaaaaaaaallcsttoo", b"aalllllllllccsttoo", b"allcccccccccsttoo", b"aaalllcccstttoooo"];
 
 /// Splitmix64.
 pub struct Random(pub u64);
@@ -49,9 +50,10 @@ impl Random {
         }
     }
 
-    /// A kind from 1 to 3 and a content that fits, often at an end of its range.
+    /// A kind from 1 to 3, half of them contacts, and a content that fits, often at an end of its
+    /// range.
     fn kind_and_content(&mut self) -> (u16, u16) {
-        let kind = 1 + self.below(3) as u16;
+        let kind = self.pick(&[CONTACT, CONTACT, MESSAGE, WAIT]);
         let (low, high) = [(0, 99), (0, 15), (1, 600)][usize::from(kind) - 1];
         let between = low + self.below(usize::from(high - low) + 1) as u16;
         (kind, self.pick(&[low, between, high]))
@@ -79,6 +81,14 @@ impl Random {
         self.pick(&[needed, needed - 1, more, plan.capacity, 128, 128, 0, 129, odd])
     }
 
+    /// Drops all but the answered exits, where there are any, every second time: messages and waits
+    /// take no other in a trial.
+    fn prefer_answered<T: Copy>(&mut self, exits: &mut Vec<T>, number: impl Fn(T) -> usize) {
+        if self.once_in(2) && exits.iter().any(|&exit| number(exit) == 0) {
+            exits.retain(|&exit| number(exit) == 0);
+        }
+    }
+
     /// A step and an exit: mostly one of the plan that is filled, or empty, as asked for.
     fn place(&mut self, plan: &Plan, filled: bool) -> (u16, u16) {
         let any = self.once_in(16);
@@ -90,6 +100,9 @@ impl Random {
                 }
             }
         }
+        if !filled {
+            self.prefer_answered(&mut places, |(_, exit)| usize::from(exit));
+        }
         let (mut step, mut exit) = match places[..] {
             [] => (0, 0),
             _ => self.pick(&places),
@@ -99,20 +112,50 @@ impl Random {
         (step, exit)
     }
 
-    /// So many line results that mostly follow the links of a table.
-    pub fn results(&mut self, table: &Table, length: usize) -> Vec<u8> {
-        let mut step = 0;
-        let result = |_| {
-            let filled = (0..4).filter(|&exit| table.target(step, exit) != 0).collect::<Vec<u16>>();
-            let exit = if filled.is_empty() || self.once_in(12) {
-                self.below(4) as u16
-            } else {
-                self.pick(&filled)
-            };
-            step = table.target(step, exit);
-            exit as u8
-        };
-        (0..length).map(result).collect()
+    /// So many line results, and the moves that a trial makes with them if nothing stops it, or some
+    /// number if it goes on for ever. A contact mostly gets the number of an exit that is filled.
+    pub fn results(&mut self, plan: &Plan, length: usize) -> (Vec<u8>, usize) {
+        let (mut results, mut moves, mut step) = (Vec::new(), 0, 0);
+        let most = self.below(600);
+        while moves <= most {
+            let PlanStep { kind, targets, .. } = plan.steps[&step];
+            let mut exit = 0;
+            if kind == CONTACT {
+                if results.len() == length {
+                    break;
+                }
+                let filled = (0..4).filter(|&exit| targets[exit] != 0).collect::<Vec<_>>();
+                let any = filled.is_empty() || self.once_in(12);
+                exit = if any { self.below(4) } else { self.pick(&filled) };
+                results.push(exit as u8);
+            }
+            step = targets[exit];
+            if step == 0 {
+                break;
+            }
+            moves += 1;
+        }
+        let left = length - results.len();
+        results.extend((0..left).map(|_| self.below(4) as u8));
+        (results, moves)
+    }
+
+    /// A trial. Its limit is mostly about the moves that the plan allows, and the trace is about as
+    /// long as the limit; now and then a result is too high, used up or not.
+    pub fn trial(&mut self, plan: &Plan) -> Call {
+        let (few, more) = (self.below(3), self.below(12));
+        let length = self.pick(&[few, more]);
+        let (mut results, moves) = self.results(plan, length);
+        let (small, less) = (self.below(6), self.below(moves + 1));
+        let limits = [moves, moves, moves.saturating_sub(1), moves + 1, moves + 300, less, small];
+        let mut limit = self.pick(&limits) as u16;
+        self.maybe_odd(&mut limit);
+        if length > 0 && self.once_in(8) {
+            results[self.below(length)] = 4 + self.pick(&[0, 1, 4, 251]);
+        }
+        let exact = self.once_in(2);
+        let trace = if exact { limit.into() } else { self.around(limit.into()) };
+        Call::Trial { limit, results, trace }
     }
 
     /// A sound table with any strengths. Its steps come in some order; each has a strong link
@@ -130,11 +173,12 @@ impl Random {
             table.own[step] = self.below(2) as u16;
             if step != 0 {
                 (table.kinds[step], table.contents[step]) = self.kind_and_content();
-                let empty: Vec<usize> = order[..i]
+                let mut empty: Vec<usize> = order[..i]
                     .iter()
                     .flat_map(|&holder| place(holder, 0)..place(holder, EXITS))
                     .filter(|&exit| table.targets[exit] == 0)
                     .collect();
+                self.prefer_answered(&mut empty, |place| place % EXITS);
                 let exit = self.pick(&empty);
                 (table.targets[exit], table.bits[exit]) = (step as u16, table.own[step]);
             }
@@ -196,6 +240,7 @@ impl Generator {
         self.left -= 1;
         match self.random.pick(self.phase) {
             b's' => Call::Squeeze { capacity: self.random.capacity(plan) },
+            b't' => self.random.trial(plan),
             b'o' => self.other(plan),
             letter => Call::Edit(self.command(plan, letter)),
         }
@@ -219,21 +264,14 @@ impl Generator {
         line
     }
 
-    /// A read, a trial, a writing, a length, a count or a key line.
+    /// A read, a writing, a length, a count or a key line.
     fn other(&mut self, plan: &Plan) -> Call {
         let random = &mut self.random;
-        match random.below(10) {
+        match random.below(9) {
             0 => Call::Read { step: random.place(plan, true).0 },
-            1 => {
-                let highest = if random.once_in(6) { 5 } else { 4 };
-                let results: Vec<u8> =
-                    (0..random.below(12)).map(|_| random.below(highest) as u8).collect();
-                let trace = random.around(results.len());
-                Call::Trial { results, trace }
-            }
-            2 => Call::Write { buffer: random.around(HEADER + RECORD * plan.steps.len()) },
-            3 => Call::ImageLength,
-            4 => Call::Edit(Command::Count),
+            1 => Call::Write { buffer: random.around(HEADER + RECORD * plan.steps.len()) },
+            2 => Call::ImageLength,
+            3 => Call::Edit(Command::Count),
             _ => Call::KeyLine(self.key_line(plan)),
         }
     }

@@ -1,7 +1,8 @@
 //! The calls of a history as values, run on a table, and the comparison with the plain plan.
-//! Renders "A history is a list", W2's squeeze in it, and demand 3's list of what has to agree.
+//! Renders "A history is a list", W2's squeeze in it, W3's trial, and demand 3's list of what has
+//! to agree.
 
-use crate::calls::{edit, fresh, read, trial, Answer, Command};
+use crate::calls::{edit, fresh, read, trial_with, Answer, Command};
 use crate::faults::{cut, spoil, Fault, Length, Sort};
 use crate::image::{length, load, write};
 use crate::keys::key_line_with;
@@ -15,7 +16,7 @@ pub enum Call {
     Edit(Command),
     Squeeze { capacity: u16 },
     Read { step: u16 },
-    Trial { results: Vec<u8>, trace: usize },
+    Trial { limit: u16, results: Vec<u8>, trace: usize },
     Write { buffer: usize },
     ImageLength,
     KeyLine(Vec<u8>),
@@ -65,13 +66,14 @@ pub fn run(table: &mut Table, call: &Call, fault: Fault) -> Outcome {
             plain(answer, lent)
         }
         Call::ImageLength => plain(length(table), Vec::new()),
-        Call::Trial { results, trace } => {
+        Call::Trial { limit, results, trace } => {
             let results = &results[..cut(fault, Length::Results, results.len())];
             let mut lent = vec![UNTOUCHED; *trace];
-            let answer = trial(table, results, &mut lent[..cut(fault, Length::Trace, *trace)]);
+            let trace = &mut lent[..cut(fault, Length::Trace, *trace)];
+            let answer = trial_with(table, *limit, results, trace, fault);
             Outcome {
                 refusal: answer.refusal,
-                numbers: vec![answer.ending as usize, answer.last.into(), answer.moves],
+                numbers: vec![answer.ending as usize, answer.last.into(), answer.moves.into()],
                 lent,
             }
         }

@@ -1,10 +1,11 @@
-//! What a squeeze has to keep, checked on generated tables with any strengths. It is stated of any
-//! program that makes calls, so that it can be asked of this one and of the one it is held to.
-//! Renders W2 of document 02. Each law gives how often it met the case that it is about.
+//! What a squeeze has to keep, and what the limit of a trial does, checked on generated tables with
+//! any strengths. It is stated of any program that makes calls, so that it can be asked of this one
+//! and of the one it is held to. Renders W2 and W3 of document 02. Each law gives how often it met
+//! the case that it is about.
 
 use std::ops::Range;
 
-use crate::calls::Command;
+use crate::calls::{Command, Ending};
 use crate::generate::Random;
 use crate::history::{Call, Outcome};
 use crate::plan::plan_of;
@@ -59,10 +60,10 @@ pub fn trials_end_alike(program: Program, seeds: Range<u64>) -> usize {
     let mut other = 0;
     for (table, capacity) in tables(seeds) {
         let new = squeezed(program, &table, capacity);
+        let plan = plan_of(&table);
         let mut random = Random(capacity.into());
-        for length in 0..12 {
-            let results = random.results(&table, length);
-            let call = Call::Trial { results, trace: length + 1 };
+        for _ in 0..12 {
+            let call = random.trial(&plan);
             let old = program(&mut table.clone(), &call);
             let mut expected = old.clone();
             expected.numbers[1] = renumbered(&table, old.numbers[1]);
@@ -74,6 +75,36 @@ pub fn trials_end_alike(program: Program, seeds: Range<u64>) -> usize {
         }
     }
     other
+}
+
+/// A trial with a larger limit begins with the same trace and makes no fewer moves; where the
+/// smaller limit did not stop the trial, both answer the same. Gives the trials that were stopped
+/// and went on under a larger limit.
+pub fn larger_limits_go_on(program: Program, seeds: Range<u64>) -> usize {
+    let mut went_on = 0;
+    for (table, _) in tables(seeds) {
+        let mut random = Random(table.size().into());
+        for length in 0..12 {
+            let (results, moves) = random.results(&plan_of(&table), length);
+            let mut limits = [0, 1, 2, 3, moves, moves + 1, moves + 300];
+            limits.sort();
+            let trials = limits.map(|trace| {
+                let call = Call::Trial { limit: trace as u16, results: results.clone(), trace };
+                program(&mut table.clone(), &call)
+            });
+            for [smaller, larger] in trials.windows(2).map(|two| [&two[0], &two[1]]) {
+                let moves = smaller.numbers[2];
+                assert!(smaller.refusal == 0 && larger.refusal == 0);
+                assert!(larger.numbers[2] >= moves);
+                assert_eq!(larger.lent[..moves], smaller.lent[..moves]);
+                if smaller.numbers[0] != Ending::Stopped as usize {
+                    assert_eq!(larger.numbers, smaller.numbers);
+                }
+                went_on += usize::from(larger.numbers[2] > moves);
+            }
+        }
+    }
+    went_on
 }
 
 /// Clearing an exit of the old table, and the same exit of the step under its new number, gives the

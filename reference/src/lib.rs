@@ -2,7 +2,8 @@
 //! Reach is marked afresh and counters are recounted from the links; no search works on counters.
 //! `table`, `sound`, `calls`, `clearing`, `squeeze`, `image` and `keys` keep a table; `plan` draws
 //! the plain plan; `history` runs calls given as values; `generate` makes up calls, key lines and
-//! tables; `faults` has deliberate errors; `laws` has what every squeeze has to keep.
+//! tables; `faults` has deliberate errors; `laws` has what every squeeze has to keep and what the
+//! limit of a trial does.
 
 pub mod calls;
 pub mod clearing;

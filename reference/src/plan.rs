@@ -1,6 +1,7 @@
 //! The plain plan, drawn from the calls' arguments alone, and the plain plan of a table.
 //! It has no bits and counters; after a clearing, what step 0 reaches is marked.
-//! Renders "The plain plan of a table" of document 01, and W2's squeeze of it.
+//! Renders "The plain plan of a table" of document 01, W2's squeeze of it, and W3's refusal of a
+//! trial.
 
 use std::collections::{BTreeMap, BTreeSet};
 
@@ -78,9 +79,9 @@ impl Plan {
                 Ok([Some(0), Some(0)])
             }
             Call::Read { step } => self.step(*step).map(|_| [None, None]),
-            Call::Trial { results, trace } => {
+            Call::Trial { limit, results, trace } => {
                 refuse_if(results.iter().any(|&result| result > 3), 10)?;
-                refuse_if(*trace < results.len(), 11)?;
+                refuse_if(*trace < usize::from(*limit), 11)?;
                 Ok([None, None])
             }
             Call::Write { buffer } => {

@@ -3,6 +3,12 @@
 
 use crate::table::{after, mark, members, place, Table, EXITS, PLACES};
 
+/// The kinds of step.
+pub const ALARM: u16 = 0;
+pub const CONTACT: u16 = 1;
+pub const MESSAGE: u16 = 2;
+pub const WAIT: u16 = 3;
+
 /// Whether a table is sound.
 pub fn sound(table: &Table) -> bool {
     numbers_in_range(table)
@@ -20,9 +26,9 @@ pub fn capacity_fits(capacity: u16) -> bool {
 /// Whether a step that can be added may have this kind and content.
 pub fn fits(kind: u16, content: u16) -> bool {
     match kind {
-        1 => content <= 99,
-        2 => content <= 15,
-        3 => (1..=600).contains(&content),
+        CONTACT => content <= 99,
+        MESSAGE => content <= 15,
+        WAIT => (1..=600).contains(&content),
         _ => false,
     }
 }
@@ -38,7 +44,7 @@ fn numbers_in_range(table: &Table) -> bool {
 /// Step 0 is in use and the alarm; every other step in use has a kind and content that fit.
 fn kinds_in_range(table: &Table) -> bool {
     table.has(0)
-        && (table.kinds[0], table.contents[0]) == (0, 0)
+        && (table.kinds[0], table.contents[0]) == (ALARM, 0)
         && members(table.in_use() & !1).all(|step| fits(table.kinds[step], table.contents[step]))
 }
 

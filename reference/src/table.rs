@@ -66,6 +66,11 @@ impl Table {
         self.in_use().count_ones() as u16
     }
 
+    /// The kind of a step; 0 where there is no such step.
+    pub fn kind(&self, step: u16) -> u16 {
+        self.kinds.get(usize::from(step)).copied().unwrap_or(0)
+    }
+
     /// The target at an exit; 0 where the exit is empty or there is no such exit.
     pub fn target(&self, step: u16, exit: u16) -> u16 {
         let (step, exit) = (usize::from(step), usize::from(exit));

@@ -1,9 +1,7 @@
-//! Document 01's examples P1 to P10, with bits and counters, and further edits and trials.
+//! Document 01's examples P1 to P10, with bits and counters, and further edits.
 //! Small cases: self links, two exits to one step, which step is taken first, numbers going round.
 
-use reference::calls::{
-    add, clear, fresh, link, read, trial, Answer, Ending, ReadAnswer, TrialAnswer,
-};
+use reference::calls::{add, clear, fresh, link, read, Answer, ReadAnswer};
 use reference::image::{load, write};
 use reference::sound::sound;
 use reference::table::Table;
@@ -217,37 +215,4 @@ fn counters_pass_255() {
     }
     assert_eq!(clear(&mut t, 0, 3), yes(127, 127));
     assert_eq!(t, Table { last: 127, ..fresh(128).0 });
-}
-
-#[test]
-fn trials() {
-    let mut t = f4();
-    add(&mut t, 0, 0, 1, 0);
-    add(&mut t, 1, 2, 1, 1);
-    link(&mut t, 0, 0, 2, 2);
-    let run = |table: &Table, results: &[u8]| {
-        let mut trace = [0xEE; 6];
-        (trial(table, results, &mut trace), trace)
-    };
-    let open = |last, moves| TrialAnswer { ending: Ending::Open, last, moves, refusal: 0 };
-    let spent = |last, moves| TrialAnswer { ending: Ending::Spent, last, moves, refusal: 0 };
-    assert_eq!(run(&t, &[0, 2, 2, 2]), (spent(2, 4), [1, 2, 1, 2, 0xEE, 0xEE]));
-    assert_eq!(run(&t, &[0, 2, 1, 0]), (open(2, 2), [1, 2, 0xEE, 0xEE, 0xEE, 0xEE]));
-    assert_eq!(run(&t, &[]), (spent(0, 0), [0xEE; 6]));
-    assert_eq!(run(&t, &[3]), (open(0, 0), [0xEE; 6]));
-    // No results are left at step 1, so none of its exits is looked at.
-    assert_eq!(run(&t, &[0]).0, spent(1, 1));
-    assert_eq!(trial(&t, &[], &mut []), spent(0, 0));
-}
-
-/// More moves than 16 bits can count.
-#[test]
-fn a_long_trial() {
-    let mut t = f4();
-    add(&mut t, 0, 0, 1, 0);
-    link(&mut t, 0, 0, 1, 0);
-    let mut trace = vec![0; 70_000];
-    let answer = trial(&t, &[0; 70_000], &mut trace);
-    assert_eq!((answer.ending, answer.last, answer.moves), (Ending::Spent, 1, 70_000));
-    assert!(trace.iter().all(|&step| step == 1));
 }

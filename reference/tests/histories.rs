@@ -13,7 +13,7 @@ use reference::history::{agrees, run, Call, Outcome};
 use reference::image::load;
 use reference::keys::decode;
 use reference::plan::{plan_of, Plan};
-use reference::sound::sound;
+use reference::sound::{sound, ALARM, MESSAGE, WAIT};
 use reference::table::{after, place, Table};
 
 /// A table to start from and its plan: fresh, refused or loaded, by the seed.
@@ -56,7 +56,7 @@ fn without_strong_chain(table: &Table, step: u16, exit: u16) -> u32 {
 }
 
 /// What the histories have come across, so that a generator that avoids the hard cases is noticed.
-#[derive(Default)]
+#[derive(Default, Debug)]
 struct Seen {
     refusals: BTreeSet<u16>,
     all_freed: u32,
@@ -65,6 +65,10 @@ struct Seen {
     full_128: u32,
     squeezed: u32,
     renumbered: u32,
+    /// Trials by their ending, and refused ones.
+    endings: [u32; 3],
+    bad_results: u32,
+    short_traces: u32,
 }
 
 /// Runs one call on table and plan and compares all that has to agree.
@@ -90,6 +94,13 @@ fn check(table: &mut Table, plan: &mut Plan, call: &Call, seen: &mut Seen) {
         seen.squeezed += 1;
         seen.renumbered += u32::from(table.used != before.used);
     }
+    if matches!(call, Call::Trial { .. }) {
+        match outcome.refusal {
+            0 => seen.endings[outcome.numbers[0]] += 1,
+            10 => seen.bad_results += 1,
+            _ => seen.short_traces += 1,
+        }
+    }
     seen.refusals.insert(outcome.refusal);
     seen.full_128 += u32::from(table.size() == 128);
 }
@@ -109,6 +120,9 @@ fn histories_agree_with_the_plan() {
     assert_eq!(seen.refusals, BTreeSet::from([0, 2, 3, 4, 5, 6, 7, 8, 9, 10, 11, 13]));
     assert!(seen.all_freed > 100 && seen.some_freed > 100 && seen.all_kept > 100);
     assert!(seen.full_128 > 100 && seen.squeezed > 1000 && seen.renumbered > 500);
+    println!("{seen:?}");
+    assert!(seen.endings.iter().all(|&ended| ended > 1000));
+    assert!(seen.bad_results > 500 && seen.short_traces > 500);
 }
 
 /// The first call after which a variant differs from the right one, in the table or the outcome.
@@ -141,11 +155,24 @@ fn every_fault_is_found() {
         Fault::CountersStay,
         Fault::RecordsStay,
         Fault::LastStays,
+        Fault::UsesUp(ALARM),
+        Fault::UsesUp(MESSAGE),
+        Fault::UsesUp(WAIT),
+        Fault::WaitTakesResult,
+        Fault::StoppedBeforeOpen,
+        Fault::StoppedBeforeSpent,
+        Fault::OpenBeforeSpent,
+        Fault::OneMoveMore,
+        Fault::TraceAsResults,
+        Fault::UsedResultsOnly,
         Fault::DoubtfulSaidFreed,
         Fault::CountsExchanged,
         Fault::CountersExchanged,
         Fault::SpentSaidOpen,
+        Fault::StoppedSaidSpent,
         Fault::TraceOneBehind,
+        Fault::WrittenDescending,
+        Fault::MovesInAByte,
     ];
     for fault in faults {
         let found = (0..54).filter_map(|seed| first_difference(seed, 200, fault)).count();

@@ -1,5 +1,5 @@
-//! Each row of "Reasons for no" with its example, W2's 13, each call's order of refusals, and
-//! numbers that would wrap. A refused call changes neither table nor buffer.
+//! Each row of "Reasons for no" with its example, W2's 13, W3's 11, each call's order of refusals,
+//! and numbers that would wrap. A refused call changes neither table nor buffer.
 
 use reference::calls::{
     add, clear, counts, fresh, link, read, trial, Answer, ReadAnswer, TrialAnswer,
@@ -27,9 +27,9 @@ fn refuses(refusal: u16, table: &Table, call: impl Fn(&mut Table) -> Answer) {
 
 /// Checks that a trial with a trace of this length answers this refusal and writes nothing.
 #[track_caller]
-fn trial_refuses(refusal: u16, table: &Table, results: &[u8], length: usize) {
+fn trial_refuses(refusal: u16, table: &Table, limit: u16, results: &[u8], length: usize) {
     let mut trace = vec![0xEE; length];
-    let answer = trial(table, results, &mut trace);
+    let answer = trial(table, limit, results, &mut trace);
     assert_eq!(answer, TrialAnswer { refusal, ..Default::default() });
     assert_eq!(trace, vec![0xEE; length]);
 }
@@ -66,7 +66,7 @@ fn examples_of_the_table() {
     refuses(1, &unsound, |t| key_line(t, b"H*4A"));
     assert_eq!((counts(&unsound), length(&unsound)), (no(1), no(1)));
     read_refuses(1, &unsound, 9);
-    trial_refuses(1, &unsound, &[4], 0);
+    trial_refuses(1, &unsound, 1, &[4], 0);
     write_refuses(1, &unsound, 0);
     // 2
     assert_eq!(fresh(129), (fresh(1).0, no(2)));
@@ -87,10 +87,10 @@ fn examples_of_the_table() {
     // 9
     refuses(9, &f4(), |t| key_line(t, b"H*5A"));
     // 10
-    trial_refuses(10, &f4(), &[0, 4], 2);
+    trial_refuses(10, &f4(), 2, &[0, 4], 2);
     // 11
     write_refuses(11, &f4(), 29);
-    trial_refuses(11, &f4(), &[0, 0], 1);
+    trial_refuses(11, &f4(), 2, &[0, 0], 1);
     // 12
     assert_eq!(load(&[]), (fresh(1).0, no(12)));
     // 13
@@ -152,10 +152,17 @@ fn the_orders_of_the_other_calls() {
     refuses(2, &table, |t| squeeze(t, 0));
     refuses(13, &table, |t| squeeze(t, 1));
     assert_eq!(squeeze(&mut table.clone(), 2), no(0));
-    // A result above 3 counts even where the trial would end before it, and so does the trace.
-    trial_refuses(10, &table, &[1, 1, 4], 0);
-    trial_refuses(10, &table, &[255], 1);
-    trial_refuses(11, &table, &[1, 1, 1], 2);
+    // A result above 3 counts even where no contact uses it up, and before the trace.
+    trial_refuses(10, &table, 0, &[1, 1, 4], 0);
+    trial_refuses(10, &table, 9, &[1, 4], 0);
+    trial_refuses(10, &table, 1, &[255], 1);
+    // The trace is held to the limit, even where the trial would end before it.
+    for limit in [1, 2, 256, 65535] {
+        trial_refuses(11, &table, limit, &[1], usize::from(limit) - 1);
+        assert_eq!(trial(&table, limit, &[1], &mut vec![0; limit.into()]).refusal, 0);
+    }
+    trial_refuses(11, &table, 3, &[], 2);
+    trial_refuses(11, &table, 65535, &[1; 100], 255);
     // Needed is the length of this image, and no more.
     write_refuses(11, &table, 49);
     write_refuses(11, &table, 0);

@@ -114,7 +114,7 @@ fn calls() -> Vec<Call> {
         Call::Edit(Command::Clear { step: 0, exit: 0 }),
         Call::Squeeze { capacity: 128 },
         Call::Read { step: 0 },
-        Call::Trial { results: vec![0, 1, 2, 3], trace: 4 },
+        Call::Trial { limit: 4, results: vec![0, 1, 2, 3], trace: 4 },
         Call::Write { buffer: 2570 },
         Call::KeyLine(b"H*4A".to_vec()),
     ]

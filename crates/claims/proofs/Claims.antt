@@ -2,9 +2,10 @@
 --   test-sound sound-test     the test and the statement of soundness are one
 --   demand-1                  every call, refused or not
 --   demand-3 history-*        every history
---   demand-2-* trial-demand   every accepted call
+--   demand-2-*                every accepted call
 --   written-equal loaded-equal   one table, one image (W1)
 --   squeeze-*                 an accepted squeeze, and what its table does (W2)
+--   trial-demand trial-only trial-longer   an accepted trial, and one with a larger limit (W3)
 --   examples-shown ..         P1 to P10, each refusal of each call, key lines byte by byte, a table for each clause of soundness
 --   keys-demand keys-blocks   the program `keys`
 --   words-table table-words   the table in memory
@@ -16,7 +17,7 @@ use Prim.Native.Nat.{ℕ, _≤_, _<_}
 use lib.ListN.{length}
 use Rattle.table.specs.Table.{Table, places, counters, inUse, counterOf, linksTo, stepsInUse, StrongChain}
 use Rattle.table.specs.Sound.{Sound, sound, Shape}
-use Rattle.table.specs.Calls.{addRefusal, addCall, linkRefusal, linkCall, trialRefusal, trialCall}
+use Rattle.table.specs.Calls.{addRefusal, addCall, linkRefusal, linkCall}
 use Rattle.table.specs.Clear.{clearRefusal, clearCall}
 use Rattle.table.specs.Squeeze.{newNumber, squeezeRefusal, squeezeCall, ClearsAlike}
 use Rattle.table.specs.Plan.{planOf}
@@ -26,7 +27,7 @@ use Rattle.keyline.specs.Keys.{spokenCounts}
 use Rattle.history.specs.History.{First, Call, tableAfter, heardBy, planAfter, drawnBy, firstRefusal, planFirstRefusal, firstTable, firstPlan}
 use Rattle.history.specs.Acts.{Act}
 use Rattle.history.specs.Demands.{Demand1, Demand3, AddDemand, LinkDemand, ClearDemand, CountDemand, SqueezeDemand, TwiceDemand, WriteDemand, EqualDemand, LoadDemand, SameTableDemand}
-use Rattle.table.specs.Trial.{TrialDemand, underNumbers}
+use Rattle.table.specs.Trial.{TrialOutcome, trialRefusal, trialCall, TrialDemand, SameTrial, LongerDemand, underNumbers}
 use Rattle.history.proofs.Demand1 as Refusals
 use Rattle.history.proofs.Demand2
 use Rattle.table.proofs.Trials
@@ -149,9 +150,9 @@ squeeze-demand = Demand2.squeeze-demand
 pub squeeze-twice : (t : Table) → Sound t → (c : ℕ) → squeezeRefusal t c ≡ 0 → (d : ℕ) → TwiceDemand t d (squeezeCall (squeezeCall t c .table) d)
 squeeze-twice = Demand2.twice-demand
 
--- "Trials of the old and the squeezed table end alike, under the renumbering": whatever the results and the trace, refused ones too
-pub squeeze-trials : (t : Table) → Sound t → (c : ℕ) → squeezeRefusal t c ≡ 0 → (results trace : List ℕ) →
-    trialCall (squeezeCall t c .table) results trace ≡ underNumbers (newNumber t) (trialCall t results trace)
+-- "Trials of the old and the squeezed table end alike, under the renumbering": whatever the limit, the results and the trace, refused ones too
+pub squeeze-trials : (t : Table) → Sound t → (c : ℕ) → squeezeRefusal t c ≡ 0 → (limit : ℕ) (results trace : List ℕ) →
+    trialCall (squeezeCall t c .table) limit results trace ≡ underNumbers (newNumber t) (trialCall t limit results trace)
 squeeze-trials = Demand2.squeezed-trial
 
 -- and so do clearings: the same two counts, and the same steps stay
@@ -159,9 +160,20 @@ pub squeeze-clears : (t : Table) → Sound t → (c : ℕ) → squeezeRefusal t 
     ClearsAlike t (clearCall t i e) (clearCall (squeezeCall t c .table) (newNumber t i) e)
 squeeze-clears = Demand2.squeezed-clear
 
--- A trial that is not refused: its moves, and what it writes.
-pub trial-demand : (t : Table) (results trace : List ℕ) → trialRefusal t results trace ≡ 0 → TrialDemand t results trace (trialCall t results trace)
+-- W3: a trial that is not refused: its moves, how it ends, and what it writes.
+pub trial-demand : (t : Table) (limit : ℕ) (results trace : List ℕ) → trialRefusal t limit results trace ≡ 0 →
+    TrialDemand t limit results trace (trialCall t limit results trace)
 trial-demand = Trials.trial-demand
+
+-- and no other numbers and bytes are as it asks
+pub trial-only : {t : Table} {limit : ℕ} {results trace : List ℕ} {o p : TrialOutcome} → TrialDemand t limit results trace o →
+    TrialDemand t limit results trace p → SameTrial o p
+trial-only = Trials.trial-only
+
+-- a trial with a larger limit begins with the same trace, whatever is lent to it
+pub trial-longer : (t : Table) (limit more : ℕ) (results trace room : List ℕ) → limit ≤ more → trialRefusal t limit results trace ≡ 0 →
+    trialRefusal t more results room ≡ 0 → LongerDemand (trialCall t limit results trace) (trialCall t more results room)
+trial-longer = Trials.trial-longer
 
 -- The examples: every entry says what it states, of the table that the entries before it in its run leave.
 pub examples-shown : (r : Run) → List·Memᴰ r (examples ++ refusals) → (before : List Entry) (x : Entry) (after : List Entry) →

@@ -1,4 +1,4 @@
--- The examples in one table: P1 to P10 of document 01 ("Edits on F4"), what they do not show, W1's and W2's, then each call refused for each of its reasons
+-- The examples in one table: P1 to P10 of document 01 ("Edits on F4"), what they do not show, W1's to W3's, then each call refused for each of its reasons
 -- ("Reasons for no") and the calls that P1 to P10 do not make. The entries of a run are made one after the other, each on the table that the one before left.
 -- Assumes nothing.
 --   taken              the steps that a repair takes back, in their order
@@ -233,9 +233,8 @@ p1ToP7 =
     accepts (call (write (replicate 72 0xFF))) (answer is (70 ∷ 0 ∷ []) ∷ bytes is (imageP5 ++ (0xFF ∷ 0xFF ∷ [])) ∷ []) ∷
     accepts (call (read 0)) (answer is (0 ∷ 0 ∷ 0 ∷ 0 ∷ 2 ∷ 0 ∷ 0 ∷ 0 ∷ 1 ∷ 0 ∷ 0 ∷ 0 ∷ 0 ∷ []) ∷ []) ∷
     accepts (call (read 2)) (answer is (1 ∷ 1 ∷ 1 ∷ 0 ∷ 0 ∷ 1 ∷ 0 ∷ 0 ∷ 0 ∷ 1 ∷ 0 ∷ 1 ∷ 1 ∷ []) ∷ []) ∷
-    -- trials round its ring: spent after three moves, open after two
-    accepts (call (trial (1 ∷ 2 ∷ 2 ∷ []) (7 ∷ 7 ∷ 7 ∷ 7 ∷ []))) (answer is (1 ∷ 2 ∷ 3 ∷ []) ∷ bytes is (2 ∷ 1 ∷ 2 ∷ 7 ∷ []) ∷ []) ∷
-    accepts (call (trial (1 ∷ 2 ∷ 0 ∷ []) (7 ∷ 7 ∷ 7 ∷ 7 ∷ []))) (answer is (0 ∷ 1 ∷ 2 ∷ []) ∷ bytes is (2 ∷ 1 ∷ 7 ∷ 7 ∷ []) ∷ []) ∷
+    -- a trial of it is open at once: step 0 has no line result, and its answered exit is empty
+    accepts (call (trial 4 (1 ∷ 2 ∷ 2 ∷ []) (7 ∷ 7 ∷ 7 ∷ 7 ∷ []))) (answer is (0 ∷ 0 ∷ 0 ∷ []) ∷ bytes is (7 ∷ 7 ∷ 7 ∷ 7 ∷ []) ∷ []) ∷
     -- P6 "clear 0, 1: counts 2, 2; only step 0 is left."
     accepts (call (clear 0 1))
     (answer is (2 ∷ 2 ∷ []) ∷ order 0 1 is [] ∷ own 1 is (0 ∷ []) ∷ own 2 is (0 ∷ []) ∷ steps is (0 ∷ []) ∷ []) ∷
@@ -299,10 +298,12 @@ twoCandidates =
     []) ∷
     []
 
--- W2: that table, with steps 0, 2 and 3 in use, last number 3 and capacity 4, squeezed. Steps 2 and 3 become 1 and 2, their targets follow, their bits
--- and counters go with them, and the last number is 2.
+-- W2: that table, with steps 0, 2 and 3 in use, last number 3 and capacity 4, and exit 0 of step 0 led to step 2 by a weak link, squeezed. Steps 2 and
+-- 3 become 1 and 2, their targets follow, their bits and counters go with them, and the last number is 2. A trial enters 1, 2, 1 where it entered 2, 3, 2.
 unfoldable pub squeezes : List Entry
 squeezes =
+    accepts (call (link 0 1 0 0)) (exit 0 0 is (weakLink ∷ 2 ∷ []) ∷ counts 2 is (2 ∷ 1 ∷ []) ∷ []) ∷
+    accepts (call (trial 4 (0 ∷ 0 ∷ []) (7 ∷ 7 ∷ 7 ∷ 7 ∷ []))) (answer is (1 ∷ 2 ∷ 3 ∷ []) ∷ bytes is (2 ∷ 3 ∷ 2 ∷ 7 ∷ []) ∷ []) ∷
     refuses (call (squeeze 0)) 2 ∷
     refuses (call (squeeze 129)) 2 ∷
     refuses (call (squeeze 2)) 13 ∷
@@ -315,12 +316,13 @@ squeezes =
     own 0 is (0 ∷ []) ∷
     own 1 is (1 ∷ []) ∷
     own 2 is (1 ∷ []) ∷
-    exit 0 0 is (nothing ∷ 0 ∷ []) ∷
+    exit 0 0 is (weakLink ∷ 1 ∷ []) ∷
     exit 0 1 is (strongLink ∷ 1 ∷ []) ∷
     exit 0 2 is (strongLink ∷ 2 ∷ []) ∷
+    exit 0 3 is (nothing ∷ 0 ∷ []) ∷
     exit 1 0 is (strongLink ∷ 2 ∷ []) ∷
     exit 2 0 is (weakLink ∷ 1 ∷ []) ∷
-    counts 1 is (1 ∷ 1 ∷ []) ∷
+    counts 1 is (2 ∷ 1 ∷ []) ∷
     counts 2 is (0 ∷ 2 ∷ []) ∷
     what 3 is (0 ∷ 0 ∷ []) ∷
     own 3 is (0 ∷ []) ∷
@@ -328,20 +330,58 @@ squeezes =
     counts 3 is (0 ∷ 0 ∷ []) ∷
     []) ∷
     -- it is full; as an image, header, steps 0, 1, 2: the bits are 2 + 4, 1 + 16, 0 + 16
-    refuses (call (add 0 0 1 0)) 8 ∷
+    refuses (call (add 0 3 1 0)) 8 ∷
     accepts (call (write (replicate 70 0xFF)))
     (answer is (70 ∷ 0 ∷ []) ∷
     bytes is
     (0x0A ∷ 0 ∷ 1 ∷ 0 ∷ 3 ∷ 0 ∷ 2 ∷ 0 ∷ 3 ∷ 0 ∷
-    0x14 ∷ 0 ∷ 2 ∷ 0 ∷ 0 ∷ 0 ∷ 0 ∷ 0 ∷ 0 ∷ 0 ∷ 6 ∷ 0 ∷ 0 ∷ 0 ∷ 1 ∷ 0 ∷ 2 ∷ 0 ∷ 0 ∷ 0 ∷
+    0x14 ∷ 0 ∷ 2 ∷ 0 ∷ 0 ∷ 0 ∷ 0 ∷ 0 ∷ 0 ∷ 0 ∷ 6 ∷ 0 ∷ 1 ∷ 0 ∷ 1 ∷ 0 ∷ 2 ∷ 0 ∷ 0 ∷ 0 ∷
     0x14 ∷ 0 ∷ 2 ∷ 0 ∷ 1 ∷ 0 ∷ 1 ∷ 0 ∷ 1 ∷ 0 ∷ 0x11 ∷ 0 ∷ 2 ∷ 0 ∷ 0 ∷ 0 ∷ 0 ∷ 0 ∷ 0 ∷ 0 ∷
     0x14 ∷ 0 ∷ 2 ∷ 0 ∷ 2 ∷ 0 ∷ 1 ∷ 0 ∷ 2 ∷ 0 ∷ 0x10 ∷ 0 ∷ 1 ∷ 0 ∷ 0 ∷ 0 ∷ 0 ∷ 0 ∷ 0 ∷ 0 ∷ []) ∷
     []) ∷
-    -- a trial enters 1, 2, 1, where the old table's would enter 2, 3, 2
-    accepts (call (trial (1 ∷ 0 ∷ 0 ∷ []) (7 ∷ 7 ∷ 7 ∷ []))) (answer is (1 ∷ 1 ∷ 3 ∷ []) ∷ bytes is (1 ∷ 2 ∷ 1 ∷ []) ∷ []) ∷
+    accepts (call (trial 4 (0 ∷ 0 ∷ []) (7 ∷ 7 ∷ 7 ∷ 7 ∷ []))) (answer is (1 ∷ 1 ∷ 3 ∷ []) ∷ bytes is (1 ∷ 2 ∷ 1 ∷ 7 ∷ []) ∷ []) ∷
     -- a larger capacity is no reason to refuse: the next step added is the one after the last
     accepts (call (squeeze 5)) (sizes is (5 ∷ 2 ∷ []) ∷ steps is (0 ∷ 1 ∷ 2 ∷ []) ∷ []) ∷
-    accepts (call (add 0 0 3 600)) (answer is (3 ∷ 0 ∷ []) ∷ steps is (0 ∷ 1 ∷ 2 ∷ 3 ∷ []) ∷ []) ∷
+    accepts (call (add 0 3 3 600)) (answer is (3 ∷ 0 ∷ []) ∷ steps is (0 ∷ 1 ∷ 2 ∷ 3 ∷ []) ∷ []) ∷
+    []
+
+-- W3. F4 has an empty answered exit at step 0: "open" comes before "stopped".
+unfoldable pub waits : List Entry
+waits =
+    accepts (call (trial 0 [] [])) (answer is (0 ∷ 0 ∷ 0 ∷ []) ∷ bytes is [] ∷ []) ∷
+    -- "step 0 leads when answered to wait 1, whose answered exit leads to itself; limit 3 and no results give 'stopped' at step 1, 3 moves, trace 1 1 1."
+    accepts (call (add 0 0 3 1)) (answer is (1 ∷ 0 ∷ []) ∷ []) ∷
+    accepts (call (link 0 0 1 0)) (exit 1 0 is (weakLink ∷ 1 ∷ []) ∷ []) ∷
+    accepts (call (trial 3 [] (7 ∷ 7 ∷ 7 ∷ []))) (answer is (2 ∷ 1 ∷ 3 ∷ []) ∷ bytes is (1 ∷ 1 ∷ 1 ∷ []) ∷ []) ∷
+    -- a larger limit begins with the same trace; a smaller one, and the trace past its moves
+    accepts (call (trial 5 [] (7 ∷ 7 ∷ 7 ∷ 7 ∷ 7 ∷ []))) (answer is (2 ∷ 1 ∷ 5 ∷ []) ∷ bytes is (1 ∷ 1 ∷ 1 ∷ 1 ∷ 1 ∷ []) ∷ []) ∷
+    accepts (call (trial 2 [] (7 ∷ 7 ∷ 7 ∷ []))) (answer is (2 ∷ 1 ∷ 2 ∷ []) ∷ bytes is (1 ∷ 1 ∷ 7 ∷ []) ∷ []) ∷
+    accepts (call (trial 0 [] (7 ∷ []))) (answer is (2 ∷ 0 ∷ 0 ∷ []) ∷ bytes is (7 ∷ []) ∷ []) ∷
+    -- results that no contact uses: more of them than the trace is long; one that is no exit is refused all the same
+    accepts (call (trial 1 (1 ∷ 2 ∷ 3 ∷ []) (7 ∷ []))) (answer is (2 ∷ 1 ∷ 1 ∷ []) ∷ bytes is (1 ∷ []) ∷ []) ∷
+    refuses (call (trial 1 (1 ∷ 2 ∷ 4 ∷ []) (7 ∷ []))) 10 ∷
+    -- the trace is shorter than the limit
+    refuses (call (trial 2 [] (7 ∷ []))) 11 ∷
+    []
+
+-- W3. The alarm leads to message 1, that to contact 2; the engaged exit of 2 leads to wait 3, that back to 2.
+unfoldable pub messages : List Entry
+messages =
+    accepts (call (add 0 0 2 4)) (answer is (1 ∷ 0 ∷ []) ∷ []) ∷
+    accepts (call (add 1 0 1 7)) (answer is (2 ∷ 0 ∷ []) ∷ []) ∷
+    -- at the limit: stopped at the message; spent at the contact, which has no result left; open at it, where its exit is empty
+    accepts (call (trial 1 [] (7 ∷ []))) (answer is (2 ∷ 1 ∷ 1 ∷ []) ∷ bytes is (1 ∷ []) ∷ []) ∷
+    accepts (call (trial 2 [] (7 ∷ 7 ∷ []))) (answer is (1 ∷ 2 ∷ 2 ∷ []) ∷ bytes is (1 ∷ 2 ∷ []) ∷ []) ∷
+    accepts (call (trial 2 (0 ∷ []) (7 ∷ 7 ∷ []))) (answer is (0 ∷ 2 ∷ 2 ∷ []) ∷ bytes is (1 ∷ 2 ∷ []) ∷ []) ∷
+    accepts (call (add 2 1 3 30)) (answer is (3 ∷ 0 ∷ []) ∷ []) ∷
+    accepts (call (link 1 0 3 0)) (exit 3 0 is (weakLink ∷ 2 ∷ []) ∷ []) ∷
+    -- twice engaged, and then no result is left
+    accepts (call (trial 8 (1 ∷ 1 ∷ []) (replicate 8 7)))
+    (answer is (1 ∷ 2 ∷ 6 ∷ []) ∷ bytes is (1 ∷ 2 ∷ 3 ∷ 2 ∷ 3 ∷ 2 ∷ 7 ∷ 7 ∷ []) ∷ []) ∷
+    -- the same within 5 moves; and engaged, then answered, with a result left over
+    accepts (call (trial 5 (1 ∷ 1 ∷ []) (replicate 5 7))) (answer is (2 ∷ 3 ∷ 5 ∷ []) ∷ bytes is (1 ∷ 2 ∷ 3 ∷ 2 ∷ 3 ∷ []) ∷ []) ∷
+    accepts (call (trial 8 (1 ∷ 0 ∷ 3 ∷ []) (replicate 8 7)))
+    (answer is (0 ∷ 2 ∷ 4 ∷ []) ∷ bytes is (1 ∷ 2 ∷ 3 ∷ 2 ∷ 7 ∷ 7 ∷ 7 ∷ 7 ∷ []) ∷ []) ∷
     []
 
 -- a copy of a weak link is weak too; and the ends of each range of contents
@@ -400,6 +440,8 @@ examples =
     record { table = tableF4; entries = p9 } ∷
     record { table = tableF4; entries = p10 } ∷
     record { table = tableF4; entries = twoCandidates ++ squeezes } ∷
+    record { table = tableF4; entries = waits } ∷
+    record { table = tableF4; entries = messages } ∷
     record { table = tableF4; entries = ends } ∷
     record { table = tableF4; entries = sorted } ∷
     record { table = tableF4; entries = firstStrong } ∷
@@ -444,7 +486,7 @@ notSoundReasons =
     refuses (call (link 1 4 1 4)) 1 ∷
     refuses (call (clear 1 4)) 1 ∷
     refuses (call (read 1)) 1 ∷
-    refuses (call (trial (0 ∷ 4 ∷ []) (7 ∷ []))) 1 ∷
+    refuses (call (trial 2 (0 ∷ 4 ∷ []) (7 ∷ []))) 1 ∷
     refuses (call (write (7 ∷ []))) 1 ∷
     refuses (call (keyLine [])) 1 ∷
     refuses (call (squeeze 0)) 1 ∷
@@ -471,8 +513,8 @@ reasons =
     -- read: 3 ("read 1")
     refuses (call (read 1)) 3 ∷
     -- trial: 10 ("results 0, 4"), 11
-    refuses (call (trial (0 ∷ 4 ∷ []) (7 ∷ []))) 10 ∷
-    refuses (call (trial (0 ∷ 3 ∷ []) (7 ∷ []))) 11 ∷
+    refuses (call (trial 2 (0 ∷ 4 ∷ []) (7 ∷ []))) 10 ∷
+    refuses (call (trial 2 (0 ∷ 3 ∷ []) (7 ∷ []))) 11 ∷
     -- write: 11 ("F4 written into 29 bytes")
     refuses (call (write (replicate 29 7))) 11 ∷
     -- key line: 9 ("H*5A"), then its call's: add 3, 4, 7, link source 3, 4, 6, clear 3, 4, 6
@@ -504,8 +546,8 @@ reasons =
     -- accepted: read 1 has kind 1, content 0, own bit 0, no targets, no bits, counters 1 and 0
     accepts (call (read 1)) (answer is (1 ∷ 0 ∷ 0 ∷ (replicate 8 0 ++ (1 ∷ 0 ∷ []))) ∷ []) ∷
     -- accepted: a trial that is spent at step 1 after 1 move, and one that is open there; the trace past the move is untouched
-    accepts (call (trial (0 ∷ []) (7 ∷ 7 ∷ []))) (answer is (1 ∷ 1 ∷ 1 ∷ []) ∷ bytes is (1 ∷ 7 ∷ []) ∷ []) ∷
-    accepts (call (trial (0 ∷ 3 ∷ []) (7 ∷ 7 ∷ []))) (answer is (0 ∷ 1 ∷ 1 ∷ []) ∷ bytes is (1 ∷ 7 ∷ []) ∷ []) ∷
+    accepts (call (trial 2 [] (7 ∷ 7 ∷ []))) (answer is (1 ∷ 1 ∷ 1 ∷ []) ∷ bytes is (1 ∷ 7 ∷ []) ∷ []) ∷
+    accepts (call (trial 2 (3 ∷ []) (7 ∷ 7 ∷ []))) (answer is (0 ∷ 1 ∷ 1 ∷ []) ∷ bytes is (1 ∷ 7 ∷ []) ∷ []) ∷
     []
 
 unfoldable pub refusals : List Run

@@ -5,24 +5,25 @@
 use mathlib.Core.Path.{_≡_, refl, sym, _∙_, ap, ap₂}
 use mathlib.Core.Bool.{Bool, true, false, cond}
 use mathlib.Core.Logic.{⊎-elim}
-use mathlib.Core.List.{List, [], _∷_}
-use Prim.Native.Nat.{ℕ, _+_, _-_}
+use mathlib.Core.List.{List, []}
+use Prim.Native.Nat.{ℕ, _-_}
 use native.Mathlib.Omega.{arith}
-use lib.ListN.{length, set}
+use lib.ListN.{length}
 use lib.Dec.{eqb, ltb}
 use borrow.Author.Tests.{eq-eqb, ne-eqb}
-use Rattle.finite.proofs.Bools.{test}
 use Rattle.finite.proofs.Below.{eq-or-ne}
 use Rattle.table.specs.declared.Answer.the-variants.{Refused, Given}
-use Rattle.table.specs.Table.{Table, targetOf, holds}
+use Rattle.table.specs.Table.{Table}
 use Rattle.table.specs.Sound.{Sound}
 use Rattle.table.specs.Answer.{Outcome, first, unless, refusalOf, firstOf, secondOf, triedRefusal}
-use Rattle.table.specs.Calls.{addCall, linkCall, readCall, trialRefusal, tryFrom, trialCall}
+use Rattle.table.specs.Calls.{addCall, linkCall, readCall}
+use Rattle.table.specs.Trial.{trialCall}
 use Rattle.table.specs.Clear.{clearCall}
 use Rattle.table.specs.Plan.{planOf, planCount, planReadRefusal, planTrialRefusal}
 use Rattle.table.proofs.Links.{sound-wired}
 use Rattle.table.proofs.Plan.{plan-capacity, plan-count}
 use Rattle.table.proofs.Clear.{emptied-steps}
+use Rattle.table.proofs.Trials.{trial-refusal-given}
 use Rattle.table.proofs.Calls.{done, next, first-same, past-sound, unless-zero, unless-refused, add-refusal, link-refusal, clear-refusal, read-refusal, trial-refusal, add-fits, link-fits, clear-fits, number-plan, add-sound, add-plan, link-sound, link-plan, clear-cleared, clear-plan}
 use Rattle.table.specs.Squeeze.{squeezeCall}
 use Rattle.table.proofs.Squeeze.{squeeze-fits, squeeze-sound, squeeze-plan, squeeze-refusal}
@@ -157,25 +158,8 @@ module _ {t : Table} (s : Sound t) where
   unfolding readCall
   read-heard i = read-refusal s i
 
-  -- an accepted trial is refused by no number
-  tried-zero : (i moves : ℕ) (trace results : List ℕ) → triedRefusal (tryFrom t i moves trace results .answer) ≡ 0
-  unfolding tryFrom triedRefusal
-  tried-zero i moves trace [] = refl
-  tried-zero i moves trace (r ∷ rs) =
-      ⊎-elim (λ (h : holds t i r ≡ true). rw (h, tryFrom) (tried-zero (targetOf t i r) (moves + 1) (set trace moves (targetOf t i r)) rs))
-      (λ (h : holds t i r ≡ false). rw (h, tryFrom))
-      (test (holds t i r))
-
-  trial-heard : (results trace : List ℕ) → triedRefusal (trialCall t results trace .answer) ≡ planTrialRefusal results (length trace)
-  unfolding trialCall triedRefusal
-  trial-heard results trace =
-      let n = trialRefusal t results trace in
-      let here : triedRefusal (trialCall t results trace .answer) ≡ n =
-      ⊎-elim
-      (λ (z : n ≡ 0). rw (eq-eqb n 0 z) (tried-zero 0 0 trace results ∙ sym z))
-      (λ (z : n ≡ 0 → ⊥). rw (ne-eqb n 0 z))
-      (eq-or-ne n 0) in
-      here ∙ trial-refusal s results trace
+  trial-heard : (limit : ℕ) (results trace : List ℕ) → triedRefusal (trialCall t limit results trace .answer) ≡ planTrialRefusal limit results (length trace)
+  trial-heard limit results trace = trial-refusal-given t limit results trace ∙ trial-refusal s limit results trace
 
   write-refusal : (room : ℕ) → writeRefusal t room ≡ planWriteRefusal (planOf t) room
   unfolding writeRefusal planWriteRefusal imageLength
@@ -202,7 +186,7 @@ call-agrees s (add holder e kind content) = let b = beside-add s holder e kind c
 call-agrees s (link source e second f) = let b = beside-link s source e second f in record { sound = b .sound; plan = b .plan; heard = b .heard }
 call-agrees s (clear i e) = let b = beside-clear s i e in record { sound = b .sound; plan = b .plan; heard = b .heard }
 call-agrees s (read i) = record { sound = s; plan = refl; heard = ap onlyRefusal (read-heard s i) }
-call-agrees s (trial results trace) = record { sound = s; plan = refl; heard = ap onlyRefusal (trial-heard s results trace) }
+call-agrees s (trial limit results trace) = record { sound = s; plan = refl; heard = ap onlyRefusal (trial-heard s limit results trace) }
 call-agrees s (write buffer) =
     record { sound = s; plan = refl; heard = ap onlyRefusal (written-refusal s buffer ∙ write-refusal s (length buffer)) }
 call-agrees s (keyLine bs) = let b = beside-keys s bs in record { sound = b .sound; plan = b .plan; heard = b .heard }

@@ -3,21 +3,21 @@ use mathlib.Core.Path.{_≡_, refl, sym, _∙_, ap, subst}
 use mathlib.Core.Bool.{Bool, true, false, not, cond}
 use mathlib.Core.Logic.{⊎-elim}
 use mathlib.Core.List.{List, [], _∷_, _++_}
-use Prim.Native.Nat.{ℕ, zero, suc, _+_, _<_}
+use Prim.Native.Nat.{ℕ, zero, suc, _<_}
 use native.Mathlib.Omega.{arith}
-use lib.ListN.{length, getD, set}
+use lib.ListN.{length, getD}
 use lib.Dec.{eqb}
 use borrow.Author.Tests.{eqb-false, eq-eqb, ne-eqb}
 use Rattle.finite.proofs.Bools.{and-intro, and-left, and-right, test, not-true-false}
 use Rattle.finite.proofs.Below.{eq-or-ne}
-use Rattle.table.specs.declared.Ending.the-variants.{Open}
-use Rattle.table.specs.declared.Tried.the-variants.{Ended}
 use Rattle.table.specs.Answer.{Outcome, first, unless, refusalOf, firstOf, secondOf, triedRefusal, endingOf, lastOf, movesOf}
-use Rattle.table.specs.Calls.{freshCall, addRefusal, addCall, linkRefusal, linkCall, noFields, readConditions, readRefusal, readCall, TrialOutcome, tryFrom, trialConditions, trialRefusal, trialCall, tableTests}
+use Rattle.table.specs.Calls.{freshCall, addRefusal, addCall, linkRefusal, linkCall, noFields, readConditions, readRefusal, readCall, tableTests}
+use Rattle.table.specs.Trial.{trialConditions, trialRefusal}
 use Rattle.table.specs.Clear.{stops, repaired, cleared, clearRefusal, clearCall}
 use Rattle.table.specs.Squeeze.{squeezeRefusal, squeezeCall}
-use Rattle.table.specs.Table.{Table, holds, targetOf}
-use Rattle.table.proofs.Calls.{nonzero, unless-zero, unless-refused, read-refused, trial-refused, trial-made}
+use Rattle.table.specs.Table.{Table}
+use Rattle.table.proofs.Calls.{nonzero, unless-zero, unless-refused, read-refused, trial-refused}
+use Rattle.table.proofs.Trials.{trial-refusal-given}
 use Rattle.image.specs.Image.{writeConditions, writeRefusal, writeCall, loadCall}
 use Rattle.image.proofs.Laws.{write-refused, write-made}
 use Rattle.keyline.specs.declared.Command.the-variants.{Add, Link, Clear, Count}
@@ -152,32 +152,13 @@ read-demand t i =
       refused = λ h. rw (read-refused t i (λ z. h (e ∙ z)));
     }
 
--- a trial that is not refused gives no number of a refusal
-try-given : (t : Table) (i moves : ℕ) (trace results : List ℕ) → triedRefusal (tryFrom t i moves trace results .answer) ≡ 0
-unfolding tryFrom triedRefusal
-try-given t i moves trace [] = refl
-try-given t i moves trace (r ∷ rs) = turn (holds t i r) (try-given t (targetOf t i r) (moves + 1) (set trace moves (targetOf t i r)) rs)
-  where
-    turn : (b : Bool) → triedRefusal (tryFrom t (targetOf t i r) (moves + 1) (set trace moves (targetOf t i r)) rs .answer) ≡ 0 →
-        triedRefusal (elim b as (λ _. TrialOutcome) [
-          | false ↦ record { answer = Ended Open i moves; trace = trace }
-          | true ↦ tryFrom t (targetOf t i r) (moves + 1) (set trace moves (targetOf t i r)) rs
-        ] .answer) ≡ 0
-    turn false h = refl
-    turn true h = h
-
-trial-demand : (t : Table) (results trace : List ℕ) → Demand1 t (call (trial results trace))
+trial-demand : (t : Table) (limit : ℕ) (results trace : List ℕ) → Demand1 t (call (trial limit results trace))
 unfolding doneBy callDone conditionsOf refusedBy answerSize lentTo triedNumbers triedRefusal endingOf lastOf movesOf
-trial-demand t results trace =
-    let n = trialRefusal t results trace in
-    let e : triedRefusal (trialCall t results trace .answer) ≡ n =
-    ⊎-elim
-    (λ (z : n ≡ 0). rw (trial-made t results trace z) (try-given t 0 0 trace results ∙ sym z))
-    (λ (d : n ≡ 0 → ⊥). rw (trial-refused t results trace d))
-    (eq-or-ne n 0) in
+trial-demand t limit results trace =
+    let e = trial-refusal-given t limit results trace in
     record {
-      listed = rw e (unfold trialRefusal in (first-held (trialConditions t results trace) (unfold nonzero in refl)));
-      refused = λ h. rw (trial-refused t results trace (λ z. h (e ∙ z)));
+      listed = rw e (unfold trialRefusal in (first-held (trialConditions t limit results trace) (unfold nonzero in refl)));
+      refused = λ h. rw (trial-refused t limit results trace (λ z. h (e ∙ z)));
     }
 
 write-demand : (t : Table) (buffer : List ℕ) → Demand1 t (call (write buffer))
@@ -205,7 +186,7 @@ demand-1 t (call (link source e second f)) =
 demand-1 t (call (clear i e)) =
     (unfold clearCall clearRefusal in outcome-demand t t (call (clear i e)) _ (cleared t i e) refl refl (cleared-given t i e) refl (λ n. refl))
 demand-1 t (call (read i)) = read-demand t i
-demand-1 t (call (trial results trace)) = trial-demand t results trace
+demand-1 t (call (trial limit results trace)) = trial-demand t limit results trace
 demand-1 t (call (write buffer)) = write-demand t buffer
 demand-1 t (call (keyLine bs)) = key-demand t bs
 demand-1 t (call (squeeze c)) =

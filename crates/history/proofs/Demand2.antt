@@ -15,9 +15,9 @@ use Rattle.table.specs.declared.Answer.the-variants.{Given}
 use Rattle.table.specs.Table.{Table, inUse, linked, stronglyLinked, withLinks}
 use Rattle.table.specs.Sound.{Sound}
 use Rattle.table.specs.Answer.{Outcome, first, firstOf, unless}
-use Rattle.table.specs.Calls.{relink, addRefusal, addCall, linkRefusal, linkCall, trialCall}
+use Rattle.table.specs.Calls.{relink, addRefusal, addCall, linkRefusal, linkCall}
 use Rattle.table.specs.Clear.{emptied, cleared, clearRefusal, clearCall}
-use Rattle.table.specs.Trial.{underNumbers}
+use Rattle.table.specs.Trial.{trialCall, underNumbers}
 use Rattle.table.specs.Squeeze.{newNumber, squeezed, squeezeRefusal, squeezeCall, ClearsAlike}
 use Rattle.table.proofs.Sound.{test-sound}
 use Rattle.table.proofs.Links.{sound-wired, linked-below}
@@ -86,9 +86,9 @@ twice-demand t s c z d =
     })
 
 -- what a squeezed table does: trials and clearings, under the new numbers
-pub squeezed-trial : (t : Table) → Sound t → (c : ℕ) → squeezeRefusal t c ≡ 0 → (results trace : List ℕ) →
-    trialCall (squeezeCall t c .table) results trace ≡ underNumbers (newNumber t) (trialCall t results trace)
-squeezed-trial t s c z results trace = rw (squeeze-made t c z) (squeeze-trial s c (squeeze-fits t c z) results trace)
+pub squeezed-trial : (t : Table) → Sound t → (c : ℕ) → squeezeRefusal t c ≡ 0 → (limit : ℕ) (results trace : List ℕ) →
+    trialCall (squeezeCall t c .table) limit results trace ≡ underNumbers (newNumber t) (trialCall t limit results trace)
+squeezed-trial t s c z limit results trace = rw (squeeze-made t c z) (squeeze-trial s c (squeeze-fits t c z) limit results trace)
 
 pub squeezed-clear : (t : Table) → Sound t → (c : ℕ) → squeezeRefusal t c ≡ 0 → (i e : ℕ) → inUse t i ≡ true →
     ClearsAlike t (clearCall t i e) (clearCall (squeezeCall t c .table) (newNumber t i) e)

@@ -12,8 +12,9 @@ use Rattle.table.specs.Table.{Table}
 use Rattle.table.specs.declared.Fields.{Fields}
 use Rattle.table.specs.declared.Tried.{Tried}
 use Rattle.table.specs.Answer.{Outcome, refusalOf, firstOf, secondOf, triedRefusal, endingOf, lastOf, movesOf}
-use Rattle.table.specs.Calls.{freshTable, freshConditions, freshCall, addConditions, addCall, linkConditions, linkCall, readConditions, readCall, trialConditions, trialCall}
+use Rattle.table.specs.Calls.{freshTable, freshConditions, freshCall, addConditions, addCall, linkConditions, linkCall, readConditions, readCall}
 use Rattle.table.specs.Clear.{clearConditions, clearCall}
+use Rattle.table.specs.Trial.{trialConditions, trialCall}
 use Rattle.table.specs.Squeeze.{squeezeConditions, squeezeCall}
 use Rattle.image.specs.Image.{writeConditions, writeCall, loadConditions, loadCall}
 use Rattle.keyline.specs.Keys.{keyConditions, keyCall}
@@ -38,7 +39,7 @@ told o = record { refusal = refusalOf (o .answer); numbers = firstOf (o .answer)
 unfoldable pub fieldNumbers : Fields → List ℕ
 fieldNumbers f = f .kind ∷ f .content ∷ f .own ∷ (f .targets ++ f .bits ++ f .counts)
 
--- "answers which, the last step and the moves made": open is 0, spent is 1
+-- "answers which, the last step and the moves made": open is 0, spent is 1, stopped is 2
 unfoldable pub triedNumbers : Tried → List ℕ
 triedNumbers a = endingOf a ∷ lastOf a ∷ movesOf a ∷ []
 
@@ -49,8 +50,8 @@ callDone t (clear i e) = told (clearCall t i e)
 callDone t (read i) =
     let r = readCall t i in
     record { refusal = r .refusal; numbers = fieldNumbers (r .fields); lent = []; table = t }
-callDone t (trial results trace) =
-    let o = trialCall t results trace in
+callDone t (trial limit results trace) =
+    let o = trialCall t limit results trace in
     record { refusal = triedRefusal (o .answer); numbers = triedNumbers (o .answer); lent = o .trace; table = t }
 callDone t (write buffer) =
     let o = writeCall t buffer in
@@ -69,7 +70,7 @@ answerSize (add holder e kind content) = 2
 answerSize (link source e second f) = 2
 answerSize (clear i e) = 2
 answerSize (read i) = 13
-answerSize (trial results trace) = 3
+answerSize (trial limit results trace) = 3
 answerSize (write buffer) = 2
 answerSize (keyLine bs) = 2
 answerSize (squeeze c) = 2
@@ -79,7 +80,7 @@ lentTo (add holder e kind content) = []
 lentTo (link source e second f) = []
 lentTo (clear i e) = []
 lentTo (read i) = []
-lentTo (trial results trace) = trace
+lentTo (trial limit results trace) = trace
 lentTo (write buffer) = buffer
 lentTo (keyLine bs) = []
 lentTo (squeeze c) = []
@@ -98,7 +99,7 @@ conditionsOf t (call (add holder e kind content)) = addConditions t holder e kin
 conditionsOf t (call (link source e second f)) = linkConditions t source e second f
 conditionsOf t (call (clear i e)) = clearConditions t i e
 conditionsOf t (call (read i)) = readConditions t i
-conditionsOf t (call (trial results trace)) = trialConditions t results trace
+conditionsOf t (call (trial limit results trace)) = trialConditions t limit results trace
 conditionsOf t (call (write buffer)) = writeConditions t (length buffer)
 conditionsOf t (call (keyLine bs)) = keyConditions t bs
 conditionsOf t (call (squeeze c)) = squeezeConditions t c

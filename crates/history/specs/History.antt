@@ -1,4 +1,4 @@
--- Histories (traces): a list of calls, run on the table and drawn on the plain plan (document 01, "A history"; document 02, W2). Assumes nothing.
+-- Histories (traces): a list of calls, run on the table and drawn on the plain plan (document 01, "A history"; document 02, W2, W3). Assumes nothing.
 --   First, Call        what a history begins with, and a call with its arguments
 --   Heard              what demand 3 compares of a call: refusal, number given, freed count, spoken counts
 --   run, draw          one call, on the table and on the plan
@@ -14,8 +14,9 @@ use Rattle.table.specs.Table.{Table}
 use Rattle.table.specs.declared.Answer.{Answer}
 use Rattle.table.specs.Answer.{Outcome, badCapacity, tooShort, notKeyLine, notAccepted, first, refusalOf, firstOf, secondOf, triedRefusal}
 use Rattle.table.specs.Sound.{capacityFits}
-use Rattle.table.specs.Calls.{freshCall, addCall, linkCall, readCall, trialCall}
+use Rattle.table.specs.Calls.{freshCall, addCall, linkCall, readCall}
 use Rattle.table.specs.Clear.{clearCall}
+use Rattle.table.specs.Trial.{trialCall}
 use Rattle.table.specs.Squeeze.{squeezeCall}
 use Rattle.table.specs.Plan.{Plan, planCount, planNumber, freshPlan, planAdd, planLink, planClear, planSqueeze, planAddRefusal, planLinkRefusal, planClearRefusal, planReadRefusal, planTrialRefusal, planSqueezeRefusal}
 use Rattle.image.specs.Image.{imageSize, writeCall, loadCall, accepted, imagePlan}
@@ -31,12 +32,12 @@ pub data First : Type 0 where
   load : List ℕ → First
 
 -- "a list, of any length or empty, of add, link, clear, read, trial, write image and key line, with any arguments; line results and key bytes
--- stand in it by value", and so do the lent trace and buffer. "A history may now hold a squeeze" (W2)
+-- stand in it by value", and so do the lent trace and buffer. "A history may now hold a squeeze" (W2); a trial is given a limit (W3)
 pub data Call : Type 0 where
   add link : ℕ → ℕ → ℕ → ℕ → Call
   clear : ℕ → ℕ → Call
   read : ℕ → Call
-  trial : List ℕ → List ℕ → Call
+  trial : ℕ → List ℕ → List ℕ → Call
   write keyLine : List ℕ → Call
   squeeze : ℕ → Call
 
@@ -81,7 +82,7 @@ run t (add holder e kind content) = ran 1 (addCall t holder e kind content)
 run t (link source e second f) = ran 2 (linkCall t source e second f)
 run t (clear i e) = ran 3 (clearCall t i e)
 run t (read i) = record { heard = onlyRefusal (readCall t i .refusal); table = t }
-run t (trial results trace) = record { heard = onlyRefusal (triedRefusal (trialCall t results trace .answer)); table = t }
+run t (trial limit results trace) = record { heard = onlyRefusal (triedRefusal (trialCall t limit results trace .answer)); table = t }
 run t (write buffer) = record { heard = onlyRefusal (refusalOf (writeCall t buffer .answer)); table = t }
 run t (keyLine bs) = ran (callOf (decode bs)) (keyCall t bs)
 run t (squeeze c) = ran 0 (squeezeCall t c)
@@ -159,7 +160,7 @@ draw p (add holder e kind content) = drawAdd p holder e kind content
 draw p (link source e second f) = drawLink p source e second f
 draw p (clear i e) = drawClear p i e
 draw p (read i) = unchanged (planReadRefusal p i) p
-draw p (trial results trace) = unchanged (planTrialRefusal results (length trace)) p
+draw p (trial limit results trace) = unchanged (planTrialRefusal limit results (length trace)) p
 draw p (write buffer) = unchanged (planWriteRefusal p (length buffer)) p
 draw p (keyLine bs) = drawLine p (decode bs)
 draw p (squeeze c) = drawSqueeze p c

@@ -20,7 +20,8 @@ use Rattle.table.specs.declared.Tried.the-variants.{Refused as TrialRefu
 use Rattle.table.specs.Table.{Table, exits, inUse, targetOf, holds, stepsInUse}
 use Rattle.table.specs.Sound.{Sound, contentFits, sound}
 use Rattle.table.specs.Answer.{Outcome, notSound, first, unless}
-use Rattle.table.specs.Calls.{numberGiven, withStep, addRefusal, addTable, weakBit, linkRefusal, linkTable, noFields, readRefusal, readCall, tryFrom, trialRefusal, trialCall}
+use Rattle.table.specs.Calls.{numberGiven, withStep, addRefusal, addTable, weakBit, linkRefusal, linkTable, noFields, readRefusal, readCall}
+use Rattle.table.specs.Trial.{tryFrom, trialRefusal, trialCall}
 use Rattle.table.specs.Clear.{emptied, stops, repairOf, repaired, cleared, clearRefusal, clearCall}
 use Rattle.table.specs.Plan.{Plan, planOf, planNumber, replan, withTarget, planAdd, planLink, pruned, planClear, planAddRefusal, planLinkRefusal, planClearRefusal, planReadRefusal, planTrialRefusal}
 use Rattle.table.proofs.Links.{Wired, sound-wired}
@@ -90,14 +91,15 @@ pub read-refused : (t : Table) (i : ℕ) → (readRefusal t i ≡ 0 → ⊥) →
 unfolding readCall
 read-refused t i d = rw (ne-eqb (readRefusal t i) 0 d)
 
-pub trial-refused : (t : Table) (results trace : List ℕ) → (trialRefusal t results trace ≡ 0 → ⊥) →
-    trialCall t results trace ≡ record { answer = TrialRefused (trialRefusal t results trace); trace = trace }
+pub trial-refused : (t : Table) (limit : ℕ) (results trace : List ℕ) → (trialRefusal t limit results trace ≡ 0 → ⊥) →
+    trialCall t limit results trace ≡ record { answer = TrialRefused (trialRefusal t limit results trace); trace = trace }
 unfolding trialCall
-trial-refused t results trace d = rw (ne-eqb (trialRefusal t results trace) 0 d)
+trial-refused t limit results trace d = rw (ne-eqb (trialRefusal t limit results trace) 0 d)
 
-pub trial-made : (t : Table) (results trace : List ℕ) → trialRefusal t results trace ≡ 0 → trialCall t results trace ≡ tryFrom t 0 0 trace results
+pub trial-made : (t : Table) (limit : ℕ) (results trace : List ℕ) → trialRefusal t limit results trace ≡ 0 →
+    trialCall t limit results trace ≡ tryFrom t 0 0 limit trace results
 unfolding trialCall
-trial-made t results trace z = rw (eq-eqb (trialRefusal t results trace) 0 z)
+trial-made t limit results trace z = rw (eq-eqb (trialRefusal t limit results trace) 0 z)
 
 module _ {t : Table} (s : Sound t) where
   w : Wired t
@@ -141,9 +143,9 @@ module _ {t : Table} (s : Sound t) where
   unfolding readRefusal planReadRefusal
   read-refusal i = past-sound _ ∙ first-same (next (ap not (sym (plan-used w i))) (λ _. done))
 
-  pub trial-refusal : (results trace : List ℕ) → trialRefusal t results trace ≡ planTrialRefusal results (length trace)
+  pub trial-refusal : (limit : ℕ) (results trace : List ℕ) → trialRefusal t limit results trace ≡ planTrialRefusal limit results (length trace)
   unfolding trialRefusal planTrialRefusal
-  trial-refusal results trace = past-sound _
+  trial-refusal limit results trace = past-sound _
 
 -- the conditions of an accepted call
 pub record AddFits (t : Table) (holder e kind content : ℕ) : Type 0 where

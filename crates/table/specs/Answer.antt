@@ -12,7 +12,7 @@ use Rattle.table.specs.Table.{Table}
 use Rattle.table.specs.declared.Answer.{Answer}
 use Rattle.table.specs.declared.Answer.the-variants.{Refused, Given}
 use Rattle.table.specs.declared.Ending.{Ending}
-use Rattle.table.specs.declared.Ending.the-variants.{Open, Spent}
+use Rattle.table.specs.declared.Ending.the-variants.{Open, Spent, Stopped}
 use Rattle.table.specs.declared.Tried.{Tried}
 use Rattle.table.specs.declared.Tried.the-variants.{Refused as TrialRefused, Ended}
 
@@ -81,10 +81,11 @@ secondOf (Given a b) = b
 unfoldable pub unless : ℕ → Table → Outcome → Outcome
 unless n t o = cond (eqb n 0) o (record { answer = Refused n; table = t })
 
--- how a trial ended, by number: open 0, spent 1
+-- how a trial ended, by number: open 0, spent 1, stopped 2
 unfoldable pub endingNumber : Ending → ℕ
 endingNumber Open = 0
 endingNumber Spent = 1
+endingNumber Stopped = 2
 
 unfoldable pub triedRefusal : Tried → ℕ
 triedRefusal (TrialRefused n) = n

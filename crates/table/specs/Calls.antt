@@ -1,27 +1,23 @@
--- The calls fresh, add, link, read and trial (document 01, "Calls"); clear is in Clear. Each is the answer, the table handed back and every
--- lent byte, for every input; the refused ones too. Assumes nothing.
+-- The calls fresh, add, link and read (document 01, "Calls"); clear is in Clear, the trial in Trial. Each is the answer and the table handed back,
+-- for every input; the refused ones too. Assumes nothing.
 --   tableTests t    what every call on a table asks first: 1
 --   addConditions .. the conditions of a call's refusals with their numbers, in the order of document 01; addRefusal .. the first that holds
 --   freshTable c    only step 0 in use, all bits 0, last number 0
 --   relink t i e j b   exit e of step i gets a link to j with bit b, or is emptied where j is 0; the counters follow
 --   numberGiven     the number that add gives: the first free one of a circle; on a full table, where add is refused, it is not used
---   resultsFit      every line result is below 4
---   freshCall addCall linkCall readCall trialCall   the calls
-use mathlib.Core.Bool.{Bool, true, false, not, cond}
+--   freshCall addCall linkCall readCall   the calls
+use mathlib.Core.Bool.{Bool, not, cond}
 use mathlib.Core.List.{List, [], _∷_, _++_}
 use Prim.Native.Nat.{ℕ, _+_, _*_, _-_}
-use lib.ListN.{length, getD, set, replicate}
+use lib.ListN.{getD, set, replicate}
 use lib.Dec.{eqb, leb, ltb}
-use Rattle.finite.specs.Below.{all, find, tabulate}
+use Rattle.finite.specs.Below.{find, tabulate}
 use Rattle.table.specs.declared.Answer.the-variants.{Given}
 use Rattle.table.specs.declared.Fields.{Fields}
 use Rattle.table.specs.declared.Reading.{Reading}
-use Rattle.table.specs.declared.Ending.the-variants.{Open, Spent}
-use Rattle.table.specs.declared.Tried.{Tried}
-use Rattle.table.specs.declared.Tried.the-variants.{Refused, Ended}
 use Rattle.table.specs.Table.{Table, places, exits, exitPlaces, counters, exitPlace, counterPlace, inUse, kindOf, contentOf, ownBit, targetOf, linkBit, counterOf, holds, stepsInUse, withLinks, withSteps}
 use Rattle.table.specs.Sound.{capacityFits, contentFits, sound}
-use Rattle.table.specs.Answer.{Outcome, notSound, badCapacity, notInUse, badExit, exitFilled, exitEmpty, badKind, full, badResult, tooShort, first, unless}
+use Rattle.table.specs.Answer.{Outcome, notSound, badCapacity, notInUse, badExit, exitFilled, exitEmpty, badKind, full, first, unless}
 
 -- what is asked of the table itself, before all else: that it is sound
 abbrev pub tableTests : Table → List (Bool × ℕ)
@@ -159,36 +155,3 @@ unfoldable pub readCall : Table → ℕ → Reading
 readCall t i =
     let n = readRefusal t i in
     record { refusal = n; fields = cond (eqb n 0) (fieldsOf t i) noFields }
-
--- the answer of a trial, and the lent trace as it is left
-pub record TrialOutcome : Type 0 where
-  pub answer : Tried
-  pub trace : List ℕ
-
--- from step i, after so many moves: "Each result byte, 0 to 3, takes that exit and writes the number of the step entered as a byte of the lent trace.
--- It ends 'open' at an empty exit, or 'spent' when no results are left"
-unfoldable pub tryFrom : Table → ℕ → ℕ → List ℕ → List ℕ → TrialOutcome
-tryFrom t i moves trace [] = record { answer = Ended Spent i moves; trace = trace }
-tryFrom t i moves trace (r ∷ rs) =
-    elim (holds t i r) [
-      | false ↦ record { answer = Ended Open i moves; trace = trace }
-      | true ↦ tryFrom t (targetOf t i r) (moves + 1) (set trace moves (targetOf t i r)) rs
-    ]
-
-unfoldable pub resultsFit : List ℕ → Bool
-resultsFit results = all (length results) (λ k. ltb (getD results k 0) exits)
-
-abbrev pub trialConditions : Table → List ℕ → List ℕ → List (Bool × ℕ)
-trialConditions t results trace =
-    tableTests t ++
-    ((not (resultsFit results), badResult) ∷
-    (ltb (length trace) (length results), tooShort) ∷
-    [])
-
-unfoldable pub trialRefusal : Table → List ℕ → List ℕ → ℕ
-trialRefusal t results trace = first (trialConditions t results trace)
-
-unfoldable pub trialCall : Table → List ℕ → List ℕ → TrialOutcome
-trialCall t results trace =
-    let n = trialRefusal t results trace in
-    cond (eqb n 0) (tryFrom t 0 0 trace results) (record { answer = Refused n; trace = trace })

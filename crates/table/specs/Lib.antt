@@ -1,9 +1,9 @@
--- Document 01 as definitions: the table, sound, the calls, the plain plan; and document 02's squeeze.
+-- Document 01 as definitions: the table, sound, the calls, the plain plan; and document 02's squeeze and trial.
 pub mod Table
 pub mod Sound
 pub mod Answer
 pub mod Calls
 pub mod Clear
 pub mod Squeeze
-pub mod Plan
 pub mod Trial
+pub mod Plan

@@ -19,7 +19,8 @@ use Rattle.finite.specs.Reach.{marked, reach}
 use Rattle.table.specs.Table.{Table, exits, exitsOf, inUse, kindOf, contentOf, targetOf}
 use Rattle.table.specs.Sound.{capacityFits, contentFits}
 use Rattle.table.specs.Answer.{badCapacity, notInUse, badExit, exitFilled, exitEmpty, badKind, full, badResult, tooShort, doesNotFit, first}
-use Rattle.table.specs.Calls.{numberGiven, resultsFit}
+use Rattle.table.specs.Calls.{numberGiven}
+use Rattle.table.specs.Trial.{resultsFit}
 
 -- what a plan keeps of a step in use: "the number, kind, content and four targets"; the number is its place in the list of steps
 pub record PlanStep : Type 0 where
@@ -171,6 +172,6 @@ planReadRefusal p i = first ((not (planInUse p i), notInUse) ∷ [])
 unfoldable pub planSqueezeRefusal : Plan → ℕ → ℕ
 planSqueezeRefusal p c = first ((not (capacityFits c), badCapacity) ∷ (ltb c (planCount p), doesNotFit) ∷ [])
 
--- the results stand in the call by value, and of the trace only the length counts: nothing is asked of the plan
-unfoldable pub planTrialRefusal : List ℕ → ℕ → ℕ
-planTrialRefusal results room = first ((not (resultsFit results), badResult) ∷ (ltb room (length results), tooShort) ∷ [])
+-- limit and results stand in the call by value, and of the trace only the length counts: nothing is asked of the plan
+unfoldable pub planTrialRefusal : ℕ → List ℕ → ℕ → ℕ
+planTrialRefusal limit results room = first ((not (resultsFit results), badResult) ∷ (ltb room limit, tooShort) ∷ [])

@@ -22,14 +22,15 @@ pub struct Reading {
     pub fields: Fields,
 }
 
-// How a trial ends: at an empty exit, or with no results left.
+// How a trial ends: at an empty exit, at a contact with no result left, or at its limit of moves.
 pub enum Ending {
     Open,
     Spent,
+    Stopped,
 }
 
 // The answer of a trial: the number of its refusal, or how it ended, the last step and the moves made.
 pub enum Tried {
     Refused(u16),
-    Ended(Ending, u16, usize),
+    Ended(Ending, u16, u16),
 }

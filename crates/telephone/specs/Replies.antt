@@ -14,9 +14,9 @@ use Rattle.telephone.specs.declared.ReadReply.{ReadReply}
 use Rattle.telephone.specs.declared.TrialReply.{TrialReply}
 use Rattle.telephone.specs.declared.WriteReply.{WriteReply}
 
--- the first edition passed and handed back whole tables; this one lends them
+-- the first edition passed and handed back whole tables, the second had a trial without a limit
 abbrev pub edition : ℕ
-edition = 2
+edition = 3
 
 unfoldable pub replyOf : Answer → Reply
 replyOf a =

@@ -2,11 +2,13 @@
 // changes it writes it in place. Any words may stand in it. Each function makes one proved call and gives its answer by the paper's numbers.
 ghost use mathlib.Core.Path.{_≡_};
 ghost use mathlib.Core.Bool.{cond};
+ghost use Prim.Native.Nat.{_≤_};
 ghost use Rattle.table.specs.Sound.{sound};
-ghost use Rattle.table.specs.Answer.{endingNumber};
-ghost use Rattle.table.specs.Calls.{freshCall, addCall, linkCall, readCall, trialCall};
+ghost use Rattle.table.specs.Answer.{endingNumber, movesOf};
+ghost use Rattle.table.specs.Calls.{freshCall, addCall, linkCall, readCall};
 ghost use Rattle.table.specs.Clear.{clearCall};
 ghost use Rattle.table.specs.Squeeze.{squeezeCall};
+ghost use Rattle.table.specs.Trial.{trialCall};
 ghost use Rattle.words.specs.Words.{tableOf, wordsOf};
 ghost use Rattle.image.specs.Image.{lengthCall, writeCall, loadCall};
 ghost use Rattle.keyline.specs.Keys.{countsCall, keyCall};
@@ -17,8 +19,8 @@ use table::Reading;
 use table::Tried;
 use words::WORDS;
 
-// The number of this edition of the interface. In edition 1 a table was passed and handed back by value.
-const EDITION: u16 = 2;
+// The number of this edition of the interface. In edition 1 a table was passed and handed back by value, in edition 2 a trial had no limit.
+const EDITION: u16 = 3;
 
 // The answer of a call: the refusal or 0, and two numbers.
 #[repr(C)]
@@ -40,13 +42,13 @@ pub struct ReadReply {
     pub counts: [u16; 2],
 }
 
-// The answer of a trial: the refusal or 0, how it ended (0 open, 1 spent), the last step and the moves made.
+// The answer of a trial: the refusal or 0, how it ended (0 open, 1 spent, 2 stopped), the last step and the moves made.
 #[repr(C)]
 pub struct TrialReply {
     pub refusal: u16,
     pub ending: u16,
     pub last: u16,
-    pub moves: usize,
+    pub moves: u16,
 }
 
 // The answer of write image and of image length: the refusal or 0, and the image's length.
@@ -81,6 +83,7 @@ fn ending_number(e: Ending) -> u16
     match e {
         Ending::Open => 0,
         Ending::Spent => 1,
+        Ending::Stopped => 2,
     }
 }
 
@@ -222,13 +225,21 @@ pub extern "C" fn plan_read(t: &[u16; WORDS], step: u16) -> ReadReply
     read_reply(edits::read(t, step))
 }
 
-// Trial: the steps entered are written into the trace, and no other byte. Refusals: 1, 10, 11.
+// Trial: the plan is followed within a limit of moves, a contact by its line result and all else by the answered exit. The steps entered are written
+// into the trace, and no other byte. Refusals: 1, 10, 11.
 #[no_mangle]
-pub extern "C" fn plan_trial(t: &[u16; WORDS], results: &[u8], trace: &mut [u8]) -> TrialReply
-    ensures answer { λ r. ⌜ r ≡ trialReply (trialCall (tableOf (now (t .entry))) (now (results .entry)) (now (trace .entry)) .answer) ⌝ }
-    ensures trace { λ r. ⌜ now (trace .exit) ≡ trialCall (tableOf (now (t .entry))) (now (results .entry)) (now (trace .entry)) .trace ⌝ }
+pub extern "C" fn plan_trial(
+    t: &[u16; WORDS],
+    limit: u16,
+    results: &[u8],
+    trace: &mut [u8],
+) -> TrialReply
+    ensures answer { λ r. ⌜ r ≡ trialReply (trialCall (tableOf (now (t .entry))) limit (now (results .entry)) (now (trace .entry)) .answer) ⌝ }
+    ensures trace { λ r. ⌜ now (trace .exit) ≡ trialCall (tableOf (now (t .entry))) limit (now (results .entry)) (now (trace .entry)) .trace ⌝ }
+    ensures moves { λ r. ⌜ r .moves ≡ movesOf (trialCall (tableOf (now (t .entry))) limit (now (results .entry)) (now (trace .entry)) .answer) ⌝ }
+    ensures most { λ r. ⌜ r .moves ≤ limit ⌝ }
 {
-    trial_reply(trials::trial(t, results, trace))
+    trial_reply(trials::trial(t, limit, results, trace))
 }
 
 // Image length: the length of the image that write image would write, which is the room that it needs. Refusal: 1.

@@ -1,90 +1,146 @@
--- Laws of trials: line results that are numbers of exits, one move of a trial, and the refusals in their order.
--- Assumes nothing.
+-- Laws of trials: the exit that a step takes, one move of a trial, and the refusals in their order. Assumes nothing.
+--   Chosen           the exit and the results left, as a step chooses them
+--   Followed         a trial on its way, which ends as the whole trial does
 use mathlib.Core.Path.{_≡_, sym, _∙_, ap}
 use mathlib.Core.Bool.{true, false}
 use mathlib.Core.List.{List}
-use Prim.Native.Nat.{ℕ, _+_, _≤_, _<_}
-use native.Mathlib.Numerals.{add-one}
+use Prim.Native.Nat.{ℕ, suc, _+_, _-_, _≤_, _<_}
+use native.Mathlib.Nat.{add-zero}
 use native.Mathlib.Omega.{arith}
-use lib.ListN.{length, getD, set, drop, length-set}
-use lib.Seq.{drop-cons, drop-length}
-use borrow.Author.Tests.{lt-ltb, le-ltb, ne-eqb}
-use Rattle.table.specs.declared.Ending.the-variants.{Open, Spent}
+use lib.ListN.{length, getD, set, drop, length-set, length-drop}
+use lib.Seq.{drop-drop, getD-drop}
+use borrow.Author.Tests.{eq-eqb, ne-eqb, lt-ltb, le-ltb}
+use Rattle.table.specs.declared.Ending.the-variants.{Open, Spent, Stopped}
 use Rattle.table.specs.declared.Tried.{Tried}
-use Rattle.table.specs.declared.Tried.the-variants.{Refused, Ended}
-use Rattle.table.specs.Table.{Table, places, targetOf}
+use Rattle.table.specs.declared.Tried.the-variants.{Refused}
+use Rattle.table.specs.Table.{Table, places, exits, kindOf, targetOf, holds}
 use Rattle.table.specs.Sound.{Sound}
-use Rattle.table.specs.Answer.{badResult, tooShort, first}
-use Rattle.table.specs.Calls.{TrialOutcome, tableTests, tryFrom, resultsFit, trialRefusal, trialCall}
+use Rattle.table.specs.Answer.{badResult, tooShort, first, movesOf}
+use Rattle.table.specs.Calls.{tableTests}
+use Rattle.table.specs.Trial.{TrialOutcome, ended, isContact, exitOf, resultsAfter, noResult, tryFrom, resultsFit, trialRefusal, trialCall}
 use Rattle.table.proofs.Links.{target-holds, target-empty}
 use Rattle.table.proofs.Sound.{sound-test}
+use Rattle.table.proofs.Trials.{results-at, try-spent, try-open, try-stopped, try-move, trial-most}
 use Rattle.words.proofs.Refusals.{table-stopped}
 
--- the trial after so many moves: no result is left, or the next one ends it, or makes a move
-module _ (t : Table) (i moves : ℕ) (trace results : List ℕ) where
-  pub try-spent : moves ≡ length results → tryFrom t i moves trace (drop moves results) ≡ record { answer = Ended Spent i moves; trace = trace }
-  unfolding tryFrom
-  try-spent q = rw (ap (λ (n : ℕ). drop n results) q ∙ drop-length results)
+-- at a step with so many results used up: no ending for want of a result, the exit taken, and the results left then
+pub record Chosen (t : Table) (results : List ℕ) (step used exit after : ℕ) : Type 0 where
+  pub some : noResult t step (drop used results) ≡ false
+  pub exit-of : exitOf t step (drop used results) ≡ exit
+  pub below : exit < exits
+  pub rest : resultsAfter t step (drop used results) ≡ drop after results
+  pub within : after ≤ length results
 
-  module _ (l : moves < length results) where
-    pub try-open : targetOf t i (getD results moves 0) ≡ 0 →
-        tryFrom t i moves trace (drop moves results) ≡ record { answer = Ended Open i moves; trace = trace }
-    unfolding tryFrom
-    try-open z = rw (drop-cons results moves 0 l, target-empty t i (getD results moves 0) z, tryFrom)
+module _ (t : Table) (results : List ℕ) (step used : ℕ) where
+  module _ (k : kindOf t step ≡ 1) where
+    contact : isContact t step ≡ true
+    unfolding isContact
+    contact = eq-eqb (kindOf t step) 1 k
 
-    pub try-move : (targetOf t i (getD results moves 0) ≡ 0 → ⊥) →
-        let j = targetOf t i (getD results moves 0) in
-        tryFrom t i moves trace (drop moves results) ≡ tryFrom t j (moves + 1) (set trace moves j) (drop (moves + 1) results)
-    unfolding tryFrom
-    try-move z = rw (drop-cons results moves 0 l, target-holds t i (getD results moves 0) z, tryFrom, add-one)
+    pub none-left : used ≡ length results → noResult t step (drop used results) ≡ true
+    unfolding noResult
+    none-left q = let n = length-drop used results in rw (contact, eq-eqb (length (drop used results)) 0 (omega arith))
 
--- after so many moves, at this step: the results that are left, followed from here, end as all the results do from step 0
-pub record Followed (t : Table) (results trace₀ trace : List ℕ) (step moves : ℕ) : Type 0 where
-  pub within : moves ≤ length results
+    pub contact-chosen : resultsFit results ≡ true → used < length results → Chosen t results step used (getD results used 0) (used + 1)
+    unfolding noResult exitOf resultsAfter
+    contact-chosen f l =
+        let n = length-drop used results in
+        record {
+          some = rw (contact, ne-eqb (length (drop used results)) 0 (λ (z : length (drop used results) ≡ 0). omega arith));
+          exit-of = rw contact (getD-drop used results 0 0 ∙ ap (λ (k : ℕ). getD results k 0) (add-zero used));
+          below = results-at results f used l;
+          rest = rw contact (drop-drop 1 used results);
+          within = omega arith;
+        }
+
+  module _ (k : kindOf t step ≡ 1 → ⊥) where
+    other : isContact t step ≡ false
+    unfolding isContact
+    other = ne-eqb (kindOf t step) 1 k
+
+    pub other-chosen : used ≤ length results → Chosen t results step used 0 used
+    unfolding noResult exitOf resultsAfter
+    other-chosen l =
+        record {
+          some = rw other;
+          exit-of = rw other;
+          below = omega arith;
+          rest = rw other;
+          within = l;
+        }
+
+-- after so many moves, at this step: the trial from here, with the results and the moves that are left, ends as the whole trial does
+pub record Followed (t : Table) (limit : ℕ) (results trace₀ trace : List ℕ) (step moves used : ℕ) : Type 0 where
+  pub within : used ≤ length results
+  pub most : moves ≤ limit
   pub place : step < places
   pub room : length trace ≡ length trace₀
-  pub rest : tryFrom t step moves trace (drop moves results) ≡ tryFrom t 0 0 trace₀ results
+  pub rest : tryFrom t step moves (limit - moves) trace (drop used results) ≡ tryFrom t 0 0 limit trace₀ results
 
--- the next result, where one is left, finds n in its exit
-module _ {t : Table} {results trace₀ trace : List ℕ} {step moves : ℕ} (f : Followed t results trace₀ trace step moves) (l : moves < length results)
-    (n : ℕ) (q : n ≡ targetOf t step (getD results moves 0)) where
-  pub followed-open : n ≡ 0 → record { answer = Ended Open step moves; trace = trace } ≡ tryFrom t 0 0 trace₀ results
-  followed-open z = sym (try-open t step moves trace results l (sym q ∙ z)) ∙ f .rest
+module _ {t : Table} {limit : ℕ} {results trace₀ trace : List ℕ} {step moves used : ℕ} (f : Followed t limit results trace₀ trace step moves used) where
+  pub followed-spent : kindOf t step ≡ 1 → used ≡ length results → ended Spent step moves trace ≡ tryFrom t 0 0 limit trace₀ results
+  followed-spent k q = sym (try-spent t step moves trace (drop used results) (limit - moves) (none-left t results step used k q)) ∙ f .rest
 
-  pub followed-move : n < places → (n ≡ 0 → ⊥) → Followed t results trace₀ (set trace moves n) n (moves + 1)
-  followed-move b d =
-      record {
-        within = omega arith;
-        place = b;
-        room = length-set trace moves n ∙ f .room;
-        rest = rw (sym q) at (sym (try-move t step moves trace results l (λ e. d (q ∙ e)))) ∙ f .rest;
-      }
+  -- the exit chosen holds n
+  module _ {exit after : ℕ} (c : Chosen t results step used exit after) (n : ℕ) (q : n ≡ targetOf t step exit) where
+    target : n ≡ targetOf t step (exitOf t step (drop used results))
+    target = q ∙ ap (targetOf t step) (sym (c .exit-of))
+
+    pub followed-open : n ≡ 0 → ended Open step moves trace ≡ tryFrom t 0 0 limit trace₀ results
+    followed-open z =
+        sym (try-open t step moves trace (drop used results) (limit - moves) (c .some) (target-empty t step _ (sym target ∙ z))) ∙ f .rest
+
+    module _ (d : n ≡ 0 → ⊥) where
+      filled : holds t step (exitOf t step (drop used results)) ≡ true
+      filled = target-holds t step _ (λ e. d (target ∙ e))
+
+      pub followed-stopped : moves ≡ limit → ended Stopped step moves trace ≡ tryFrom t 0 0 limit trace₀ results
+      followed-stopped e =
+          let z : limit - moves ≡ 0 = omega arith in
+          sym (try-stopped t step moves trace (drop used results) (c .some) filled) ∙ (rw z at (f .rest))
+
+      pub followed-move : n < places → (moves ≡ limit → ⊥) → Followed t limit results trace₀ (set trace moves n) n (moves + 1) after
+      followed-move b e =
+          let z : limit - moves ≡ suc (limit - (moves + 1)) = let m = f .most in omega arith in
+          record {
+            within = c .within;
+            most = let m = f .most in omega arith;
+            place = b;
+            room = length-set trace moves n ∙ f .room;
+            rest =
+                rw (sym (c .rest), target)
+                (sym (try-move t step moves trace (drop used results) (limit - (moves + 1)) (c .some) filled) ∙ (rw z at (f .rest)));
+          }
 
 -- the refusals in their order, and the trial that none of them meets
-module _ (t : Table) (results trace : List ℕ) where
+module _ (t : Table) (limit : ℕ) (results trace : List ℕ) where
   -- a refused trial leaves the trace as it was lent
   abbrev refused : ℕ → TrialOutcome
   refused n = record { answer = Refused n; trace = trace }
 
-  pub trial-stopped : (first (tableTests t) ≡ 0 → ⊥) → trialCall t results trace ≡ refused (first (tableTests t))
+  pub trial-stopped : (first (tableTests t) ≡ 0 → ⊥) → trialCall t limit results trace ≡ refused (first (tableTests t))
   unfolding trialCall
   trial-stopped d =
-      let q : trialRefusal t results trace ≡ first (tableTests t) = unfold trialRefusal in (sym (table-stopped t _ d)) in
+      let q : trialRefusal t limit results trace ≡ first (tableTests t) = unfold trialRefusal in (sym (table-stopped t _ d)) in
       rw (q, ne-eqb (first (tableTests t)) 0 d)
 
   module _ (s : Sound t) where
-    pub trial-unfit : resultsFit results ≡ false → trialCall t results trace ≡ refused badResult
+    pub trial-unfit : resultsFit results ≡ false → trialCall t limit results trace ≡ refused badResult
     unfolding trialCall trialRefusal first
     trial-unfit f = rw (sound-test t s, f)
 
-    pub trial-short : resultsFit results ≡ true → length trace < length results → trialCall t results trace ≡ refused tooShort
+    pub trial-short : resultsFit results ≡ true → length trace < limit → trialCall t limit results trace ≡ refused tooShort
     unfolding trialCall trialRefusal first
-    trial-short f l = rw (sound-test t s, f, lt-ltb (length trace) (length results) l)
+    trial-short f l = rw (sound-test t s, f, lt-ltb (length trace) limit l)
 
-    pub trial-followed : resultsFit results ≡ true → length results ≤ length trace → trialCall t results trace ≡ tryFrom t 0 0 trace results
+    pub trial-followed : resultsFit results ≡ true → limit ≤ length trace → trialCall t limit results trace ≡ tryFrom t 0 0 limit trace results
     unfolding trialCall trialRefusal first
-    trial-followed f l = rw (sound-test t s, f, le-ltb (length trace) (length results) l)
+    trial-followed f l = rw (sound-test t s, f, le-ltb (length trace) limit l)
 
--- an outcome by its parts
-pub outcome-parts : {o : TrialOutcome} {r : Tried} {l : List ℕ} → o ≡ record { answer = r; trace = l } → (r ≡ o .answer) × (l ≡ o .trace)
-outcome-parts q = (sym (ap (λ (o : TrialOutcome). o .answer) q), sym (ap (λ (o : TrialOutcome). o .trace) q))
+  -- the outcome by its parts, and its moves
+  pub outcome-parts : {r : Tried} {l : List ℕ} → trialCall t limit results trace ≡ record { answer = r; trace = l } →
+      (r ≡ trialCall t limit results trace .answer) ×
+      ((l ≡ trialCall t limit results trace .trace) × ((movesOf r ≡ movesOf (trialCall t limit results trace .answer)) × (movesOf r ≤ limit)))
+  outcome-parts q =
+      let a = sym (ap (λ (o : TrialOutcome). o .answer) q) in
+      (a, (sym (ap (λ (o : TrialOutcome). o .trace) q), (ap movesOf a, rw a (trial-most t limit results trace))))

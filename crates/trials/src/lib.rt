@@ -1,10 +1,11 @@
-// Trials: line results are followed from step 0 and the steps entered are written into a lent trace (document 01, "Calls").
+// Trials: a plan is followed from step 0 and the steps entered are written into a lent trace (document 02, W3; document 01, "Calls").
 ghost use mathlib.Core.Path.{_≡_};
 ghost use mathlib.Core.Bool.{true};
 ghost use Prim.Native.Nat.{_≤_};
 ghost use lib.ListN.{length};
 ghost use Rattle.table.specs.Sound.{Sound};
-ghost use Rattle.table.specs.Calls.{TrialOutcome, resultsFit, tryFrom, trialCall};
+ghost use Rattle.table.specs.Answer.{movesOf};
+ghost use Rattle.table.specs.Trial.{TrialOutcome, resultsFit, tryFrom, trialCall};
 ghost use Rattle.words.specs.Words.{tableOf};
 use table::Ending;
 use table::Tried;
@@ -12,6 +13,12 @@ use words::BAD_RESULT;
 use words::TOO_SHORT;
 use words::WORDS;
 use words::wide;
+
+// The kind of a contact, which alone has a line result.
+const CONTACT: u16 = 1;
+
+// The exit of all other kinds, answered.
+const ANSWERED: usize = 0;
 
 // The number of the last exit, line fault.
 const LINE_FAULT: u8 = 3;
@@ -38,34 +45,47 @@ fn results_fit(results: &[u8]) -> bool
     true
 }
 
-// How the results, followed from step 0 of a sound table, end; the steps entered are written into the trace. Each target is a place, so its
-// number fits a byte.
-fn follow(t: &[u16; WORDS], results: &[u8], trace: &mut [u8]) -> Tried
+// How the plan of a sound table, followed from step 0, ends; the steps entered are written into the trace. Each target is a place, so its number fits
+// a byte.
+fn follow(t: &[u16; WORDS], limit: u16, results: &[u8], trace: &mut [u8]) -> Tried
     requires sound { ⌜ Sound (tableOf (now t)) ⌝ }
     requires fit { ⌜ resultsFit (now results) ≡ true ⌝ }
-    requires room { ⌜ length (now results) ≤ length (now trace) ⌝ }
+    requires room { ⌜ limit ≤ length (now trace) ⌝ }
     ensures { λ r. ⌜ _≡_ {A = TrialOutcome} (record { answer = r; trace = now (trace .exit) })
-        (tryFrom (tableOf (now (t .entry))) 0 0 (now (trace .entry)) (now (results .entry))) ⌝ }
+        (tryFrom (tableOf (now (t .entry))) 0 0 limit (now (trace .entry)) (now (results .entry))) ⌝ }
 {
     let mut step: u16 = 0;
-    let mut moves: usize = 0;
-    // Each time round: the results from `moves` on, followed from `step`, end as all of them do from step 0.
-    while moves < results.len() {
-        let next = words::target_at(t, wide(step), exit_index(results[moves]));
+    let mut moves: u16 = 0;
+    let mut used: usize = 0;
+    // Each time round: the trial from `step`, with the results from `used` on and the moves left, ends as the whole trial does.
+    loop {
+        let mut exit = ANSWERED;
+        if words::kind_at(t, wide(step)) == CONTACT {
+            if used == results.len() {
+                return Tried::Ended(Ending::Spent, step, moves);
+            }
+            exit = exit_index(results[used]);
+            used += 1;
+        }
+        let next = words::target_at(t, wide(step), exit);
         if next == 0 {
             return Tried::Ended(Ending::Open, step, moves);
         }
-        trace[moves] = next as u8;
+        if moves == limit {
+            return Tried::Ended(Ending::Stopped, step, moves);
+        }
+        trace[wide(moves)] = next as u8;
         step = next;
         moves += 1;
     }
-    Tried::Ended(Ending::Spent, step, moves)
 }
 
-// The trial of a table: the number of its refusal, or how it ends, the last step and the moves made.
-pub fn trial(t: &[u16; WORDS], results: &[u8], trace: &mut [u8]) -> Tried
-    ensures answer { λ r. ⌜ r ≡ trialCall (tableOf (now (t .entry))) (now (results .entry)) (now (trace .entry)) .answer ⌝ }
-    ensures trace { λ r. ⌜ now (trace .exit) ≡ trialCall (tableOf (now (t .entry))) (now (results .entry)) (now (trace .entry)) .trace ⌝ }
+// The trial of a table within a limit of moves: the number of its refusal, or how it ends, the last step and the moves made.
+pub fn trial(t: &[u16; WORDS], limit: u16, results: &[u8], trace: &mut [u8]) -> Tried
+    ensures answer { λ r. ⌜ r ≡ trialCall (tableOf (now (t .entry))) limit (now (results .entry)) (now (trace .entry)) .answer ⌝ }
+    ensures trace { λ r. ⌜ now (trace .exit) ≡ trialCall (tableOf (now (t .entry))) limit (now (results .entry)) (now (trace .entry)) .trace ⌝ }
+    ensures moves { λ r. ⌜ movesOf r ≡ movesOf (trialCall (tableOf (now (t .entry))) limit (now (results .entry)) (now (trace .entry)) .answer) ⌝ }
+    ensures most { λ r. ⌜ movesOf r ≤ limit ⌝ }
 {
     let refusal = soundness::table_refusal(t);
     if refusal != 0 {
@@ -74,8 +94,9 @@ pub fn trial(t: &[u16; WORDS], results: &[u8], trace: &mut [u8]) -> Tried
     if !results_fit(results) {
         return Tried::Refused(BAD_RESULT);
     }
-    if trace.len() < results.len() {
+    let room = wide(limit);
+    if trace.len() < room {
         return Tried::Refused(TOO_SHORT);
     }
-    follow(t, results, trace)
+    follow(t, limit, results, trace)
 }

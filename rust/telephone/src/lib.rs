@@ -29,7 +29,7 @@ use core::fmt;
 struct Readme;
 
 /// The edition of the interface that this crate is written for.
-pub const EDITION: u16 = 2;
+pub const EDITION: u16 = 3;
 /// Places for steps; the largest capacity.
 pub const PLACES: usize = 128;
 /// Exits of a step.
@@ -286,8 +286,10 @@ impl Step {
 pub enum Ending {
     /// At an empty exit.
     Open,
-    /// With no results left.
+    /// At a contact with no result left.
     Spent,
+    /// At the limit of moves.
+    Stopped,
     /// A number that this crate does not know. The library of this edition gives none.
     Unknown(u16),
 }
@@ -299,8 +301,8 @@ pub struct Trial {
     pub ending: Ending,
     /// The step where it ended.
     pub last: u16,
-    /// The steps entered.
-    pub moves: usize,
+    /// The steps entered, at most the limit.
+    pub moves: u16,
 }
 
 /// A sound table.
@@ -401,13 +403,30 @@ impl Table {
         Ok(Counts { in_use, free })
     }
 
-    /// Follows line results, each 0 to 3, from step 0; writes the steps entered to the start of the trace.
-    pub fn trial(&self, results: &[u8], trace: &mut [u8]) -> Result<Trial, Refusal> {
-        let reply = raw::trial(&self.0, results, trace);
+    /// Goes through the plan from step 0; writes the steps entered to the start of the trace, and leaves its other bytes.
+    ///
+    /// A contact uses up the next line result, 0 to 3, and leads on by that exit; all other steps use up none and lead on by the answered exit. At
+    /// each step, step 0 too, in this order: a contact with no result left ends the trial spent, an empty exit ends it open, and as many moves as the
+    /// limit end it stopped. All results must be 0 to 3, used up or not, and the trace must be as long as the limit, whatever the trial does.
+    ///
+    /// ```
+    /// use telephone::{Ending, Exit, Kind, Table};
+    ///
+    /// let mut table = Table::fresh(4)?;
+    /// table.add(0, Exit::Answered, Kind::Wait(60))?;
+    /// table.link(0, Exit::Answered, 1, Exit::Answered)?; // wait for ever
+    /// let mut trace = [0; 3];
+    /// let trial = table.trial(3, &[], &mut trace)?;
+    /// assert_eq!((trial.ending, trial.last, trial.moves, trace), (Ending::Stopped, 1, 3, [1, 1, 1]));
+    /// # Ok::<(), telephone::Refusal>(())
+    /// ```
+    pub fn trial(&self, limit: u16, results: &[u8], trace: &mut [u8]) -> Result<Trial, Refusal> {
+        let reply = raw::trial(&self.0, limit, results, trace);
         Refusal::check(reply.refusal)?;
         let ending = match reply.ending {
             0 => Ending::Open,
             1 => Ending::Spent,
+            2 => Ending::Stopped,
             number => Ending::Unknown(number),
         };
         Ok(Trial { ending, last: reply.last, moves: reply.moves })

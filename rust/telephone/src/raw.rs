@@ -62,14 +62,14 @@ pub struct ReadReply {
     pub counts: [u16; 2],
 }
 
-/// How a trial ended: 0 open, 1 spent.
+/// How a trial ended: 0 open, 1 spent, 2 stopped.
 #[repr(C)]
 #[derive(Clone, Copy, PartialEq, Eq, Debug, Default)]
 pub struct TrialReply {
     pub refusal: u16,
     pub ending: u16,
     pub last: u16,
-    pub moves: usize,
+    pub moves: u16,
 }
 
 /// The length of an image.
@@ -93,7 +93,7 @@ const _: () = {
     assert!(offset_of!(Table, counts) == 3076);
     assert!(size_of::<Reply>() == 6);
     assert!(size_of::<ReadReply>() == 28 && offset_of!(ReadReply, counts) == 24);
-    assert!(size_of::<TrialReply>() == 16 && offset_of!(TrialReply, moves) == 8);
+    assert!(size_of::<TrialReply>() == 8 && offset_of!(TrialReply, moves) == 6);
     assert!(size_of::<WriteReply>() == 4);
 };
 
@@ -121,6 +121,7 @@ unsafe extern "C" {
     pub safe fn image_length(t: &Table) -> WriteReply;
     fn plan_trial(
         t: &Table,
+        limit: u16,
         results: *const u8,
         results_length: usize,
         trace: *mut u8,
@@ -131,10 +132,12 @@ unsafe extern "C" {
     fn plan_key_line(t: &mut Table, line: *const u8, length: usize) -> Reply;
 }
 
-/// Follows line results from step 0; writes the steps entered to the start of the trace.
-pub fn trial(t: &Table, results: &[u8], trace: &mut [u8]) -> TrialReply {
+/// Goes through the plan from step 0, where each contact uses up a line result, for at most so many moves; writes the steps entered to the start of
+/// the trace, which must be as long as the limit.
+pub fn trial(t: &Table, limit: u16, results: &[u8], trace: &mut [u8]) -> TrialReply {
+    let (given, lent) = (results.len(), trace.len());
     // SAFETY: both slices are valid for their lengths and overlap nothing that is lent, and the call keeps neither.
-    unsafe { plan_trial(t, results.as_ptr(), results.len(), trace.as_mut_ptr(), trace.len()) }
+    unsafe { plan_trial(t, limit, results.as_ptr(), given, trace.as_mut_ptr(), lent) }
 }
 
 /// Writes the image of a table to the start of a buffer.

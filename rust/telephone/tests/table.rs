@@ -4,10 +4,10 @@ use telephone::{check_edition, raw, Cleared, Counts, Ending, Exit, Kind, Link, R
 
 #[test]
 fn edition_fits() {
-    assert_eq!((telephone::EDITION, raw::edition()), (2, 2));
+    assert_eq!((telephone::EDITION, raw::edition()), (3, 3));
     assert_eq!(check_edition(), Ok(()));
-    let wrong = telephone::WrongEdition { library: 3 };
-    assert_eq!(wrong.to_string(), "the library has edition 3, and 2 is needed");
+    let wrong = telephone::WrongEdition { library: 2 };
+    assert_eq!(wrong.to_string(), "the library has edition 2, and 3 is needed");
 }
 
 /// A table in which the fields of step 2 and the numbers of the table all differ, the bits but for a few. These are the bits of step 2's links, which
@@ -75,7 +75,10 @@ fn no_field_is_exchanged() {
         assert_eq!((four, six), (Kind::Message(13), Kind::Wait(14)));
         assert_eq!(table.counts(), Ok(Counts { in_use: 8, free: 3 }));
         assert_eq!(table.key_line(b"H*4A"), Ok((8, 3)));
-        trials(&table);
+        let mut trace = [99; 9];
+        let reply = raw::trial(&given, 7, &[3; 5], &mut trace);
+        assert_eq!(reply, raw::TrialReply { refusal: 0, ending: 2, last: 4, moves: 7 });
+        assert_eq!(trace, [1, 2, 4, 2, 4, 2, 4, 99, 99]);
         let image = images_of(&table, bits);
         assert_eq!(Table::load(&image), Ok(table.clone()));
         // past the top, to the first free number
@@ -92,18 +95,100 @@ fn no_field_is_exchanged() {
     }
 }
 
-/// Trials on such a table: how they end, where, after how many moves, and their trace.
-fn trials(table: &Table) {
-    let mut trace = [99; 5];
-    let trial = table.trial(&[1, 1, 0, 2], &mut trace).unwrap();
-    assert_eq!((trial.ending, trial.last, trial.moves), (Ending::Spent, 8, 4));
-    assert_eq!(trace, [2, 6, 2, 8, 99]);
-    let reply = raw::trial(table.as_raw(), &[1, 2, 3, 3], &mut trace);
-    assert_eq!(reply, raw::TrialReply { refusal: 0, ending: 0, last: 8, moves: 2 });
-    assert_eq!(trace, [2, 8, 2, 8, 99]);
-    let trial = table.trial(&[2, 0, 3, 0, 1], &mut trace).unwrap();
-    assert_eq!((trial.ending, trial.last, trial.moves), (Ending::Open, 10, 3));
-    assert_eq!(trace, [3, 2, 10, 8, 99]);
+/// A ring 1 to 2 to 3 to 4 to 1 of a contact, a message, a wait and a contact, which step 0 enters at 1. From 4 a line fault leads to wait 5, and
+/// from 1 an answer to contact 6; neither leads on. Message and wait have other exits too.
+fn ring() -> Table {
+    let mut table = Table::fresh(7).unwrap();
+    for (holder, exit, kind) in [
+        (0, Exit::Answered, Kind::Contact(1)),
+        (1, Exit::Engaged, Kind::Message(2)),
+        (2, Exit::Answered, Kind::Wait(3)),
+        (3, Exit::Answered, Kind::Contact(4)),
+        (4, Exit::LineFault, Kind::Wait(5)),
+        (1, Exit::Answered, Kind::Contact(6)),
+    ] {
+        table.add(holder, exit, kind).unwrap();
+    }
+    for (second, into) in [(4, Exit::NoReply), (2, Exit::Engaged), (3, Exit::NoReply)] {
+        table.link(0, Exit::Answered, second, into).unwrap();
+    }
+    table
+}
+
+/// A trial has to end so, with this trace; bytes past it have to stay. The trace is as long as the limit, and then longer.
+#[track_caller]
+fn tried(table: &Table, limit: u16, results: &[u8], ending: Ending, entered: &[u8]) {
+    for more in [0, 1, 5] {
+        let mut trace = vec![99; usize::from(limit) + more];
+        let trial = table.trial(limit, results, &mut trace).unwrap();
+        let last = entered.last().map_or(0, |&step| step.into());
+        assert_eq!((trial.ending, trial.last), (ending, last));
+        assert_eq!(usize::from(trial.moves), entered.len());
+        assert!(trace[..entered.len()] == *entered, "the steps entered");
+        assert!(trace[entered.len()..].iter().all(|&byte| byte == 99), "bytes past the moves");
+    }
+}
+
+/// Only contacts use up results, and step 0, a message and a wait take the answered exit. Spent comes before open, and open before stopped.
+#[test]
+fn trials() {
+    let table = ring();
+    let round = [1, 2, 3, 4, 1, 2, 3, 4, 5];
+    tried(&table, 9, &[1, 2, 1, 3], Ending::Open, &round);
+    tried(&table, 20, &[1, 2, 1, 3], Ending::Open, &round);
+    tried(&table, 20, &[1, 2, 1, 3, 0, 2], Ending::Open, &round);
+    for limit in [8, 9, 20] {
+        tried(&table, limit, &[1, 2, 1], Ending::Spent, &round[..8]);
+        tried(&table, limit, &[1, 2, 1, 0], Ending::Open, &round[..8]);
+    }
+    for limit in 0..8 {
+        tried(&table, limit, &[1, 2, 1], Ending::Stopped, &round[..usize::from(limit)]);
+    }
+    tried(&table, 8, &[1, 2, 1, 3], Ending::Stopped, &round[..8]);
+    for limit in [2, 3] {
+        tried(&table, limit, &[0], Ending::Spent, &[1, 6]);
+        tried(&table, limit, &[0, 0], Ending::Open, &[1, 6]);
+    }
+    tried(&table, 1, &[], Ending::Spent, &[1]);
+    tried(&table, 0, &[], Ending::Stopped, &[]);
+    let fresh = Table::fresh(4).unwrap();
+    for limit in [0, 1, 65535] {
+        tried(&fresh, limit, &[], Ending::Open, &[]);
+        tried(&fresh, limit, &[0, 3], Ending::Open, &[]);
+    }
+    let mut chain = Table::fresh(128).unwrap();
+    let upward = [(); 127].map(|_| {
+        let last = chain.counts().unwrap().in_use - 1;
+        chain.add(last, Exit::Answered, Kind::Message(0)).unwrap() as u8
+    });
+    tried(&chain, 127, &[3, 3], Ending::Open, &upward);
+    tried(&chain, 126, &[3, 3], Ending::Stopped, &upward[..126]);
+}
+
+/// 1 before 10 before 11; all other numbers are 0, and no byte is written. Every result is looked at, and the trace is held to the limit alone.
+#[test]
+fn trials_refused() {
+    let table = ring();
+    let unsound = raw::Table { last: 7, ..table.as_raw().clone() };
+    let refused = |table: &raw::Table, limit, results: &[u8], length, refusal| {
+        let mut trace = vec![99; length];
+        let reply = raw::trial(table, limit, results, &mut trace);
+        assert_eq!(reply, raw::TrialReply { refusal, ..Default::default() });
+        assert!(trace.iter().all(|&byte| byte == 99));
+    };
+    for (limit, results, length) in [(3, &[1][..], 3), (3, &[4], 2)] {
+        refused(&unsound, limit, results, length, 1);
+    }
+    for limit in [0, 1, 2, 20] {
+        for length in [0, 1, 20, 65_536] {
+            refused(table.as_raw(), limit, &[0, 0, 4], length, 10);
+            refused(table.as_raw(), limit, &[255, 0, 0], length, 10);
+        }
+    }
+    for (limit, results, length) in [(1, 0, 0), (20, 1, 19), (20, 300, 19), (65535, 2, 65534)] {
+        refused(table.as_raw(), limit, &vec![3; results], length, 11);
+    }
+    refused(table.as_raw(), 65535, &[], 0, 11);
 }
 
 /// The image of such a table, its header and its record of step 2 by their fields.
@@ -139,17 +224,30 @@ fn counts_of_a_clearing() {
     assert_eq!(table.read(2).unwrap().exit(Exit::NoReply), Some(Link { target: 4, bit: 0 }));
 }
 
-/// More moves than 16 bits count, and a buffer as long.
+/// The most moves, by a wait and by a contact, and lengths that 16 bits do not hold.
 #[test]
 fn long_lengths() {
     let mut table = Table::fresh(4).unwrap();
-    table.add(0, Exit::Engaged, Kind::Contact(0)).unwrap();
-    table.link(0, Exit::Engaged, 1, Exit::Engaged).unwrap();
+    table.add(0, Exit::Answered, Kind::Wait(600)).unwrap();
+    table.link(0, Exit::Answered, 1, Exit::Answered).unwrap();
+    tried(&table, 65535, &[], Ending::Stopped, &[1; 65535]);
+    tried(&table, 65535, &[3; 65_536], Ending::Stopped, &[1; 65535]);
+    table.reset(4).unwrap();
+    table.add(0, Exit::Answered, Kind::Contact(0)).unwrap();
+    table.link(0, Exit::Answered, 1, Exit::Engaged).unwrap();
+    for results in [65_535, 65_536, 65_537, 70_000] {
+        tried(&table, 65535, &vec![1; results], Ending::Stopped, &[1; 65535]);
+        tried(&table, 300, &vec![1; results], Ending::Stopped, &[1; 300]);
+    }
+    tried(&table, 65535, &[1; 65_534], Ending::Spent, &[1; 65535]);
+    tried(&table, 65535, &[1; 65_533], Ending::Spent, &[1; 65534]);
     let mut lent = vec![99; 70_001];
-    let trial = table.trial(&[1; 70_000], &mut lent).unwrap();
-    assert_eq!((trial.ending, trial.last, trial.moves), (Ending::Spent, 1, 70_000));
-    assert!(lent[..70_000].iter().all(|&step| step == 1) && lent[70_000] == 99);
-    assert_eq!(table.trial(&[1; 70_000], &mut lent[1..70_000]), Err(Refusal::TooShort));
+    assert_eq!(table.trial(65535, &[1; 70_000], &mut lent[..65_534]), Err(Refusal::TooShort));
+    for length in [65_535, 65_536, 65_537, 70_001] {
+        let trial = table.trial(256, &[1; 300], &mut lent[..length]).unwrap();
+        assert_eq!((trial.ending, trial.last, trial.moves), (Ending::Stopped, 1, 256));
+        assert!(lent[..256].iter().all(|&step| step == 1) && lent[256] == 99);
+    }
     assert_eq!(table.write_image(&mut lent[..65_536]), Ok(50));
     assert_eq!(Table::load(&lent[..50]), Ok(table.clone()));
     assert_eq!(Table::load(&lent[..50 + 65_536]), Err(Refusal::NotAccepted));
@@ -179,8 +277,8 @@ fn refused_calls_change_nothing() {
     assert_eq!(table.clear(65535, Exit::NoReply), Err(Refusal::NotInUse));
     assert_eq!(table.key_line(b"H*5A"), Err(Refusal::NotKeyLine));
     assert_eq!(table.read(2), Err(Refusal::NotInUse));
-    assert_eq!(table.trial(&[9], &mut [0]), Err(Refusal::BadResult));
-    assert_eq!(table.trial(&[0; 5], &mut [0; 4]), Err(Refusal::TooShort));
+    assert_eq!(table.trial(1, &[9], &mut [0]), Err(Refusal::BadResult));
+    assert_eq!(table.trial(5, &[0; 4], &mut [0; 4]), Err(Refusal::TooShort));
     assert_eq!(table.write_image(&mut [0; 49]), Err(Refusal::TooShort));
     assert_eq!(table, before);
 }
@@ -241,16 +339,20 @@ fn squeezes() {
 /// The number after the last, where the table has a place left; and the image of the squeezed table.
 #[test]
 fn squeezed_tables_are_used() {
-    let mut table = Table::from_raw(different([0, 1, 0, 1])).unwrap();
+    let mut given = different([0, 1, 0, 1]);
+    // step 2 as a contact, from which results lead on
+    (given.kinds[2], given.contents[2]) = Kind::Contact(60).numbers();
+    let mut table = Table::from_raw(given).unwrap();
+    tried(&table, 4, &[0, 2], Ending::Spent, &[1, 2, 8]);
+    tried(&table, 4, &[0, 3], Ending::Open, &[1, 2, 10]);
     assert_eq!(table.squeeze(9), Ok(()));
     let mut image = [0; 170];
     assert_eq!(table.write_image(&mut image), Ok(170));
     let numbers = image[10..].chunks(20).map(|record| record[4]);
     assert!(image[4..10] == [9, 0, 7, 0, 8, 0] && numbers.eq(0..8));
     assert_eq!(Table::load(&image), Ok(table.clone()));
-    let mut trace = [99; 3];
-    let trial = table.trial(&[2, 0, 3], &mut trace).unwrap();
-    assert_eq!((trial.ending, trial.last, trace), (Ending::Spent, 7, [3, 2, 7]));
+    tried(&table, 4, &[0, 2], Ending::Spent, &[1, 2, 6]);
+    tried(&table, 4, &[0, 3], Ending::Open, &[1, 2, 7]);
     assert_eq!(table.add(7, Exit::NoReply, Kind::Contact(99)), Ok(8));
     assert_eq!(table.add(7, Exit::Engaged, Kind::Contact(99)), Err(Refusal::Full));
     assert_eq!((table.squeeze(10), table.counts()), (Ok(()), Ok(Counts { in_use: 9, free: 1 })));

@@ -11,7 +11,7 @@ use borrow.Author.Tests.{lt-ltb, le-ltb}
 use Rattle.finite.specs.Below.{all}
 use Rattle.finite.proofs.Loops.{all-none, all-more, all-fails, all-done}
 use Rattle.table.specs.Table.{exits}
-use Rattle.table.specs.Calls.{resultsFit}
+use Rattle.table.specs.Trial.{resultsFit}
 use Rattle.trials.proofs.results_fit.Statement.{statement}
 use Rattle.trials.proofs.results_fit.Tie as tie
 
