@@ -13,6 +13,9 @@ plan_reply earlier_plan_clear(plan_table *t, uint16_t step, uint16_t exit);
 
 typedef plan_reply clearing(plan_table *t, uint16_t step, uint16_t exit);
 
+/* The first edition with today's table and clearing. */
+enum { SAME_SINCE = 2 };
+
 enum { ROUNDS = 9, CLEARINGS = 1000 };
 
 /* A full table whose 127 steps stand in one chain, and the one that is cleared. */
@@ -77,7 +80,8 @@ static double median(clearing *clear)
 int main(void)
 {
     static plan_table other;
-    expect(plan_edition() == PLAN_EDITION && earlier_plan_edition() == PLAN_EDITION, "the two libraries have different editions");
+    expect(plan_edition() == PLAN_EDITION, "the library and its header have different editions");
+    expect(earlier_plan_edition() >= SAME_SINCE, "the earlier library has another table");
     plan_fresh(&full, 128);
     for (uint16_t step = 0; step < 127; step++)
         expect(plan_add(&full, step, 0, PLAN_CONTACT, 0).refusal == PLAN_DONE, "the chain was refused");

@@ -10,7 +10,7 @@ use native.Mathlib.Omega.{arith}
 use native.Mathlib.Numerals.{add-one}
 use lib.ListN.{length, getD, set, take, drop, length-map, length-drop, length-set}
 use lib.Seq.{length-take-le, drop-cons, set-at, append-snoc, take-suc-set, drop-set-lt, getD-drop}
-use lib.Dec.{eqb, ltb}
+use lib.Dec.{ltb}
 use borrow.Author.Tests.{eqb-false, lt-ltb}
 use Rattle.finite.proofs.Bools.{test}
 use Rattle.finite.proofs.Below.{eq-or-ne, le-or-lt, tabulate-ext}
@@ -113,7 +113,7 @@ module _ {t : Table} (s : Sound t) (c : ℕ) (fit : SqueezeFits t c) where
   -- a step in use is a contact under its new number too, and its exit leads on there or does not
   contact-under : (i : ℕ) → inUse t i ≡ true → isContact u (newNumber t i) ≡ isContact t i
   unfolding isContact
-  contact-under i x = ap (λ (kind : ℕ). eqb kind 1) (r .kind i x)
+  contact-under i x = rw (r .kind i x)
 
   module _ (i : ℕ) (results : List ℕ) (x : inUse t i ≡ true) where
     none-under : noResult u (newNumber t i) results ≡ noResult t i results

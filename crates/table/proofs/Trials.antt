@@ -23,7 +23,7 @@ use Rattle.table.specs.declared.Ending.{Ending}
 use Rattle.table.specs.declared.Ending.the-variants.{Open, Spent, Stopped}
 use Rattle.table.specs.Table.{Table, exits, targetOf, holds}
 use Rattle.table.specs.Answer.{triedRefusal, endingNumber, endingOf, lastOf, movesOf}
-use Rattle.table.specs.Trial.{TrialOutcome, ended, isContact, exitOf, resultsAfter, noResult, atStep, tryFrom, resultsFit, trialConditions, trialRefusal, trialCall, stepAfter, usedUp, spentAfter, exitAfter, Moved, TrialDemand, SameTrial, LongerDemand}
+use Rattle.table.specs.Trial.{TrialOutcome, ended, answered, isContact, exitOf, resultsAfter, noResult, atStep, tryFrom, resultsFit, trialConditions, trialRefusal, trialCall, stepAfter, usedUp, spentAfter, exitAfter, Moved, TrialDemand, SameTrial, LongerDemand}
 use Rattle.table.proofs.Calls.{nonzero, first-zero, trial-made, trial-refused}
 
 -- each line result of a trial that is not refused with 10
@@ -184,7 +184,7 @@ module _ {t : Table} {limit : ℕ} {results₀ trace₀ : List ℕ} where
 
     exit-here : exitOf t i results ≡ exitAfter t results₀ trace moves
     unfolding exitOf exitAfter
-    exit-here = rw (u .rest, u .here) (ap (λ (e : ℕ). cond (isContact t (stepAfter trace moves)) e 0)
+    exit-here = rw (u .rest, u .here) (ap (λ (e : ℕ). cond (isContact t (stepAfter trace moves)) e answered)
         (getD-drop (usedUp t trace moves) results₀ 0 0 ∙ ap (λ (k : ℕ). getD results₀ k 0) (add-zero (usedUp t trace moves))))
 
     -- it ends here, as the trace says
