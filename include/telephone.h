@@ -193,9 +193,9 @@ plan_reply plan_counts(const plan_table *t);
 
 /* Goes through the plan from step 0. A contact uses up the next line result, 0 to 3, and leads on by that exit; all other steps use up none and lead
  * on by the answered exit. At each step, step 0 too, in this order: a contact with no result left ends the trial spent, an empty exit ends it open,
- * and as many moves as the limit, 0 to 65535, end it stopped, as they end a ring of waits.
- * The number of each step entered is written to the trace, a byte each, from its start; bytes past the moves are not touched. The trace must be as
- * long as the limit, whatever the trial does, and all results must be 0 to 3, used up or not; there may be more of them than moves.
+ * and where the moves made equal the limit, 0 to 65535, it ends stopped. So a trial round a ring of waits ends too.
+ * The number of each step entered is written to the trace, a byte each, from its start; bytes past the moves are not touched. The trace must have at
+ * least as many bytes as the limit, whatever the trial does, and all results must be 0 to 3, used up or not; there may be more of them than moves.
  * Refusals, in order: 1, 10, 11. */
 plan_trial_reply plan_trial(const plan_table *t, uint16_t limit, const uint8_t *results, size_t results_length, uint8_t *trace, size_t trace_length);
 

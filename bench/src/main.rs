@@ -1,6 +1,6 @@
 //! Prints the numbers: times as median and best of many passes, all measured in this process but those of the program `keys`, then stack and size.
 //! (a) is the proved library through its interface, (b) `counted`, (c) `marked`, (d) `tuned`. Before anything is timed, (b), (c) and (d) are held
-//! to (a) after every edit, and the soundness tests of (b) and (d) on damaged tables.
+//! to (a) after every edit, the soundness tests of (b) and (d) on damaged tables, and the trials of (d).
 
 mod clock;
 mod counted;
@@ -537,7 +537,7 @@ fn main() {
     println!("(a) the proved library");
     println!("(b) Rust with bits and counters, and a linear soundness test on every call");
     println!("(c) Rust with the plain plan, which marks after each clearing; it has no bits, no counters and no soundness test");
-    println!("(d) the job of (b) in safe Rust written for speed");
+    println!("(d) the job of (b), and trials, in safe Rust written for speed");
     println!("All four agree in each answer, and in the table or plan after each of {} edits; (a), (b) and (d) agree on", kinds.len() * EDITS);
     println!("{sound} tables that are sound and {unsound} that are not. Nanoseconds of processor time, median and best of {PASSES} passes;");
     println!("of ratios, the median over the passes and the ratio of the best.");

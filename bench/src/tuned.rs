@@ -1,4 +1,4 @@
-//! (d) The same job as (b) on the same table, in safe Rust written for speed. Ranges are tested over whole arrays with no branch, so that the
+//! (d) The same job as (b) on the same table, and trials, in safe Rust written for speed. Ranges are tested over whole arrays with no branch, so that the
 //! compiler uses vectors; then one search withdraws every link from a copy of the counters. Sets of steps are the bits of a number.
 
 #![forbid(unsafe_code)]

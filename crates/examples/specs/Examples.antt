@@ -298,8 +298,9 @@ twoCandidates =
     []) ∷
     []
 
--- W2: that table, with steps 0, 2 and 3 in use, last number 3 and capacity 4, and exit 0 of step 0 led to step 2 by a weak link, squeezed. Steps 2 and
--- 3 become 1 and 2, their targets follow, their bits and counters go with them, and the last number is 2. A trial enters 1, 2, 1 where it entered 2, 3, 2.
+-- W2: that table has steps 0, 2 and 3 in use, last number 3 and capacity 4. A link to step 2 is copied into exit 0 of step 0, so that a trial leaves step
+-- 0; then it is squeezed. Steps 2 and 3 become 1 and 2, their targets follow, their bits and counters go with them, and the last number is 2. The trial
+-- enters 1, 2, 1 where it entered 2, 3, 2.
 unfoldable pub squeezes : List Entry
 squeezes =
     accepts (call (link 0 1 0 0)) (exit 0 0 is (weakLink ∷ 2 ∷ []) ∷ counts 2 is (2 ∷ 1 ∷ []) ∷ []) ∷
@@ -353,7 +354,7 @@ waits =
     accepts (call (add 0 0 3 1)) (answer is (1 ∷ 0 ∷ []) ∷ []) ∷
     accepts (call (link 0 0 1 0)) (exit 1 0 is (weakLink ∷ 1 ∷ []) ∷ []) ∷
     accepts (call (trial 3 [] (7 ∷ 7 ∷ 7 ∷ []))) (answer is (2 ∷ 1 ∷ 3 ∷ []) ∷ bytes is (1 ∷ 1 ∷ 1 ∷ []) ∷ []) ∷
-    -- a larger limit begins with the same trace; a smaller one, and the trace past its moves
+    -- a larger limit begins with the same trace; with a smaller one the trace past the moves is untouched
     accepts (call (trial 5 [] (7 ∷ 7 ∷ 7 ∷ 7 ∷ 7 ∷ []))) (answer is (2 ∷ 1 ∷ 5 ∷ []) ∷ bytes is (1 ∷ 1 ∷ 1 ∷ 1 ∷ 1 ∷ []) ∷ []) ∷
     accepts (call (trial 2 [] (7 ∷ 7 ∷ 7 ∷ []))) (answer is (2 ∷ 1 ∷ 2 ∷ []) ∷ bytes is (1 ∷ 1 ∷ 7 ∷ []) ∷ []) ∷
     accepts (call (trial 0 [] (7 ∷ []))) (answer is (2 ∷ 0 ∷ 0 ∷ []) ∷ bytes is (7 ∷ []) ∷ []) ∷

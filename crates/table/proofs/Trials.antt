@@ -147,7 +147,7 @@ module _ (trace trace′ : List ℕ) {n : ℕ} (same : (k : ℕ) → k ≤ n →
   moved-same : (k : ℕ) → k < n → Moved t results trace′ k → Moved t results trace k
   moved-same k l m =
       record {
-        left = spent-same k (omega arith) ∙ m .left;
+        unspent = spent-same k (omega arith) ∙ m .unspent;
         filled = rw (same k (omega arith), exit-same k (omega arith)) (m .filled);
         entered = rw (same k (omega arith), same (suc k) l, exit-same k (omega arith)) (m .entered);
       }
@@ -190,9 +190,10 @@ module _ {t : Table} {limit : ℕ} {results₀ trace₀ : List ℕ} where
     -- it ends here, as the trace says
     end-here : (e : Ending) → endingNumber e ≡ cond (spentAfter t results₀ trace moves) 1 (cond (holds t i (exitAfter t results₀ trace moves)) 2 0) →
         (endingNumber e ≡ 2 → left ≡ 0) → TrialDemand t limit results₀ trace₀ (ended e i moves trace)
-    unfolding movesOf lastOf endingOf
+    unfolding triedRefusal movesOf lastOf endingOf
     end-here e q z =
         record {
+          accepted = refl;
           most = let w = u .whole in omega arith;
           moved = u .moved;
           last = u .here;
@@ -219,7 +220,7 @@ module _ {t : Table} {limit : ℕ} {results₀ trace₀ : List ℕ} where
           let at = written-same trace moves j moves (omega arith) ∙ sym (u .here) in
           let e = exit-same written trace (written-same trace moves j) t results₀ moves (omega arith) ∙ sym exit-here in
           record {
-            left = spent-same written trace (written-same trace moves j) t results₀ moves (omega arith) ∙ sym spent-here ∙ h;
+            unspent = spent-same written trace (written-same trace moves j) t results₀ moves (omega arith) ∙ sym spent-here ∙ h;
             filled = rw (at, e) g;
             entered = rw (at, e) (rw add-one at entered-here);
           }
@@ -308,7 +309,7 @@ module _ {t : Table} {limit : ℕ} {results trace : List ℕ} {o p : TrialOutcom
         let m = movesOf (o .answer) in
         let same = steps-same m (omega arith) (omega arith) in
         let on = b .moved m l in
-        let spent = spent-same (o .trace) (p .trace) same t results m (omega arith) ∙ on .left in
+        let spent = spent-same (o .trace) (p .trace) same t results m (omega arith) ∙ on .unspent in
         let filled : holds t (lastOf (o .answer)) (exitAfter t results (o .trace) m) ≡ true =
         rw (a .last, same m (omega arith), exit-same (o .trace) (p .trace) same t results m (omega arith)) (on .filled) in
         let e = a .stopped (a .ending ∙ rw (spent, filled)) in
@@ -327,6 +328,7 @@ trial-only {t} {limit} {results} {trace} {o} {p} a b =
     let bytes : (k : ℕ) → k < length (o .trace) → getD (o .trace) k 0 ≡ getD (p .trace) k 0 =
     λ k _. ⊎-elim (λ (l : m ≤ k). past a k l ∙ sym (past b k (omega arith))) (λ (l : k < m). (unfold stepAfter in same (suc k) l)) (le-or-lt m k) in
     record {
+      refusal = a .accepted ∙ sym (b .accepted);
       moves = moves;
       last = last;
       ending =

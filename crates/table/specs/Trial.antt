@@ -1,15 +1,15 @@
 -- The trial (document 02, W3; document 01, "Calls"), what an accepted one says, and a trial under other numbers of the steps. Assumes nothing.
---   TrialOutcome      the answer, and the lent trace as it is left
---   isContact         whether a step rings a number and so has a line result
+--   TrialOutcome ended   the answer, and the lent trace as it is left; of a trial that ended
+--   answered isContact   the answered exit; whether a step rings a number and so has a line result
 --   exitOf resultsAfter   the exit that a step takes, and the results left after it
 --   noResult atStep   what is asked at each step
 --   tryFrom           the trial from a step on
 --   resultsFit        every line result is below 4
 --   trialConditions trialRefusal trialCall   the call
---   stepAfter usedUp spentAfter exitAfter   what a trace says after so many moves; `TrialDemand` asks it of an accepted trial
---   SameTrial         two outcomes with the same numbers and bytes
---   LongerDemand      a trial with a larger limit
---   underNumbers f o  the outcome o with f of each step, in the answer and in the trace (W2)
+--   stepAfter usedUp spentAfter exitAfter   what a trace says after so many moves
+--   Moved TrialDemand   a move, and an accepted trial, by what its trace says
+--   SameTrial LongerDemand   what is claimed of two trials
+--   triedUnder underNumbers f o   the answer, and the outcome o, with f of each step (W2)
 use mathlib.Core.Path.{_≡_}
 use mathlib.Core.Bool.{Bool, true, false, _&&_, not, cond}
 use mathlib.Core.List.{List, [], _∷_, _++_, map}
@@ -22,7 +22,7 @@ use Rattle.table.specs.declared.Ending.the-variants.{Open, Spent, Stoppe
 use Rattle.table.specs.declared.Tried.{Tried}
 use Rattle.table.specs.declared.Tried.the-variants.{Refused, Ended}
 use Rattle.table.specs.Table.{Table, exits, kindOf, targetOf, holds}
-use Rattle.table.specs.Answer.{badResult, tooShort, first, endingOf, lastOf, movesOf}
+use Rattle.table.specs.Answer.{badResult, tooShort, first, triedRefusal, endingOf, lastOf, movesOf}
 use Rattle.table.specs.Calls.{tableTests}
 
 -- the answer of a trial, and the lent trace as it is left
@@ -66,6 +66,7 @@ tryFrom t i moves (suc left) trace results =
     let j = targetOf t i (exitOf t i results) in
     atStep t i moves trace results (tryFrom t j (moves + 1) left (set trace moves j) (resultsAfter t i results))
 
+-- 10 is "some line result above 3", used up or not
 unfoldable pub resultsFit : List ℕ → Bool
 resultsFit results = all (length results) (λ k. ltb (getD results k 0) exits)
 
@@ -103,12 +104,13 @@ exitAfter t results trace k = cond (isContact t (stepAfter trace k)) (getD resul
 
 -- a move from the step after k moves: no ending holds there, and the step entered is the exit's target
 pub record Moved (t : Table) (results trace : List ℕ) (k : ℕ) : Type 0 where
-  pub left : spentAfter t results trace k ≡ false
+  pub unspent : spentAfter t results trace k ≡ false
   pub filled : holds t (stepAfter trace k) (exitAfter t results trace k) ≡ true
   pub entered : stepAfter trace (suc k) ≡ targetOf t (stepAfter trace k) (exitAfter t results trace k)
 
 -- a trial that is not refused, by its own trace
 pub record TrialDemand (t : Table) (limit : ℕ) (results trace : List ℕ) (o : TrialOutcome) : Type 0 where
+  pub accepted : triedRefusal (o .answer) ≡ 0
   -- "a trial is given a limit of moves .. and reports the moves it made"
   pub most : movesOf (o .answer) ≤ limit
   pub moved : (k : ℕ) → k < movesOf (o .answer) → Moved t results (o .trace) k
@@ -122,14 +124,16 @@ pub record TrialDemand (t : Table) (limit : ℕ) (results trace : List ℕ) (o :
   pub past : drop (movesOf (o .answer)) (o .trace) ≡ drop (movesOf (o .answer)) trace
   pub size : length (o .trace) ≡ length trace
 
--- two outcomes with the same numbers and bytes
+-- two outcomes that no caller can tell apart
 pub record SameTrial (o p : TrialOutcome) : Type 0 where
+  pub refusal : triedRefusal (o .answer) ≡ triedRefusal (p .answer)
   pub moves : movesOf (o .answer) ≡ movesOf (p .answer)
   pub last : lastOf (o .answer) ≡ lastOf (p .answer)
   pub ending : endingOf (o .answer) ≡ endingOf (p .answer)
   pub trace : o .trace ≡ p .trace
 
--- p is a trial with a larger limit than that of o: it begins with the same trace, and says the same where the limit did not stop o
+-- p is the trial with a limit no smaller than that of o: it makes no fewer moves, begins with the same trace, and answers the same where the limit did
+-- not stop o
 pub record LongerDemand (o p : TrialOutcome) : Type 0 where
   pub moves : movesOf (o .answer) ≤ movesOf (p .answer)
   pub begins : take (movesOf (o .answer)) (p .trace) ≡ take (movesOf (o .answer)) (o .trace)

@@ -45,8 +45,8 @@ fn results_fit(results: &[u8]) -> bool
     true
 }
 
-// How the plan of a sound table, followed from step 0, ends; the steps entered are written into the trace. Each target is a place, so its number fits
-// a byte.
+// How a trial of a sound table ends within the limit, the last step and the moves; the steps entered are written into the trace. A contact takes the exit
+// of its line result, every other step the answered one. Each target is a place, so its number fits a byte.
 fn follow(t: &[u16; WORDS], limit: u16, results: &[u8], trace: &mut [u8]) -> Tried
     requires sound { ⌜ Sound (tableOf (now t)) ⌝ }
     requires fit { ⌜ resultsFit (now results) ≡ true ⌝ }

@@ -406,8 +406,9 @@ impl Table {
     /// Goes through the plan from step 0; writes the steps entered to the start of the trace, and leaves its other bytes.
     ///
     /// A contact uses up the next line result, 0 to 3, and leads on by that exit; all other steps use up none and lead on by the answered exit. At
-    /// each step, step 0 too, in this order: a contact with no result left ends the trial spent, an empty exit ends it open, and as many moves as the
-    /// limit end it stopped. All results must be 0 to 3, used up or not, and the trace must be as long as the limit, whatever the trial does.
+    /// each step, step 0 too, in this order: a contact with no result left ends the trial spent, an empty exit ends it open, and where the moves made
+    /// equal the limit it ends stopped. All results must be 0 to 3, used up or not, and the trace must have at least as many bytes as the limit,
+    /// whatever the trial does.
     ///
     /// ```
     /// use telephone::{Ending, Exit, Kind, Table};

@@ -133,7 +133,7 @@ unsafe extern "C" {
 }
 
 /// Goes through the plan from step 0, where each contact uses up a line result, for at most so many moves; writes the steps entered to the start of
-/// the trace, which must be as long as the limit.
+/// the trace, which must have at least as many bytes as the limit.
 pub fn trial(t: &Table, limit: u16, results: &[u8], trace: &mut [u8]) -> TrialReply {
     let (given, lent) = (results.len(), trace.len());
     // SAFETY: both slices are valid for their lengths and overlap nothing that is lent, and the call keeps neither.
