@@ -592,7 +592,7 @@ fn main() {
 #[cfg(test)]
 mod tests {
     use super::*;
-    use reference::plan::plan_of;
+    use reference::generate::trials;
 
     #[test]
     fn programs_agree() {
@@ -624,18 +624,10 @@ mod tests {
     /// Generated trials, with every ending and refusal.
     #[test]
     fn trials_agree() {
-        let mut random = Random(7);
         let (mut endings, mut refusals) = ([0; 3], [0; 12]);
-        for seed in 0..300 {
-            let mut table = Random(seed).sound_table();
-            let plan = plan_of(&table);
-            if seed % 6 == 5 {
-                random.damage(&mut table);
-            }
-            for _ in 0..10 {
-                let Call::Trial { limit, results, trace: room } = random.trial(&plan) else {
-                    unreachable!()
-                };
+        for (table, calls) in trials(0..300) {
+            for call in calls {
+                let Call::Trial { limit, results, trace: room } = call else { unreachable!() };
                 match trial(&lend(&table), limit, &results, room) {
                     Ok([ending, ..]) => endings[usize::from(ending)] += 1,
                     Err(refusal) => refusals[usize::from(refusal)] += 1,

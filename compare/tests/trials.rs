@@ -2,10 +2,9 @@
 //! which each call is made by both. `lengths` has rings of all kinds, with each limit.
 
 use compare::{both, ring};
-use reference::generate::Random;
+use reference::generate::trials;
 use reference::history::{Call, Outcome};
 use reference::laws;
-use reference::plan::plan_of;
 use reference::sound::WAIT;
 
 #[test]
@@ -18,16 +17,9 @@ fn example_of_document_02() {
 /// Trials on sound tables and damaged ones; of each ending and each refusal there are many, and of each ending many at the limit.
 #[test]
 fn trials_agree() {
-    let mut random = Random(41);
     let (mut endings, mut at_limit, mut refusals) = ([0; 3], [0; 3], [0; 12]);
-    for seed in 0..600 {
-        let mut table = Random(seed).sound_table();
-        let plan = plan_of(&table);
-        if seed % 6 == 5 {
-            random.damage(&mut table);
-        }
-        for _ in 0..10 {
-            let call = random.trial(&plan);
+    for (mut table, calls) in trials(0..600) {
+        for call in calls {
             let outcome = both(&mut table, &call);
             let Call::Trial { limit, .. } = call else { unreachable!() };
             refusals[usize::from(outcome.refusal)] += 1;

@@ -2,10 +2,12 @@
 //! Most calls suit the plan at hand; the rest have odd numbers, wrong keys or short buffers.
 //! Serves the tests of "A history is a list" of document 01.
 
+use std::ops::Range;
+
 use crate::calls::Command;
 use crate::history::Call;
 use crate::image::{HEADER, RECORD};
-use crate::plan::{Plan, PlanStep};
+use crate::plan::{plan_of, Plan, PlanStep};
 use crate::sound::{CONTACT, MESSAGE, WAIT};
 use crate::table::{place, Table, EXITS, PLACES};
 
@@ -299,6 +301,21 @@ impl Generator {
             _ => Command::Count,
         }
     }
+}
+
+/// Tables with any strengths, of which every sixth is damaged, each with ten trials that suit it as
+/// it was.
+pub fn trials(seeds: Range<u64>) -> impl Iterator<Item = (Table, Vec<Call>)> {
+    let mut random = Random(seeds.end);
+    seeds.map(move |seed| {
+        let mut table = Random(seed).sound_table();
+        let plan = plan_of(&table);
+        if seed % 6 == 5 {
+            random.damage(&mut table);
+        }
+        let calls = (0..10).map(|_| random.trial(&plan)).collect();
+        (table, calls)
+    })
 }
 
 /// The key line of a command. A number too wide for its digits makes the line malformed.

@@ -2,6 +2,7 @@
 --   try-spent try-open try-stopped try-move   what a trial does at a step
 --   Rule, try-rule   what holds at each of its ends, and before a move of what holds after it, holds of every trial
 --   trial-refusal-given   the refusal that a trial answers
+--   none-left exit-left after-contact after-other   what a step takes, by the number of results used up
 --   trial-demand trial-only   what an accepted trial's trace says, which leaves no other outcome
 --   trial-longer     a trial with a larger limit
 use mathlib.Core.Path.{_≡_, refl, sym, _∙_, ap, ap₂}
@@ -14,7 +15,7 @@ use native.Mathlib.Nat.{add-zero}
 use native.Mathlib.Numerals.{add-one}
 use lib.ListN.{length, getD, set, take, drop, length-set, length-drop}
 use lib.Seq.{ext-getD, getD-set-same, getD-set-other, getD-drop, drop-drop, take-take, take-suc-set, take-set-le, drop-set-lt}
-use lib.Dec.{leb, eqb}
+use lib.Dec.{leb}
 use borrow.Author.Tests.{ltb-true, ltb-false, eq-eqb, ne-eqb, le-leb, lt-leb}
 use Rattle.finite.proofs.Bools.{test, not-false-true}
 use Rattle.finite.proofs.Below.{all-at, eq-or-ne, le-or-lt, count-ext}
@@ -130,6 +131,32 @@ trial-fit t limit results trace z =
     let at = first-zero (trialConditions t limit results trace) z refl in
     (not-false-true _ (at 1), ltb-false (length trace) limit (at 2))
 
+-- what a step takes, by the number of results used up before it
+module _ (t : Table) (results : List ℕ) (i used : ℕ) where
+  pub none-left : noResult t i (drop used results) ≡ (isContact t i && leb (length results) used)
+  unfolding noResult
+  none-left =
+      let n = length (drop used results) in
+      let d : n ≡ length results - used = length-drop used results in
+      ap (λ (b : Bool). isContact t i && b)
+      (⊎-elim
+      (λ (l : length results ≤ used). eq-eqb n 0 (omega arith) ∙ sym (le-leb (length results) used l))
+      (λ (l : used < length results). ne-eqb n 0 (λ (z : n ≡ 0). omega arith) ∙ sym (lt-leb (length results) used l))
+      (le-or-lt (length results) used))
+
+  pub exit-left : exitOf t i (drop used results) ≡ cond (isContact t i) (getD results used 0) answered
+  unfolding exitOf
+  exit-left =
+      ap (λ (e : ℕ). cond (isContact t i) e answered) (getD-drop used results 0 0 ∙ ap (λ (k : ℕ). getD results k 0) (add-zero used))
+
+  pub after-contact : isContact t i ≡ true → resultsAfter t i (drop used results) ≡ drop (used + 1) results
+  unfolding resultsAfter
+  after-contact c = rw c (drop-drop 1 used results)
+
+  pub after-other : isContact t i ≡ false → resultsAfter t i (drop used results) ≡ drop used results
+  unfolding resultsAfter
+  after-other c = rw c
+
 -- two traces that say the same steps up to some move say the same of them in all else
 module _ (trace trace′ : List ℕ) {n : ℕ} (same : (k : ℕ) → k ≤ n → stepAfter trace k ≡ stepAfter trace′ k) (t : Table) (results : List ℕ) where
   used-same : (k : ℕ) → k ≤ n → usedUp t trace k ≡ usedUp t trace′ k
@@ -152,7 +179,7 @@ module _ (trace trace′ : List ℕ) {n : ℕ} (same : (k : ℕ) → k ≤ n →
         entered = rw (same k (omega arith), same (suc k) l, exit-same k (omega arith)) (m .entered);
       }
 
--- so does a trace after a byte past those moves is written
+-- so does a trace in which a byte past those moves is written
 written-same : (trace : List ℕ) (moves j k : ℕ) → k ≤ moves → stepAfter (set trace moves j) k ≡ stepAfter trace k
 unfolding stepAfter
 written-same trace moves j zero l = refl
@@ -168,24 +195,15 @@ record Underway (t : Table) (limit : ℕ) (results₀ trace₀ : List ℕ) (i mo
   past : (n : ℕ) → moves ≤ n → drop n trace ≡ drop n trace₀
   size : length trace ≡ length trace₀
 
-none-left : (results : List ℕ) (used : ℕ) → eqb (length (drop used results)) 0 ≡ leb (length results) used
-none-left results used =
-    let d = length-drop used results in
-    ⊎-elim
-    (λ (l : length results ≤ used). eq-eqb (length (drop used results)) 0 (omega arith) ∙ sym (le-leb (length results) used l))
-    (λ (l : used < length results). ne-eqb _ 0 (λ (z : length (drop used results) ≡ 0). omega arith) ∙ sym (lt-leb (length results) used l))
-    (le-or-lt (length results) used)
-
 module _ {t : Table} {limit : ℕ} {results₀ trace₀ : List ℕ} where
   module _ {i moves left : ℕ} {trace results : List ℕ} (u : Underway t limit results₀ trace₀ i moves left trace results) where
     spent-here : noResult t i results ≡ spentAfter t results₀ trace moves
-    unfolding noResult spentAfter
-    spent-here = rw (u .rest, u .here) (ap (λ (b : Bool). isContact t (stepAfter trace moves) && b) (none-left results₀ (usedUp t trace moves)))
+    unfolding spentAfter
+    spent-here = rw (u .rest, u .here) (none-left t results₀ (stepAfter trace moves) (usedUp t trace moves))
 
     exit-here : exitOf t i results ≡ exitAfter t results₀ trace moves
-    unfolding exitOf exitAfter
-    exit-here = rw (u .rest, u .here) (ap (λ (e : ℕ). cond (isContact t (stepAfter trace moves)) e answered)
-        (getD-drop (usedUp t trace moves) results₀ 0 0 ∙ ap (λ (k : ℕ). getD results₀ k 0) (add-zero (usedUp t trace moves))))
+    unfolding exitAfter
+    exit-here = rw (u .rest, u .here) (exit-left t results₀ (stepAfter trace moves) (usedUp t trace moves))
 
     -- it ends here, as the trace says
     end-here : (e : Ending) → endingNumber e ≡ cond (spentAfter t results₀ trace moves) 1 (cond (holds t i (exitAfter t results₀ trace moves)) 2 0) →
@@ -226,17 +244,18 @@ module _ {t : Table} {limit : ℕ} {results₀ trace₀ : List ℕ} where
           }
 
       used-here : resultsAfter t i results ≡ drop (usedUp t written (moves + 1)) results₀
-      unfolding resultsAfter usedUp
+      unfolding usedUp
       used-here =
           let used = used-same written trace (written-same trace moves j) t results₀ moves (omega arith) in
+          let rest = ap (resultsAfter t i) (u .rest) in
           let at : isContact t (stepAfter written moves) ≡ isContact t i = ap (isContact t) (written-same trace moves j moves (omega arith) ∙ sym (u .here)) in
           ⊎-elim
           (λ (c : isContact t i ≡ true).
-          rw (c, count-hit moves (λ k. isContact t (stepAfter written k)) (at ∙ c))
-          (ap (λ (rs : List ℕ). drop 1 rs) (u .rest) ∙ drop-drop 1 (usedUp t trace moves) results₀
-          ∙ ap (λ (n : ℕ). drop (n + 1) results₀) (sym used)))
+          rw (count-hit moves (λ k. isContact t (stepAfter written k)) (at ∙ c))
+          (rest ∙ after-contact t results₀ i (usedUp t trace moves) c ∙ ap (λ (n : ℕ). drop (n + 1) results₀) (sym used)))
           (λ (c : isContact t i ≡ false).
-          rw (c, count-miss moves (λ k. isContact t (stepAfter written k)) (at ∙ c)) (u .rest ∙ ap (λ (n : ℕ). drop n results₀) (sym used)))
+          rw (count-miss moves (λ k. isContact t (stepAfter written k)) (at ∙ c))
+          (rest ∙ after-other t results₀ i (usedUp t trace moves) c ∙ ap (λ (n : ℕ). drop n results₀) (sym used)))
           (test (isContact t i))
 
       goes-on : {n : ℕ} → left ≡ suc n → Underway t limit results₀ trace₀ j (moves + 1) n written (resultsAfter t i results)

@@ -5,11 +5,9 @@ use mathlib.Core.Path.{_≡_, sym, _∙_, ap}
 use mathlib.Core.Bool.{true, false}
 use mathlib.Core.List.{List}
 use Prim.Native.Nat.{ℕ, suc, _+_, _-_, _≤_, _<_}
-use native.Mathlib.Nat.{add-zero}
 use native.Mathlib.Omega.{arith}
-use lib.ListN.{length, getD, set, drop, length-set, length-drop}
-use lib.Seq.{drop-drop, getD-drop}
-use borrow.Author.Tests.{eq-eqb, ne-eqb, lt-ltb, le-ltb}
+use lib.ListN.{length, getD, set, drop, length-set}
+use borrow.Author.Tests.{eq-eqb, ne-eqb, le-leb, lt-leb, lt-ltb, le-ltb}
 use Rattle.table.specs.declared.Ending.the-variants.{Open, Spent, Stopped}
 use Rattle.table.specs.declared.Tried.{Tried}
 use Rattle.table.specs.declared.Tried.the-variants.{Refused}
@@ -20,7 +18,7 @@ use Rattle.table.specs.Calls.{tableTests}
 use Rattle.table.specs.Trial.{TrialOutcome, ended, isContact, exitOf, resultsAfter, noResult, tryFrom, resultsFit, trialRefusal, trialCall}
 use Rattle.table.proofs.Links.{target-holds, target-empty}
 use Rattle.table.proofs.Sound.{sound-test}
-use Rattle.table.proofs.Trials.{results-at, try-spent, try-open, try-stopped, try-move, trial-most}
+use Rattle.table.proofs.Trials.{results-at, try-spent, try-open, try-stopped, try-move, none-left, exit-left, after-contact, after-other, trial-most}
 use Rattle.words.proofs.Refusals.{table-stopped}
 
 -- at a step with so many results used up: no ending for want of a result, the exit taken, and the results left then
@@ -37,19 +35,16 @@ module _ (t : Table) (results : List ℕ) (step used : ℕ) where
     unfolding isContact
     contact = eq-eqb (kindOf t step) 1 k
 
-    pub none-left : used ≡ length results → noResult t step (drop used results) ≡ true
-    unfolding noResult
-    none-left q = let n = length-drop used results in rw (contact, eq-eqb (length (drop used results)) 0 (omega arith))
+    pub contact-spent : used ≡ length results → noResult t step (drop used results) ≡ true
+    contact-spent q = none-left t results step used ∙ rw (contact, le-leb (length results) used (omega arith))
 
     pub contact-chosen : resultsFit results ≡ true → used < length results → Chosen t results step used (getD results used 0) (used + 1)
-    unfolding noResult exitOf resultsAfter
     contact-chosen f l =
-        let n = length-drop used results in
         record {
-          some = rw (contact, ne-eqb (length (drop used results)) 0 (λ (z : length (drop used results) ≡ 0). omega arith));
-          exit-of = rw contact (getD-drop used results 0 0 ∙ ap (λ (k : ℕ). getD results k 0) (add-zero used));
+          some = none-left t results step used ∙ rw (contact, lt-leb (length results) used l);
+          exit-of = exit-left t results step used ∙ rw contact;
           below = results-at results f used l;
-          rest = rw contact (drop-drop 1 used results);
+          rest = after-contact t results step used contact;
           within = omega arith;
         }
 
@@ -59,13 +54,12 @@ module _ (t : Table) (results : List ℕ) (step used : ℕ) where
     other = ne-eqb (kindOf t step) 1 k
 
     pub other-chosen : used ≤ length results → Chosen t results step used 0 used
-    unfolding noResult exitOf resultsAfter
     other-chosen l =
         record {
-          some = rw other;
-          exit-of = rw other;
+          some = none-left t results step used ∙ rw other;
+          exit-of = exit-left t results step used ∙ rw other;
           below = omega arith;
-          rest = rw other;
+          rest = after-other t results step used other;
           within = l;
         }
 
@@ -79,7 +73,7 @@ pub record Followed (t : Table) (limit : ℕ) (results trace₀ trace : List ℕ
 
 module _ {t : Table} {limit : ℕ} {results trace₀ trace : List ℕ} {step moves used : ℕ} (f : Followed t limit results trace₀ trace step moves used) where
   pub followed-spent : kindOf t step ≡ 1 → used ≡ length results → ended Spent step moves trace ≡ tryFrom t 0 0 limit trace₀ results
-  followed-spent k q = sym (try-spent t step moves trace (drop used results) (limit - moves) (none-left t results step used k q)) ∙ f .rest
+  followed-spent k q = sym (try-spent t step moves trace (drop used results) (limit - moves) (contact-spent t results step used k q)) ∙ f .rest
 
   -- the exit chosen holds n
   module _ {exit after : ℕ} (c : Chosen t results step used exit after) (n : ℕ) (q : n ≡ targetOf t step exit) where

@@ -1,5 +1,7 @@
 -- `edits::fresh` meets its contract. Assumes nothing.
-use mathlib.Core.Path.{refl}
+use mathlib.Core.Path.{_≡_, refl}
+use mathlib.Core.Bool.{true, false}
+use Rattle.table.specs.Sound.{capacityFits}
 use Rattle.table.specs.Answer.{first, unless}
 use Rattle.table.specs.Calls.{freshCall}
 use borrow.Author.Needs.{needs}
@@ -11,13 +13,15 @@ returns : tie.Need-returns
 unfolding freshCall unless first
 returns c =
     let out = c .before .before in
-    rw (said-false (out .before .capacity-fits .ensures) (out .if1 .taken)) (refl, c .fresh-table .ensures)
+    let unfit : capacityFits (out .before .before .args .capacity) ≡ false = said-false (out .before .capacity-fits .ensures) (out .if1 .taken) in
+    rw unfit (refl, c .fresh-table .ensures)
 
 returns-2 : tie.Need-returns-2
 unfolding freshCall unless first
 returns-2 c =
     let in-range = c .before .before in
-    rw (said-true (in-range .before .capacity-fits .ensures) (in-range .if1 .left)) (refl, c .fresh-table2 .ensures)
+    let fit : capacityFits (in-range .before .before .args .capacity) ≡ true = said-true (in-range .before .capacity-fits .ensures) (in-range .if1 .left) in
+    rw fit (refl, c .fresh-table2 .ensures)
 
 pub fresh-spec : {M : Type 1} → statement M
 fresh-spec =
