@@ -23,6 +23,11 @@ pub fn keys_script() -> PathBuf {
     Path::new(env!("CARGO_MANIFEST_DIR")).join("../keys")
 }
 
+/// The script that runs the tool `plan`.
+pub fn plan_script() -> PathBuf {
+    Path::new(env!("CARGO_MANIFEST_DIR")).join("../plan")
+}
+
 /// Runs a command to its end. Its input is a pipe that is given these bytes, but where the command has an input of its own.
 pub fn output(command: &mut Command, input: Option<&[u8]>) -> Output {
     within(LIMIT, command, input).unwrap_or_else(|| panic!("did not end: {command:?}"))

@@ -1,8 +1,9 @@
-//! Input that cannot be read and answers that cannot be written. The program `keys` says so on standard error; the script `keys`, which runs it, also
+//! Input that cannot be read and answers that cannot be written, by the scripts `keys` and `plan`. The program `keys` says so on standard error; the script `keys`, which runs it, also
 //! ends with status 1. Where nothing fails, neither says anything, and the status is 0.
 
-use compare::process::{keys_program, keys_script, output};
-use std::path::Path;
+use compare::process::{keys_program, keys_script, output, plan_script};
+use std::os::unix::fs::PermissionsExt;
+use std::path::{Path, PathBuf};
 use std::process::{Command, Output};
 
 /// The case of document 01 and its answers.
@@ -13,7 +14,7 @@ const ANSWERS: &str = "0 1 0\n0 0 0\n0 1 1\n0 1 127\n6 0 0\n";
 const BAD_INPUT: [&str; 3] = ["<&-", "</", "0>/dev/null"];
 const BAD_OUTPUT: [&str; 3] = [">/dev/full", ">&-", "1</dev/null"];
 
-/// Runs a program or script with redirections of a shell.
+/// Runs a program or script with words and redirections of a shell.
 fn redirected(program: &Path, redirections: &str, input: &[u8]) -> Output {
     let mut command = Command::new("sh");
     command.arg("-c").arg(format!("exec \"$0\" {redirections}")).arg(program);
@@ -26,9 +27,13 @@ fn text(bytes: &[u8]) -> String {
 
 /// Whether standard error has one line, which starts with the name of the program, as it was called or alone.
 fn says_one_line(output: &Output) -> bool {
+    one_line_of("keys", output)
+}
+
+fn one_line_of(program: &str, output: &Output) -> bool {
     let said = text(&output.stderr);
     let name = said.split(':').next().map(Path::new).and_then(Path::file_name);
-    said.ends_with('\n') && said.lines().count() == 1 && name.is_some_and(|name| name == "keys")
+    said.ends_with('\n') && said.lines().count() == 1 && name.is_some_and(|name| name == program)
 }
 
 /// Inputs that end before the first answer is written, soon after, and long after.
@@ -140,4 +145,77 @@ fn the_program_says_what_fails() {
     let given = redirected(&keys_program(), "", CASE);
     assert_eq!((given.status.code(), text(&given.stderr)), (Some(0), String::new()));
     assert_eq!(text(&given.stdout), ANSWERS);
+}
+
+/// The script `plan`, from another folder and by a link to it, with standard input and output closed or odd.
+#[test]
+fn the_script_plan() {
+    let folder = Path::new(env!("CARGO_TARGET_TMPDIR"));
+    let link = folder.join("link_to_plan");
+    let _ = std::fs::remove_file(&link);
+    std::os::unix::fs::symlink(plan_script().canonicalize().unwrap(), &link).unwrap();
+    let image = folder.join("plan.img");
+    let stored = format!("fresh 4 -o '{}'", image.display());
+    let made = redirected(&link, &stored, b"");
+    assert!(made.status.success(), "{}", text(&made.stderr));
+    let image = image.display();
+    for redirection in BAD_OUTPUT {
+        for words in
+            [format!("show '{image}'"), format!("clear '{image}' 0 0"), "--help".to_string()]
+        {
+            let given = redirected(&plan_script(), &format!("{words} {redirection}"), b"");
+            assert!(one_line_of("plan", &given), "{words} {redirection}: {}", text(&given.stderr));
+            assert_eq!(given.status.code(), Some(2), "{words} {redirection}");
+        }
+    }
+    for redirection in BAD_INPUT {
+        let given = redirected(&plan_script(), &format!("key '{image}' {redirection}"), CASE);
+        assert_eq!(
+            (given.status.code(), text(&given.stdout)),
+            (Some(2), String::new()),
+            "{redirection}"
+        );
+        assert!(one_line_of("plan", &given), "{redirection}: {}", text(&given.stderr));
+        let given = redirected(&plan_script(), &format!("show '{image}' {redirection}"), b"");
+        assert_eq!(given.status.code(), Some(0), "{redirection}");
+    }
+}
+
+/// A copy of the scripts with a toolchain that says what `rt` is told to say and ends with that status.
+fn with_toolchain(name: &str, rt: &str) -> PathBuf {
+    let root = plan_script().canonicalize().unwrap().parent().unwrap().to_path_buf();
+    let folder = Path::new(env!("CARGO_TARGET_TMPDIR")).join(name);
+    let _ = std::fs::remove_dir_all(&folder);
+    for made in ["crates", "scripts", "docs", "bin"] {
+        std::fs::create_dir_all(folder.join(made)).unwrap();
+    }
+    for file in ["visit", "plan", "keys", "scripts/proved.sh", "crates.txt", "docs/visit.txt"] {
+        std::fs::copy(root.join(file), folder.join(file)).unwrap();
+    }
+    let program = folder.join("bin/rt");
+    std::fs::write(&program, format!("#!/bin/sh\n{rt}\n")).unwrap();
+    std::fs::set_permissions(&program, std::fs::Permissions::from_mode(0o755)).unwrap();
+    folder
+}
+
+/// While they prove, the scripts say which crate is proved; where a proof fails, they say so, run nothing and end with another status than 0.
+#[test]
+fn the_scripts_where_a_proof_fails() {
+    let rt = "echo 'rt: finite proved (1 s)'; echo 'rt: table proved (4 s)'; echo 'error: a fact fails' >&2; exit 1";
+    let folder = with_toolchain("failing_proof", rt);
+    let path = format!("{}:{}", folder.join("bin").display(), std::env::var("PATH").unwrap());
+    for script in ["visit", "plan", "keys"] {
+        let mut command = Command::new(folder.join(script));
+        let given = output(command.env("PATH", &path), Some(b""));
+        assert_eq!(
+            (given.status.code(), text(&given.stdout)),
+            (Some(2), String::new()),
+            "{script}"
+        );
+        let said = text(&given.stderr);
+        let lines: Vec<&str> = said.lines().collect();
+        assert!(lines[0].starts_with("proving ") && lines[0].contains(" crates"), "{said}");
+        assert_eq!(lines[1..3], ["   1  finite proved (1 s)", "   2  table proved (4 s)"]);
+        assert!(said.contains("error: a fact fails") && said.contains("not proved: rt "), "{said}");
+    }
 }

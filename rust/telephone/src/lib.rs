@@ -201,6 +201,19 @@ impl Kind {
     }
 }
 
+impl fmt::Display for Kind {
+    fn fmt(&self, f: &mut fmt::Formatter<'_>) -> fmt::Result {
+        match self {
+            Kind::Alarm => f.write_str("alarm"),
+            Kind::Contact(0) => f.write_str("contact 0, the primary"),
+            Kind::Contact(entry) => write!(f, "contact {entry}"),
+            Kind::Message(message) => write!(f, "message {message}"),
+            Kind::Wait(seconds) => write!(f, "wait of {seconds} s"),
+            Kind::Other(kind, content) => write!(f, "kind {kind} with content {content}"),
+        }
+    }
+}
+
 /// An exit of a step. Line results have the same numbers.
 #[derive(Clone, Copy, PartialEq, Eq, PartialOrd, Ord, Hash, Debug)]
 #[repr(u8)]
@@ -222,6 +235,17 @@ impl Exit {
     /// The number in document 01.
     pub const fn number(self) -> u16 {
         self as u16
+    }
+}
+
+impl fmt::Display for Exit {
+    fn fmt(&self, f: &mut fmt::Formatter<'_>) -> fmt::Result {
+        f.pad(match self {
+            Exit::Answered => "answered",
+            Exit::Engaged => "engaged",
+            Exit::NoReply => "no reply",
+            Exit::LineFault => "line fault",
+        })
     }
 }
 
@@ -258,6 +282,13 @@ pub struct Link {
     pub target: u16,
     /// Its bit.
     pub bit: u16,
+}
+
+impl Link {
+    /// Whether it is strong, given the step that it leads to.
+    pub const fn is_strong(self, target: &Step) -> bool {
+        self.bit == target.own
+    }
 }
 
 /// All fields of a step.

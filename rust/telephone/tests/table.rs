@@ -430,3 +430,25 @@ fn key_line_in_a_small_thread() {
     let thread = std::thread::Builder::new().stack_size(64 * 1024).spawn(visit);
     assert_eq!(thread.unwrap().join().unwrap(), Ok((127, 0)));
 }
+
+/// The words of kinds and exits, and the strength of a link: its bit is the own bit of the step that it leads to.
+#[test]
+fn words_and_strengths() {
+    let kinds = [Kind::Alarm, Kind::Contact(0), Kind::Contact(7), Kind::Message(3), Kind::Wait(60)];
+    let words = ["alarm", "contact 0, the primary", "contact 7", "message 3", "wait of 60 s"];
+    assert_eq!(kinds.map(|kind| kind.to_string()), words);
+    assert_eq!(Kind::of_numbers(9, 8).to_string(), "kind 9 with content 8");
+    let exits = Exit::ALL.map(|exit| format!("{exit:<9}|"));
+    assert_eq!(exits, ["answered |", "engaged  |", "no reply |", "line fault|"]);
+    let mut table = Table::fresh(4).unwrap();
+    table.add(0, Exit::Answered, Kind::Contact(0)).unwrap();
+    table.link(0, Exit::Answered, 0, Exit::Engaged).unwrap();
+    let strengths = |table: &Table| {
+        let (alarm, target) = (table.read(0).unwrap(), table.read(1).unwrap());
+        Exit::ALL.map(|exit| alarm.exit(exit).map(|link| link.is_strong(&target)))
+    };
+    assert_eq!(strengths(&table), [Some(true), Some(false), None, None]);
+    table.clear(0, Exit::Answered).unwrap();
+    assert_eq!(table.read(1).unwrap().own, 1);
+    assert_eq!(strengths(&table), [None, Some(true), None, None]);
+}

@@ -1,0 +1,243 @@
+//! What the tool `plan` reads off tables, held against the second program: which steps a clearing makes doubtful, keeps and frees; the strong chains;
+//! what a key line did; and the rule that a refused image breaks.
+
+use compare::lend;
+use plan::change::{change, Change};
+use plan::check::first_fault;
+use plan::view::View;
+use reference::calls::{add, clear, fresh, Command};
+use reference::generate::{Generator, Random};
+use reference::image::{load, write, HEADER, RECORD};
+use reference::keys::{decode, key_line};
+use reference::plan::plan_of;
+use reference::table::{mark, members, place, Set, Table};
+use std::collections::BTreeSet;
+
+fn view(table: &Table) -> View {
+    View::of(&telephone::Table::from_raw(lend(table)).unwrap())
+}
+
+fn set(steps: &[u16]) -> Set {
+    steps.iter().fold(0, |set, &step| set | 1 << step)
+}
+
+/// Every clearing of made-up tables, with strengths that no history gives.
+#[test]
+fn clearings() {
+    let (mut stayed, mut freed, mut neither) = (0, 0, 0);
+    for seed in 9000..9060 {
+        let table = Random(seed).sound_table();
+        let before = view(&table);
+        for held in before.links() {
+            let (step, exit) = (held.step, held.exit.number());
+            let mut emptied = table.clone();
+            emptied.targets[place(step.into(), exit.into())] = 0;
+            let doubtful = emptied.in_use() & !mark(1, &emptied.strong_links());
+            let mut after = table.clone();
+            assert_eq!(clear(&mut after, step, exit).refusal, 0);
+            let Change::Cleared(clearing) = change(&before, &view(&after)) else {
+                panic!("no clearing was seen: {step}, {exit}");
+            };
+            assert_eq!(clearing.link, held);
+            assert_eq!(set(&clearing.doubtful()), doubtful);
+            assert_eq!(set(&clearing.freed), table.in_use() & !after.in_use());
+            assert_eq!(set(&clearing.stayed), doubtful & after.in_use());
+            for &step in &clearing.stayed {
+                assert!(!view(&after).holders(step).is_empty(), "nothing holds step {step}");
+            }
+            stayed += usize::from(!clearing.stayed.is_empty());
+            freed += usize::from(!clearing.freed.is_empty());
+            neither += usize::from(doubtful == 0);
+        }
+    }
+    assert!(stayed > 300 && freed > 300 && neither > 1000, "{stayed} {freed} {neither}");
+}
+
+/// A strong chain for every step in use, of links that are strong, and as short as the marks say.
+#[test]
+fn strong_chains() {
+    for seed in 9100..9300 {
+        let table = Random(seed).sound_table();
+        let (view, strong) = (view(&table), table.strong_links());
+        for step in members(table.in_use()) {
+            let chain = view.strong_chain(0, step as u16).expect("no strong chain");
+            let mut at = 0;
+            for held in &chain {
+                assert!(held.strong && usize::from(held.step) == at, "a broken chain");
+                at = held.link.target.into();
+                assert!(strong[usize::from(held.step)] >> at & 1 == 1, "a weak link in a chain");
+            }
+            assert_eq!(at, step);
+            let rounds = (0..).scan(1, |set: &mut Set, _| {
+                let now = *set;
+                *set |= members(now).fold(0, |next, step| next | strong[step]);
+                Some(now)
+            });
+            let least = rounds.take_while(|set| set >> step & 1 == 0).count();
+            assert_eq!(chain.len(), least, "a chain that is not the shortest");
+        }
+    }
+}
+
+/// What the tool says a key line did is what the second program decodes it to.
+#[test]
+fn key_lines() {
+    let mut seen = [0; 4];
+    for seed in 9400..9410 {
+        let (mut table, _) = fresh(128);
+        let mut generator = Generator::new(seed);
+        for _ in 0..400 {
+            let line = generator.key_line(&plan_of(&table));
+            let before = view(&table);
+            if key_line(&mut table, &line).refusal != 0 {
+                continue;
+            }
+            let did = match (decode(&line).unwrap(), change(&before, &view(&table))) {
+                (Command::Add { holder, exit, .. }, Change::Added(held)) => {
+                    assert_eq!((held.step, held.exit.number()), (holder, exit));
+                    0
+                }
+                (Command::Link { second, second_exit, .. }, Change::Linked(held)) => {
+                    assert_eq!((held.step, held.exit.number()), (second, second_exit));
+                    assert!(!held.strong, "a strong copy");
+                    1
+                }
+                (Command::Clear { step, exit }, Change::Cleared(clearing)) => {
+                    let link = clearing.link;
+                    assert_eq!((link.step, link.exit.number()), (step, exit));
+                    2
+                }
+                (Command::Count, Change::Nothing) => 3,
+                (command, change) => panic!("{command:?} is seen as {change:?}"),
+            };
+            seen[did] += 1;
+        }
+    }
+    assert!(seen.iter().all(|&times| times > 100), "{seen:?}");
+}
+
+/// The image of a table of the second program.
+fn image(table: &Table) -> Vec<u8> {
+    let mut bytes = vec![0; HEADER + RECORD * usize::from(table.size())];
+    assert_eq!(write(table, &mut bytes).refusal, 0);
+    bytes
+}
+
+/// A rule is broken exactly where the second program refuses the image. Gives the rule.
+fn rule(bytes: &[u8]) -> Option<u8> {
+    let fault = first_fault(bytes);
+    let refused = load(bytes).1.refusal != 0;
+    assert_eq!(fault.is_some(), refused, "{fault:?} in {bytes:?}");
+    if let Some(fault) = &fault {
+        assert!(fault.byte <= bytes.len(), "{fault:?}");
+    }
+    fault.map(|fault| fault.rule)
+}
+
+/// Images with one or a few bytes damaged, cut, extended, and with records twice or left out. All ten rules come up.
+#[test]
+fn broken_rules() {
+    let mut rules = BTreeSet::new();
+    for seed in 9500..9540 {
+        let mut random = Random(seed);
+        let table = random.sound_table();
+        let whole = image(&table);
+        assert_eq!(rule(&whole), None);
+        for at in 0..whole.len().min(210) {
+            for value in [0, 1, 2, 3, 4, 16, 31, 32, 128, 255, whole[at] ^ 1, whole[at] ^ 128] {
+                let mut bytes = whole.clone();
+                bytes[at] = value;
+                rules.extend(rule(&bytes));
+            }
+        }
+        for _ in 0..200 {
+            let mut bytes = whole.clone();
+            for _ in 0..1 + random.below(3) {
+                let at = random.below(bytes.len());
+                bytes[at] = random.pick(&[0, 1, 2, 5, 20, 64, 255]);
+            }
+            rules.extend(rule(&bytes));
+        }
+        for length in [0, 1, 9, 10, 11, 29, whole.len() - 1] {
+            rules.extend(rule(&whole[..length]));
+        }
+        rules.extend(rule(&[&whole[..], b"\0"].concat()));
+        for (count, part) in [(1, &whole[HEADER..HEADER + RECORD]), (u16::MAX, &[])] {
+            let mut bytes = [&whole[..], part].concat();
+            let steps = u16::from_le_bytes([bytes[8], bytes[9]]).wrapping_add(count);
+            bytes[8..10].copy_from_slice(&steps.to_le_bytes());
+            if part.is_empty() {
+                bytes.drain(HEADER..HEADER + RECORD);
+            }
+            rules.extend(rule(&bytes));
+        }
+    }
+    assert_eq!(rules, (1..=10).collect());
+}
+
+/// A change of an image: bytes put in, or its length.
+#[derive(Clone, Default)]
+struct Damage {
+    bytes: Vec<(usize, u8)>,
+    length: Option<usize>,
+}
+
+impl Damage {
+    /// The change that a row of docs/IMAGE.md says: `byte N is HH`, once or more, or one of the two about its last byte.
+    fn read(words: &str, length: usize) -> Damage {
+        let words: Vec<&str> =
+            words.split([' ', ',', ':']).filter(|word| !word.is_empty()).collect();
+        let bytes = words.windows(4).filter_map(|four| match four {
+            ["byte", at, "is", value] => {
+                Some((at.parse().ok()?, u8::from_str_radix(value, 16).ok()?))
+            }
+            _ => None,
+        });
+        let length = match words[..] {
+            ["the", "last", "byte", "is", "left", "out"] => Some(length - 1),
+            ["a", "byte", "is", "added"] => Some(length + 1),
+            _ => None,
+        };
+        Damage { bytes: bytes.collect(), length }
+    }
+
+    fn apply(&self, image: &mut Vec<u8>) {
+        self.bytes.iter().for_each(|&(at, value)| image[at] = value);
+        image.resize(self.length.unwrap_or(image.len()), 0);
+    }
+
+    fn touches(&self, other: &Damage) -> bool {
+        let same = |&(at, _): &(usize, u8)| other.bytes.iter().any(|&(to, _)| to == at);
+        self.bytes.iter().any(same) || (self.length.is_some() && other.length.is_some())
+    }
+}
+
+/// The table of docs/IMAGE.md, "Not accepted": each change of the image "Two steps", with the rule that it breaks and the byte told. Of two changes at
+/// once, the lower rule is told.
+#[test]
+fn rules_of_the_page() {
+    let (mut table, _) = fresh(4);
+    assert_eq!(add(&mut table, 0, 0, 1, 0).first, 1);
+    let whole = image(&table);
+    let (_, page) = include_str!("../../docs/IMAGE.md").split_once("### Not accepted").unwrap();
+    let rows = page.lines().filter_map(|line| {
+        let cells: Vec<&str> = line.split('|').map(str::trim).collect();
+        let [_, change, rule, byte, _] = cells[..] else { return None };
+        Some((Damage::read(change, whole.len()), rule.parse().ok()?, byte.parse().ok()?))
+    });
+    let rows: Vec<(Damage, u8, usize)> = rows.collect();
+    assert_eq!(rows.len(), 15);
+    for (damage, number, byte) in &rows {
+        let mut bytes = whole.clone();
+        damage.apply(&mut bytes);
+        assert!(bytes != whole, "a row that changes nothing");
+        let fault = first_fault(&bytes).unwrap();
+        assert_eq!((fault.rule, fault.byte), (*number, *byte), "{}", fault.words);
+        for (other, second, _) in rows.iter().filter(|(other, ..)| !damage.touches(other)) {
+            let mut both = whole.clone();
+            damage.apply(&mut both);
+            other.apply(&mut both);
+            assert_eq!(rule(&both), Some(*number.min(second)));
+        }
+    }
+}

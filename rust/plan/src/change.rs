@@ -1,0 +1,71 @@
+//! What an accepted call did to a table, read off the table before and the table after.
+
+use crate::view::{Held, View};
+
+/// What changed.
+#[derive(Clone, PartialEq, Eq, Debug)]
+pub enum Change {
+    /// A new step and the link to it.
+    Added(Held),
+    /// A link in an exit that was empty.
+    Linked(Held),
+    /// An exit emptied, with what followed.
+    Cleared(Clearing),
+    /// Nothing.
+    Nothing,
+}
+
+/// What a clearing did.
+#[derive(Clone, PartialEq, Eq, Debug)]
+pub struct Clearing {
+    /// The link that the exit held.
+    pub link: Held,
+    /// The doubtful steps that stayed: those whose own bit was flipped.
+    pub stayed: Vec<u16>,
+    /// The steps that went.
+    pub freed: Vec<u16>,
+}
+
+impl Clearing {
+    /// All steps that became doubtful, ascending: those that stayed and those that went.
+    pub fn doubtful(&self) -> Vec<u16> {
+        let mut steps = [&self.stayed[..], &self.freed].concat();
+        steps.sort_unstable();
+        steps
+    }
+}
+
+/// What an add, a link, a clearing or a call that changes nothing did.
+pub fn change(before: &View, after: &View) -> Change {
+    if let Some(held) = filled(before, after) {
+        let new = !before.steps.contains_key(&held.link.target);
+        return if new { Change::Added(held) } else { Change::Linked(held) };
+    }
+    match filled(after, before) {
+        Some(link) => Change::Cleared(Clearing {
+            link,
+            stayed: flipped(before, after),
+            freed: gone(before, after),
+        }),
+        None => Change::Nothing,
+    }
+}
+
+/// The first link in the second view that stands in an exit which is empty in the first, of a step that both have.
+fn filled(without: &View, with: &View) -> Option<Held> {
+    with.links().find(|held| {
+        let step = without.steps.get(&held.step);
+        step.is_some_and(|step| step.exit(held.exit).is_none())
+    })
+}
+
+/// The steps of both views whose own bits differ.
+fn flipped(before: &View, after: &View) -> Vec<u16> {
+    let other = |number: &u16, own: u16| after.steps.get(number).is_some_and(|s| s.own != own);
+    before.steps.iter().filter(|(n, step)| other(n, step.own)).map(|(&n, _)| n).collect()
+}
+
+/// The steps that the second view does not have.
+fn gone(before: &View, after: &View) -> Vec<u16> {
+    before.steps.keys().copied().filter(|number| !after.steps.contains_key(number)).collect()
+}

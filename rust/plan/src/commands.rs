@@ -1,0 +1,315 @@
+//! The commands. Each reads what it is given, asks the library, and only then writes.
+
+use crate::files::{
+    broken_rule, give, give_image, image_bytes, input, input_failed, load, print, say, shown,
+};
+use crate::{number, Failure, Request};
+use plan::change::{change, Change};
+use plan::diff::{diff, Verdict};
+use plan::draw::{as_dot, as_svg};
+use plan::pages;
+use plan::view::View;
+use plan::words::{count, refused};
+use std::ffi::OsStr;
+use std::io::{BufRead, BufReader, IsTerminal};
+use std::path::Path;
+use telephone::{raw, Refusal, Table};
+
+/// A command of the program.
+pub struct Command {
+    pub name: &'static str,
+    /// The words that it takes; those in brackets may be left out.
+    words: &'static [&'static str],
+    /// The options that it has, each with its value.
+    pub options: &'static [&'static str],
+    /// What it does, in a few words and at length.
+    pub gist: &'static str,
+    pub help: &'static str,
+    pub run: fn(&Request) -> Result<u8, Failure>,
+}
+
+impl Command {
+    /// The command line.
+    pub fn usage(&self) -> String {
+        let words = self.words.iter().map(|word| format!(" {word}"));
+        let options = self.options.iter().map(|option| format!(" [{option}]"));
+        [self.name.to_string()].into_iter().chain(words).chain(options).collect()
+    }
+
+    /// Whether it takes so many words.
+    pub fn takes(&self, words: usize) -> bool {
+        let least = self.words.iter().filter(|word| !word.starts_with('[')).count();
+        (least..=self.words.len()).contains(&words)
+    }
+}
+
+const STORE: &str = "-o FILE";
+
+pub const COMMANDS: [Command; 10] = [
+    Command {
+        name: "fresh",
+        words: &["CAPACITY"],
+        options: &[STORE],
+        gist: "a new plan with the alarm alone",
+        help: "Makes a table of that capacity, 1 to 128, with step 0 alone in use. The image goes to standard output, or to FILE.\n",
+        run: fresh,
+    },
+    Command {
+        name: "key",
+        words: &["IMAGE"],
+        options: &["--skip-refused", STORE],
+        gist: "key lines from standard input, on a stored plan",
+        help: KEY,
+        run: key,
+    },
+    Command {
+        name: "show",
+        words: &["IMAGE"],
+        options: &[],
+        gist: "every step in words",
+        help: "Every step in use with its four exits, each with its target and strength; the free numbers.\n",
+        run: show,
+    },
+    Command {
+        name: "draw",
+        words: &["IMAGE"],
+        options: &["--dot", STORE],
+        gist: "a picture for a browser",
+        help: "A picture of the plan as SVG, which a browser opens: the alarm on top, strong links solid, weak ones dashed. With --dot the \
+               same for Graphviz.\n",
+        run: draw,
+    },
+    Command {
+        name: "why",
+        words: &["IMAGE", "STEP"],
+        options: &[],
+        gist: "what holds a step in use",
+        help: "A strong chain from step 0 that holds the step, and every other link to it.\n",
+        run: why,
+    },
+    Command {
+        name: "clear",
+        words: &["IMAGE", "STEP", "EXIT"],
+        options: &[STORE],
+        gist: "what clearing an exit does",
+        help: CLEAR,
+        run: clear,
+    },
+    Command {
+        name: "trial",
+        words: &["IMAGE", "[RESULTS]"],
+        options: &["--limit N"],
+        gist: "who rings, in which order",
+        help: TRIAL,
+        run: trial,
+    },
+    Command {
+        name: "squeeze",
+        words: &["IMAGE", "CAPACITY"],
+        options: &[STORE],
+        gist: "the plan in a table of another capacity",
+        help: "Renumbers the steps in use from 0 upward in their order and gives the table that capacity. Which step has which number now is \
+               said on standard error; the image goes to standard output, or to FILE.\n",
+        run: squeeze,
+    },
+    Command {
+        name: "diff",
+        words: &["A", "B"],
+        options: &[],
+        gist: "how two plans differ",
+        help: "Whether two images are one table, one plan with other strengths, or two plans; then step by step how they differ. Status 0 \
+               where they are one table, 1 where not.\n",
+        run: differ,
+    },
+    Command {
+        name: "check",
+        words: &["IMAGE"],
+        options: &[],
+        gist: "is the image accepted, and if not, why",
+        help: "Accepted, or the first rule of docs/IMAGE.md that is broken, with the byte where. Status 0 where it is accepted, 1 where not.\n",
+        run: check,
+    },
+];
+
+const KEY: &str = "\
+Carries out key lines on a stored plan and answers each in words on standard error. The new image goes to standard output, or to FILE, which may be
+IMAGE itself. Where a line is refused, all lines are answered and nothing is stored; with --skip-refused, and where the lines are keyed at a terminal,
+a refused line changes nothing and the others count.
+
+  H*1 step exit kind content A    adds a step at an empty exit      H*100001000A
+  H*2 step exit step exit A       copies an exit into an empty one  H*200000012A
+  H*3 step exit A                 clears an exit                    H*30000A
+  H*4A                            says the counts
+
+Steps and contents have three digits, exits and kinds one. Exits: 0 answered, 1 engaged, 2 no reply, 3 line fault. Kinds: 1 contact (0 to 99, 0 is
+the primary), 2 message (0 to 15), 3 wait (1 to 600 seconds).
+";
+
+const CLEAR: &str = "\
+Says on standard error what clearing the exit does: which steps become doubtful, which of them stay and what holds each then, and which go. The new
+image goes to standard output, or to FILE, which may be IMAGE itself; at a terminal it goes nowhere, so that one can look before clearing.
+Exits: 0 answered, 1 engaged, 2 no reply, 3 line fault.
+";
+
+const TRIAL: &str = "\
+Goes through the plan from the alarm. RESULTS are the line results of the contacts in the order in which they are rung, a digit each: 0 answered,
+1 engaged, 2 no reply, 3 line fault. It ends open at an empty exit, spent at a contact with no result left, and stopped after N moves. N is 0 to 65535;
+where it is not given, it is 128 for each result and 128 more, or 65535 if that is less, which only a plan that goes round without ringing anybody
+comes to.
+";
+
+/// The table of an image, and what stands in it.
+fn viewed(path: &OsStr) -> Result<(Table, View), Failure> {
+    let table = load(path)?;
+    let view = View::of(&table);
+    Ok((table, view))
+}
+
+/// A call on a table with any numbers: the table after it and its two numbers, or its refusal.
+fn call(
+    table: &Table,
+    call: impl FnOnce(&mut raw::Table) -> raw::Reply,
+) -> Result<(Table, (u16, u16)), Refusal> {
+    let mut after = table.clone().into_raw();
+    let reply = call(&mut after);
+    Refusal::check(reply.refusal)?;
+    Ok((Table::from_raw(after)?, (reply.first, reply.second)))
+}
+
+fn fresh(request: &Request) -> Result<u8, Failure> {
+    let capacity = number("the capacity", &request.words[0])?;
+    let table = Table::fresh(capacity).map_err(refused)?;
+    say(&pages::numbers(&View::of(&table)))?;
+    give_image(request, &table)?;
+    Ok(0)
+}
+
+fn show(request: &Request) -> Result<u8, Failure> {
+    let (_, view) = viewed(&request.words[0])?;
+    print(&pages::show(&view))?;
+    Ok(0)
+}
+
+fn draw(request: &Request) -> Result<u8, Failure> {
+    let (_, view) = viewed(&request.words[0])?;
+    let name = Path::new(&request.words[0]).file_name().unwrap_or_default().to_string_lossy();
+    let picture = if request.dot { as_dot(&name, &view) } else { as_svg(&name, &view) };
+    give(request, &picture)?;
+    Ok(0)
+}
+
+fn why(request: &Request) -> Result<u8, Failure> {
+    let (table, view) = viewed(&request.words[0])?;
+    let step = number("the step", &request.words[1])?;
+    table.read(step).map_err(refused)?;
+    print(&pages::why(&view, step))?;
+    Ok(0)
+}
+
+fn clear(request: &Request) -> Result<u8, Failure> {
+    let (table, before) = viewed(&request.words[0])?;
+    let step = number("the step", &request.words[1])?;
+    let exit = number("the exit", &request.words[2])?;
+    let (table, answer) = call(&table, |table| raw::clear(table, step, exit)).map_err(refused)?;
+    let after = View::of(&table);
+    let Change::Cleared(clearing) = change(&before, &after) else {
+        return Err("no exit was cleared".to_string());
+    };
+    let counted = (clearing.doubtful().len(), clearing.freed.len());
+    if counted != (answer.0.into(), answer.1.into()) {
+        return Err(format!("the tables show {counted:?}, and the clearing answered {answer:?}"));
+    }
+    say(&pages::cleared(&before, &after, &clearing))?;
+    give_image(request, &table)?;
+    Ok(0)
+}
+
+fn trial(request: &Request) -> Result<u8, Failure> {
+    let (table, view) = viewed(&request.words[0])?;
+    let results = results(request.words.get(1).map_or(OsStr::new(""), |word| word))?;
+    let steps = u16::try_from(telephone::PLACES).unwrap_or(u16::MAX);
+    let enough =
+        u16::try_from(results.len()).unwrap_or(u16::MAX).saturating_add(1).saturating_mul(steps);
+    let limit = request.limit.unwrap_or(enough);
+    let mut trace = vec![0; limit.into()];
+    let answer = table.trial(limit, &results, &mut trace).map_err(refused)?;
+    trace.truncate(answer.moves.into());
+    print(&pages::trial(&view, &results, &trace, answer))?;
+    Ok(0)
+}
+
+/// Line results, a digit each.
+fn results(word: &OsStr) -> Result<Vec<u8>, Failure> {
+    let digit = |byte: &u8| byte.is_ascii_digit().then(|| byte - b'0');
+    let digits = word.as_encoded_bytes().iter().map(digit).collect::<Option<_>>();
+    digits
+        .ok_or_else(|| format!("results are a digit each, and {} has something else", shown(word)))
+}
+
+fn squeeze(request: &Request) -> Result<u8, Failure> {
+    let (table, before) = viewed(&request.words[0])?;
+    let capacity = number("the capacity", &request.words[1])?;
+    let (table, _) = call(&table, |table| raw::squeeze(table, capacity)).map_err(refused)?;
+    say(&pages::squeezed(&before, &View::of(&table)))?;
+    give_image(request, &table)?;
+    Ok(0)
+}
+
+fn differ(request: &Request) -> Result<u8, Failure> {
+    let (_, a) = viewed(&request.words[0])?;
+    let (_, b) = viewed(&request.words[1])?;
+    let (verdict, lines) = diff(&a, &b);
+    let lines: String = lines.iter().map(|line| format!("{line}\n")).collect();
+    print(&format!("{}\n{lines}", verdict.words()))?;
+    Ok(u8::from(verdict != Verdict::Same))
+}
+
+fn check(request: &Request) -> Result<u8, Failure> {
+    let bytes = image_bytes(Path::new(&request.words[0]))?;
+    match Table::load(&bytes) {
+        Ok(table) => {
+            print(&format!("accepted: {}", pages::numbers(&View::of(&table))))?;
+            Ok(0)
+        }
+        Err(refusal) => {
+            print(&format!("not accepted ({}): {}\n", refusal.number(), broken_rule(&bytes)))?;
+            Ok(1)
+        }
+    }
+}
+
+fn key(request: &Request) -> Result<u8, Failure> {
+    let (mut table, mut view) = viewed(&request.words[0])?;
+    let input = input()?;
+    let skip = request.skip_refused || input.is_terminal();
+    if input.is_terminal() {
+        say("a key line, then Enter; Ctrl-D ends (plan key --help names the lines)\n")?;
+    }
+    let mut input = BufReader::new(input);
+    let mut line = Vec::new();
+    let mut refusals = 0;
+    // each time round: the table and the view are as the lines so far left them
+    while input.read_until(b'\n', &mut line).map_err(input_failed)? > 0 {
+        if line.last() == Some(&b'\n') {
+            line.pop();
+        }
+        let words = match call(&table, |table| raw::key_line(table, &line)) {
+            Ok((after, answer)) => {
+                let before = std::mem::replace(&mut view, View::of(&after));
+                table = after;
+                pages::answered(&before, &view, answer)
+            }
+            Err(refusal) => {
+                refusals += 1;
+                refused(refusal)
+            }
+        };
+        say(&format!("{:<12}  {words}\n", pages::line(&line)))?;
+        line.clear();
+    }
+    if refusals > 0 && !skip {
+        return Err(format!("{} refused: nothing is stored", count(refusals, "line")));
+    }
+    give_image(request, &table)?;
+    Ok(0)
+}

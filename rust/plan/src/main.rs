@@ -1,0 +1,110 @@
+//! The program `plan`: shows, draws, explains, compares and edits images of call plans. Words about a table go to standard output; a command that gives
+//! a new image says what it did on standard error. Status 0: done. 1: the answer is no (`check`, `diff`). 2: bad input, or something could not be read
+//! or written; then one line on standard error says what, and nothing is stored.
+
+mod commands;
+mod files;
+
+use commands::{Command, COMMANDS};
+use std::env::args_os;
+use std::ffi::{OsStr, OsString};
+use std::path::PathBuf;
+use std::process::ExitCode;
+
+/// What goes wrong, in a line.
+pub type Failure = String;
+
+/// The words of a command line after its command, taken apart.
+#[derive(Default)]
+pub struct Request {
+    pub words: Vec<OsString>,
+    /// Where the result is stored; standard output where nothing is said.
+    pub output: Option<PathBuf>,
+    pub limit: Option<u16>,
+    pub dot: bool,
+    pub skip_refused: bool,
+}
+
+fn main() -> ExitCode {
+    let words: Vec<OsString> = args_os().skip(1).collect();
+    match run(&words) {
+        Ok(status) => status.into(),
+        Err(failure) => {
+            // where nobody hears it, the status says it
+            let _ = files::say(&format!("plan: {failure}\n"));
+            2.into()
+        }
+    }
+}
+
+fn run(words: &[OsString]) -> Result<u8, Failure> {
+    telephone::check_edition().map_err(|wrong| wrong.to_string())?;
+    let Some((name, rest)) = words.split_first() else {
+        return Err("no command is given; plan --help names them".to_string());
+    };
+    if is_help(name) {
+        files::print(&overview())?;
+        return Ok(0);
+    }
+    let Some(command) = COMMANDS.iter().find(|command| name == command.name) else {
+        return Err(format!("no command {}; plan --help names them", files::shown(name)));
+    };
+    if rest.iter().take_while(|word| *word != "--").any(|word| is_help(word)) {
+        files::print(&format!("usage: plan {}\n\n{}", command.usage(), command.help))?;
+        return Ok(0);
+    }
+    let request = request(command, rest)?;
+    if !command.takes(request.words.len()) {
+        return Err(format!("usage: plan {}", command.usage()));
+    }
+    files::can_store(&request)?;
+    (command.run)(&request)
+}
+
+fn is_help(word: &OsStr) -> bool {
+    word == "--help" || word == "-h"
+}
+
+fn overview() -> String {
+    let lines =
+        COMMANDS.iter().map(|command| format!("  plan {:<40} {}\n", command.usage(), command.gist));
+    let lines: String = lines.collect();
+    format!("usage:\n{lines}\nplan COMMAND --help says more. IMAGE is a file that holds the image of a table.\n")
+}
+
+/// Takes options and words apart. An option that the command does not have is an error.
+fn request(command: &Command, words: &[OsString]) -> Result<Request, Failure> {
+    let mut request = Request::default();
+    let mut words = words.iter();
+    while let Some(word) = words.next() {
+        let text = word.to_str().unwrap_or_default();
+        if text == "--" {
+            request.words.extend(words.by_ref().cloned());
+        } else if !text.starts_with('-') || text == "-" {
+            request.words.push(word.clone());
+        } else if !command.options.iter().any(|option| option.split(' ').next() == Some(text)) {
+            return Err(format!("no option {text}; usage: plan {}", command.usage()));
+        } else {
+            match text {
+                "--dot" => request.dot = true,
+                "--skip-refused" => request.skip_refused = true,
+                "--limit" => request.limit = Some(number("the limit", next(text, words.next())?)?),
+                _ => request.output = Some(next(text, words.next())?.into()),
+            }
+        }
+    }
+    Ok(request)
+}
+
+fn next<'a>(option: &str, word: Option<&'a OsString>) -> Result<&'a OsString, Failure> {
+    word.ok_or_else(|| format!("{option} is the last word, and has to be followed by its value"))
+}
+
+/// A number of 16 bits in decimal digits.
+pub fn number(what: &str, word: &OsStr) -> Result<u16, Failure> {
+    let text = word.to_str().filter(|text| text.bytes().all(|byte| byte.is_ascii_digit()));
+    let number = text.and_then(|text| text.parse().ok());
+    number.ok_or_else(|| {
+        format!("{what} is a number from 0 to 65535, and {} is none", files::shown(word))
+    })
+}

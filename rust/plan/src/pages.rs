@@ -1,0 +1,247 @@
+//! What the commands say: a page of lines for a table, for a step, for a trial and for what a call did.
+
+use crate::change::{change, Change, Clearing};
+use crate::view::{Held, View};
+use crate::words::{self, count, named, place, row, steps, strength};
+use telephone::{Ending, Exit, Kind, Trial};
+
+/// Steps of which one line says what holds them; a page says it of all.
+const HELD_IN_A_LINE: usize = 4;
+
+/// Lines put one after the other.
+fn text(lines: &[String]) -> String {
+    lines.iter().map(|line| format!("{line}\n")).collect()
+}
+
+/// Steps in use and free ones.
+fn counts(in_use: usize, free: usize) -> String {
+    format!("{} in use, {free} free", count(in_use, "step"))
+}
+
+fn counts_of(view: &View) -> String {
+    let in_use = view.steps.len();
+    counts(in_use, usize::from(view.capacity).saturating_sub(in_use))
+}
+
+/// The whole table: its numbers, each step in use with its four exits, and the free numbers.
+pub fn show(view: &View) -> String {
+    let mut page = Vec::new();
+    page.push(format!("capacity {}, last number given {}", view.capacity, view.last));
+    page.push(format!("{}", counts_of(view)));
+    for &number in view.steps.keys() {
+        page.push(format!("{}{}", named(view, number), bits_and_links(view, number)));
+        for exit in Exit::ALL {
+            let held = match view.link(number, exit) {
+                Some(held) => {
+                    format!("{} link to {}", strength(&held), named(view, held.link.target))
+                }
+                None => "empty".to_string(),
+            };
+            page.push(format!("    {} {exit:<10}  {held}", exit.number()));
+        }
+    }
+    let free: Vec<u16> = (0..view.capacity).filter(|n| !view.steps.contains_key(n)).collect();
+    if !free.is_empty() {
+        page.push(format!("free: {}", words::numbers(&free)));
+    }
+    text(&page)
+}
+
+/// The links to a step by their strength, and its own bit where it is 1.
+fn bits_and_links(view: &View, number: u16) -> String {
+    let mut words = String::new();
+    if number != 0 {
+        let all = view.links_to(number).count();
+        let strong = view.holders(number).len();
+        words = format!(": {} and {} lead to it", count(strong, "strong link"), weak(all - strong));
+    }
+    if view.steps.get(&number).is_some_and(|step| step.own != 0) {
+        words += if words.is_empty() { ": own bit 1" } else { "; own bit 1" };
+    }
+    words
+}
+
+fn weak(number: usize) -> String {
+    match number {
+        0 => "no weak one".to_string(),
+        1 => "1 weak one".to_string(),
+        _ => format!("{number} weak ones"),
+    }
+}
+
+/// Why a step in use stays: a strong chain from step 0, and every other link to the step.
+pub fn why(view: &View, step: u16) -> String {
+    let mut page = Vec::new();
+    let chain = view.strong_chain(0, step).unwrap_or_default();
+    if step == 0 {
+        page.push(format!("{} is always in use", named(view, 0)));
+    } else {
+        page.push(format!("{} is held by this strong chain:", named(view, step)));
+    }
+    for held in &chain {
+        page.push(format!("    {}", leading(view, held)));
+    }
+    let others: Vec<Held> = view.links_to(step).filter(|held| chain.last() != Some(held)).collect();
+    if step != 0 {
+        page.push(format!("{} to it{}", count(others.len(), "other link"), colon(&others)));
+    }
+    for held in &others {
+        page.push(format!("    {}, {}", leading(view, held), strength(held)));
+    }
+    text(&page)
+}
+
+fn colon<T>(list: &[T]) -> &'static str {
+    if list.is_empty() {
+        ""
+    } else {
+        ":"
+    }
+}
+
+/// A link with both its ends, as `step 1 (contact 4), exit 2 (no reply), leads to step 2 (contact 7)`.
+fn leading(view: &View, held: &Held) -> String {
+    let (step, target) = (named(view, held.step), named(view, held.link.target));
+    format!("{step}, exit {} ({}), leads to {target}", held.exit.number(), held.exit)
+}
+
+/// What a clearing did, line by line: the steps that became doubtful, which of them stayed and what holds each now, and which went.
+pub fn cleared(before: &View, after: &View, clearing: &Clearing) -> String {
+    let mut page = Vec::new();
+    let link = &clearing.link;
+    let target = link.link.target;
+    let was = format!("a {} link to {}", strength(link), named(before, target));
+    page.push(format!("cleared {} ({}): {was}", place(link), link.exit));
+    let doubtful = clearing.doubtful();
+    if doubtful.is_empty() {
+        page.push(format!("no step became doubtful: {}", held_by(after, target, " is held")));
+        return text(&page);
+    }
+    let became = count(doubtful.len(), "step");
+    page.push(format!("{became} became doubtful: {}", words::numbers(&doubtful)));
+    page.push(format!("{} stayed{}", some(clearing.stayed.len()), colon(&clearing.stayed)));
+    for &step in &clearing.stayed {
+        let kind = named(after, step);
+        page.push(format!("    {kind} is held by {}", holders(after, step)));
+    }
+    page.push(format!("{} went{}", some(clearing.freed.len()), colon(&clearing.freed)));
+    for &step in &clearing.freed {
+        page.push(format!("    {}", named(before, step)));
+    }
+    text(&page)
+}
+
+/// A number, or `none`.
+fn some(number: usize) -> String {
+    match number {
+        0 => "none".to_string(),
+        _ => number.to_string(),
+    }
+}
+
+/// The strong links to a step, as exits of steps.
+fn holders(view: &View, step: u16) -> String {
+    row(&view.holders(step).iter().map(place).collect::<Vec<_>>())
+}
+
+/// What holds a step, as `step 2 is held by exit 1 of step 0`.
+fn held_by(view: &View, step: u16, is_held: &str) -> String {
+    format!("step {step}{is_held} by {}", holders(view, step))
+}
+
+/// What an accepted key line did, in one line, given the two numbers of its answer.
+pub fn answered(before: &View, after: &View, (first, second): (u16, u16)) -> String {
+    match change(before, after) {
+        Change::Added(held) => {
+            format!("added {} at {}", named(after, held.link.target), place(&held))
+        }
+        Change::Linked(held) => {
+            let target = named(after, held.link.target);
+            format!("{} now leads to {target}, by a {} link", place(&held), strength(&held))
+        }
+        Change::Cleared(clearing) => cleared_line(after, &clearing),
+        Change::Nothing => counts(first.into(), second.into()),
+    }
+}
+
+/// A clearing in one line.
+fn cleared_line(after: &View, clearing: &Clearing) -> String {
+    let doubtful = count(clearing.doubtful().len(), "step");
+    let freed = match &clearing.freed[..] {
+        [] => "none freed".to_string(),
+        freed => format!("{} freed ({})", freed.len(), steps(freed)),
+    };
+    let start = format!("cleared {}: {doubtful} doubtful, {freed}", place(&clearing.link));
+    if clearing.doubtful().is_empty() {
+        return format!("{start}; {}", held_by(after, clearing.link.link.target, " is still held"));
+    }
+    let (first, more) = clearing.stayed.split_at(clearing.stayed.len().min(HELD_IN_A_LINE));
+    // `is held` is said of the first
+    let is = [" is held"].into_iter().chain(std::iter::repeat(""));
+    let held = first.iter().zip(is).map(|(&step, is)| held_by(after, step, is));
+    let more = (!more.is_empty()).then(|| format!("{} more stay", more.len()));
+    let held: Vec<String> = held.chain(more).collect();
+    [vec![start], held].concat().join("; ")
+}
+
+/// A trial: each step entered, with the line result of a contact; how it ended; and who was rung, in which order.
+pub fn trial(view: &View, results: &[u8], trace: &[u8], trial: Trial) -> String {
+    let mut page = Vec::new();
+    let mut left = results.iter().map(|&result| Exit::try_from(u16::from(result)));
+    let mut rung = Vec::new();
+    let mut taken = Exit::Answered;
+    for (at, &step) in trace.iter().enumerate() {
+        let step = u16::from(step);
+        let last = at + 1 == trace.len() && trial.ending != Ending::Open;
+        let mut words = named(view, step);
+        taken = Exit::Answered;
+        if let Some(Kind::Contact(entry)) = view.steps.get(&step).map(|step| step.kind) {
+            rung.push(entry.to_string());
+            if let (false, Some(Ok(result))) = (last, left.next()) {
+                words += &format!(": {result}");
+                taken = result;
+            }
+        }
+        page.push(format!("{:>5}  {words}", at + 1));
+    }
+    let end = named(view, trial.last);
+    let moves = count(trial.moves.into(), "move");
+    page.push(match trial.ending {
+        Ending::Open => {
+            format!("open after {moves}: exit {} ({taken}) of {end} is empty", taken.number())
+        }
+        Ending::Spent => format!("spent after {moves}: {end} rings, and no line result is left"),
+        Ending::Stopped => format!("stopped after {moves}, the limit, at {end}"),
+        _ => format!("ended after {moves} at {end}"),
+    });
+    match &rung[..] {
+        [] => page.push(format!("nobody is rung")),
+        rung => page.push(format!("contacts rung, in this order: {}", rung.join(", "))),
+    }
+    text(&page)
+}
+
+/// What a squeeze did: the numbers that changed.
+pub fn squeezed(before: &View, after: &View) -> String {
+    let mut page = Vec::new();
+    page.push(format!("capacity {}: {}", after.capacity, counts_of(after)));
+    for (&old, &new) in before.steps.keys().zip(after.steps.keys()) {
+        if old != new {
+            page.push(format!("step {old} is now {}", named(after, new)));
+        }
+    }
+    text(&page)
+}
+
+/// The capacity and the counts.
+pub fn numbers(view: &View) -> String {
+    format!("capacity {}: {}\n", view.capacity, counts_of(view))
+}
+
+/// A key line as it can be shown: its first bytes, odd ones as `?`.
+pub fn line(bytes: &[u8]) -> String {
+    const SHOWN: usize = 24;
+    let shown = |&byte: &u8| if matches!(byte, b' '..=b'~') { byte as char } else { '?' };
+    let start: String = bytes.iter().take(SHOWN).map(shown).collect();
+    start + if bytes.len() > SHOWN { ".." } else { "" }
+}

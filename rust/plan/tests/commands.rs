@@ -1,0 +1,303 @@
+//! The program `plan` on stored images: what it writes is held to stored outputs. STORE_OUTPUTS=1 writes them anew; read the difference then.
+
+use std::fs::{self, File};
+use std::os::unix::fs::PermissionsExt;
+use std::path::{Path, PathBuf};
+use std::process::{Command, Output, Stdio};
+
+/// Each command line, by the name of its output. The images stand in tests/images; those with a file .keys beside them were keyed.
+const CASES: [(&str, &str); 41] = [
+    ("help", "--help"),
+    ("help-key", "key --help"),
+    ("help-trial", "trial ring.img --help"),
+    ("no-command", ""),
+    ("wrong-command", "shew ring.img"),
+    ("wrong-option", "show --dot ring.img"),
+    ("option-without-value", "fresh 4 -o"),
+    ("words-missing", "why ring.img"),
+    ("words-too-many", "show ring.img ring.img"),
+    ("fresh", "fresh 4"),
+    ("fresh-refused", "fresh 129"),
+    ("fresh-no-number", "fresh 65536"),
+    ("show-alarm", "show fresh1.img"),
+    ("show-ring", "show ring.img"),
+    ("show-cleared", "show cleared.img"),
+    ("show-unordered", "show unordered.img"),
+    ("show-missing", "show missing.img"),
+    ("show-folder", "show ."),
+    ("show-damaged", "show target.img"),
+    ("why-alarm", "why ring.img 0"),
+    ("why-primary", "why ring.img 1"),
+    ("why-chain", "why thirty.img 26"),
+    ("why-free", "why ring.img 4"),
+    ("why-65535", "why ring.img 65535"),
+    ("clear-held", "clear ring.img 0 0"),
+    ("clear-all", "clear cleared.img 0 1"),
+    ("clear-weak", "clear ring.img 2 2"),
+    ("clear-step-first", "clear ring.img 4 4"),
+    ("clear-bad-exit", "clear ring.img 0 4"),
+    ("clear-empty-exit", "clear ring.img 0 3"),
+    ("trial", "trial ring.img 212"),
+    ("trial-open-at-once", "trial cleared.img"),
+    ("trial-stopped", "trial ring.img 1111 --limit 3"),
+    ("trial-refused", "trial ring.img 04"),
+    ("trial-no-digit", "trial ring.img 0x"),
+    ("squeeze", "squeeze squeezable.img 4"),
+    ("squeeze-refused", "squeeze ring.img 3"),
+    ("diff-strengths", "diff twin.img twin-strengths.img"),
+    ("diff-bits", "diff twin.img twin-bits.img"),
+    ("diff-plans", "diff ring.img cleared.img"),
+    ("diff-same", "diff ring.img unordered.img"),
+];
+
+/// Images for `check`, and the status for each.
+const CHECKED: [(&str, i32); 6] =
+    [("ring", 0), ("full", 0), ("unordered", 0), ("cut", 1), ("target", 1), ("empty", 1)];
+
+fn folder(name: &str) -> PathBuf {
+    Path::new(env!("CARGO_MANIFEST_DIR")).join("tests").join(name)
+}
+
+fn image(name: &str) -> Vec<u8> {
+    fs::read(folder("images").join(name)).unwrap()
+}
+
+/// The program, in the folder of images, with nothing to read.
+fn plan(words: &[&str]) -> Command {
+    let mut command = Command::new(env!("CARGO_BIN_EXE_plan"));
+    command.args(words).current_dir(folder("images")).stdin(Stdio::null());
+    command
+}
+
+fn output(command: &mut Command) -> Output {
+    command.output().unwrap()
+}
+
+fn text(bytes: &[u8]) -> String {
+    String::from_utf8_lossy(bytes).to_string()
+}
+
+/// Bytes as they are if they are text, else in hex, a record in a line.
+fn readable(bytes: &[u8]) -> String {
+    let hex = |bytes: &[u8]| bytes.iter().map(|byte| format!("{byte:02x} ")).collect::<String>();
+    match String::from_utf8(bytes.to_vec()) {
+        Ok(text) if !text.contains('\0') => text,
+        _ => {
+            let (header, steps) = bytes.split_at(bytes.len().min(10));
+            let lines = [header].into_iter().chain(steps.chunks(20)).map(hex);
+            lines.map(|line| line.trim_end().to_string() + "\n").collect()
+        }
+    }
+}
+
+/// Holds a text to the stored one.
+fn stored(name: &str, given: &str) {
+    let path = folder("outputs").join(name);
+    if std::env::var_os("STORE_OUTPUTS").is_some() {
+        fs::write(&path, given).unwrap();
+    }
+    let kept = fs::read_to_string(&path).unwrap_or_default();
+    assert!(given == kept, "{name} is\n{given}and was\n{kept}");
+}
+
+/// All that a run gave.
+fn transcript(line: &str, given: &Output) -> String {
+    let (out, err) = (readable(&given.stdout), readable(&given.stderr));
+    let status = given.status.code().unwrap_or(-1);
+    format!("plan {line}\nstandard output\n{out}standard error\n{err}status {status}\n")
+}
+
+/// A failure says one line on standard error and nothing on standard output, and has status 2.
+fn is_failure(given: &Output) -> bool {
+    let said = text(&given.stderr);
+    let one = said.starts_with("plan: ") && said.ends_with('\n') && said.lines().count() == 1;
+    one && given.stdout.is_empty() && given.status.code() == Some(2)
+}
+
+#[test]
+fn outputs_as_stored() {
+    for (name, line) in CASES {
+        let given = output(&mut plan(&line.split_whitespace().collect::<Vec<_>>()));
+        stored(&format!("{name}.txt"), &transcript(line, &given));
+        assert!(given.status.code() != Some(2) || is_failure(&given), "{name}");
+    }
+    let outputs = fs::read_dir(folder("outputs")).unwrap().count();
+    let others = CHECKED.len() + KEYED.len() + 2 * DRAWN.len();
+    assert_eq!(outputs, CASES.len() + others, "outputs that no test writes");
+}
+
+#[test]
+fn checks() {
+    for (name, status) in CHECKED {
+        let given = output(&mut plan(&["check", &format!("{name}.img")]));
+        assert_eq!(given.status.code(), Some(status), "{name}");
+        stored(&format!("check-{name}.txt"), &transcript(&format!("check {name}.img"), &given));
+    }
+}
+
+const DRAWN: [&str; 3] = ["fresh1", "ring", "thirty"];
+
+#[test]
+fn pictures() {
+    for name in DRAWN {
+        for (ending, option) in [("svg", None), ("dot", Some("--dot"))] {
+            let given = output(plan(&["draw", &format!("{name}.img")]).args(option));
+            assert_eq!((given.status.code(), text(&given.stderr)), (Some(0), String::new()));
+            stored(&format!("draw-{name}.{ending}"), &text(&given.stdout));
+        }
+    }
+}
+
+/// Key lines on an image: the name of the output, the image, the option, the lines.
+const KEYED: [(&str, &str, &[&str], &[u8]); 5] = [
+    ("key-nothing", "ring.img", &[], b""),
+    ("key-visit", "fresh128.img", &["--skip-refused"], include_bytes!("../../../docs/visit.txt")),
+    ("key-refused", "ring.img", &[], b"H*4A\nH*30003A\n\nH*30000A"),
+    ("key-odd", "ring.img", &["--skip-refused"], b"H*4A\r\n\n\xff\0H*4A\nH*30012A\nH*30011A\n"),
+    ("key-full", "full.img", &[], b"H*200000003A\nH*200010002A\nH*30000A\nH*30003A\n"),
+];
+
+/// The program with these bytes as its input.
+fn fed<'a>(command: &'a mut Command, input: &[u8]) -> &'a mut Command {
+    use std::sync::atomic::{AtomicUsize, Ordering};
+    static FILES: AtomicUsize = AtomicUsize::new(0);
+    let number = FILES.fetch_add(1, Ordering::Relaxed);
+    let path = scratch(&format!("input-{number}"));
+    fs::write(&path, input).unwrap();
+    command.stdin(File::open(path).unwrap())
+}
+
+/// A path for a test's own file.
+fn scratch(name: &str) -> PathBuf {
+    Path::new(env!("CARGO_TARGET_TMPDIR")).join(name)
+}
+
+#[test]
+fn key_lines() {
+    for (name, image, options, lines) in KEYED {
+        let given = output(fed(plan(&["key", image]).args(options), lines));
+        stored(&format!("{name}.txt"), &transcript(&format!("key {image}"), &given));
+        assert!(given.status.success() != given.stdout.is_empty(), "{name}: image and status");
+    }
+}
+
+/// The images that were keyed come out of their lines.
+#[test]
+fn keyed_images() {
+    for name in ["ring", "thirty", "full"] {
+        let lines = image(&format!("{name}.keys"));
+        let given = output(fed(&mut plan(&["key", "fresh128.img"]), &lines));
+        assert!(given.status.success(), "{name}: {}", text(&given.stderr));
+        assert_eq!(given.stdout, image(&format!("{name}.img")), "{name}");
+        assert_eq!(text(&given.stderr).lines().count(), text(&lines).lines().count());
+    }
+}
+
+/// -o stores what standard output would get, also over the image itself; a command that fails leaves the file as it was, and nothing beside it.
+#[test]
+fn stored_files() {
+    let folder = scratch("stored_files");
+    let _ = fs::remove_dir_all(&folder);
+    fs::create_dir(&folder).unwrap();
+    let path = folder.join("plan.img");
+    let file = path.to_str().unwrap();
+    assert!(output(&mut plan(&["clear", "ring.img", "0", "0", "-o", file])).status.success());
+    assert_eq!(fs::read(&path).unwrap(), image("cleared.img"));
+    fs::write(&path, image("ring.img")).unwrap();
+    fs::set_permissions(&path, fs::Permissions::from_mode(0o640)).unwrap();
+    assert!(output(&mut plan(&["clear", file, "0", "0", "-o", file])).status.success());
+    assert_eq!(fs::read(&path).unwrap(), image("cleared.img"));
+    assert_eq!(fs::metadata(&path).unwrap().permissions().mode() & 0o777, 0o640);
+    let refused = output(fed(&mut plan(&["key", file, "-o", file]), b"H*30001A\nH*30001A\n"));
+    assert_eq!((refused.status.code(), refused.stdout), (Some(2), vec![]));
+    assert!(is_failure(&output(&mut plan(&["squeeze", file, "0", "-o", file]))));
+    assert!(is_failure(&output(&mut plan(&["draw", "cut.img", "-o", file]))));
+    assert_eq!(fs::read(&path).unwrap(), image("cleared.img"));
+    let link = folder.join("link.img");
+    std::os::unix::fs::symlink("plan.img", &link).unwrap();
+    let made = output(&mut plan(&["fresh", "128", "-o", link.to_str().unwrap()]));
+    assert!(made.status.success() && link.is_symlink(), "{}", text(&made.stderr));
+    assert_eq!(fs::read(&path).unwrap(), image("fresh128.img"));
+    assert!(output(&mut plan(&["draw", "ring.img", "-o", file])).status.success());
+    assert_eq!(fs::read(&path).unwrap(), output(&mut plan(&["draw", "ring.img"])).stdout);
+    assert_eq!(fs::read_dir(&folder).unwrap().count(), 2, "something was left beside the file");
+    fs::remove_dir_all(&folder).unwrap();
+}
+
+/// What cannot be read or written is said, with a status other than 0.
+#[test]
+fn reading_and_writing_fail() {
+    let full = || File::options().write(true).open("/dev/full").unwrap();
+    for line in
+        ["show ring.img", "draw full.img", "check ring.img", "diff ring.img full.img", "--help"]
+    {
+        let words: Vec<&str> = line.split(' ').collect();
+        assert!(is_failure(&output(plan(&words).stdout(full()))), "{line}");
+    }
+    for line in ["clear ring.img 0 0", "fresh 4", "squeeze ring.img 9", "key ring.img"] {
+        let words: Vec<&str> = line.split(' ').collect();
+        let given = output(plan(&words).stdout(full()));
+        assert_eq!(given.status.code(), Some(2), "{line}");
+        assert!(text(&given.stderr).contains("plan: standard output"), "{line}");
+        let unheard = output(plan(&words).stderr(full()));
+        let said = line != "key ring.img";
+        assert_eq!(
+            (unheard.status.code(), unheard.stdout.is_empty()),
+            (Some(if said { 2 } else { 0 }), said)
+        );
+        assert!(!output(plan(&words).args(["-o", "/dev/full"])).status.success(), "{line}");
+    }
+    assert!(is_failure(&output(plan(&["key", "ring.img"]).stdin(File::open("/").unwrap()))));
+    for path in ["missing/plan.img", "/proc/plan.img", "."] {
+        let given = output(fed(&mut plan(&["key", "ring.img", "-o", path]), b"H*4A\n"));
+        assert!(is_failure(&given), "{path} is told after the work: {}", text(&given.stderr));
+    }
+    assert!(
+        Path::new("/dev/full").metadata().is_ok_and(|there| !there.is_file()),
+        "/dev/full was replaced"
+    );
+}
+
+/// Files of every length near the ends, and without an end, are answered.
+#[test]
+fn long_files() {
+    let path = scratch("long.img");
+    let file = path.to_str().unwrap();
+    let ring = image("ring.img");
+    for length in
+        [0, 9, 10, 29, 30, 89, 91, 2570, 2571, 65_536, 65_546, 1_310_710, 1_310_711, 3_000_000]
+    {
+        let mut bytes = ring.clone();
+        bytes.resize(length, 0);
+        fs::write(&path, &bytes).unwrap();
+        assert!(is_failure(&output(&mut plan(&["show", file]))), "{length}");
+        assert_eq!(output(&mut plan(&["check", file])).status.code(), Some(1), "{length}");
+    }
+    assert!(is_failure(&output(&mut plan(&["show", "/dev/zero"]))));
+    let line = [&vec![b'9'; 1 << 20][..], b"\nH*4A\n"].concat();
+    let given = output(fed(&mut plan(&["key", "ring.img", "--skip-refused"]), &line));
+    assert_eq!((given.status.code(), text(&given.stderr).lines().count()), (Some(0), 2));
+}
+
+/// At a terminal, which the program `script` makes: it gets no image, and refused lines are passed over.
+#[test]
+fn at_a_terminal() {
+    let at_terminal = |line: &str, input: &[u8]| {
+        let mut command = Command::new("script");
+        let line = format!("{} {line}", env!("CARGO_BIN_EXE_plan"));
+        command.args(["-qec", &line, "/dev/null"]).current_dir(folder("images"));
+        let given = output(fed(&mut command, input));
+        assert!(given.status.success(), "{line}: {}", text(&given.stdout));
+        text(&given.stdout).replace('\r', "")
+    };
+    let said = at_terminal("fresh 4", b"");
+    assert!(
+        said.ends_with("3 free\nnot stored: > FILE or -o FILE stores the new image\n"),
+        "{said}"
+    );
+    let path = scratch("at_a_terminal.img");
+    let line = format!("key ring.img -o {}", path.display());
+    let said = at_terminal(&line, b"H*30003A\nH*30000A\n");
+    assert!(said.contains("Ctrl-D ends") && said.contains("refused by 6"), "{said}");
+    assert_eq!(fs::read(&path).unwrap(), image("cleared.img"));
+}
