@@ -40,12 +40,17 @@ keys_program() {
     proved target/bin/keys keys rt check keys
 }
 
-# plan_program: builds the tool `plan` over the library; its path below the root is $plan
+# plan_program: builds the tool `plan` over the library, where it is not newer than its sources; its path below the root is $plan
 plan=rust/plan/target/release/plan
 plan_program() {
     library || return 1
-    [[ -e $root/$plan ]] || echo "building plan" >&2
-    cargo build --offline --quiet --release --manifest-path "$root/rust/plan/Cargo.toml" --target-dir "$root/rust/plan/target" >&2
+    local sources=("$root"/rust/{plan,telephone}/{src,Cargo.toml} "$root/target/staticlib/libtelephone.a")
+    if [[ -e $root/$plan && -z $(find "${sources[@]}" -newer "$root/$plan" -type f -print -quit) ]]; then
+        return 0
+    fi
+    echo "building plan" >&2
+    cargo build --offline --quiet --release --manifest-path "$root/rust/plan/Cargo.toml" --target-dir "$root/rust/plan/target" >&2 || return 1
+    touch "$root/$plan"
 }
 
 # is_open NUMBER: whether the descriptor is open. A closed one would be taken by the next file that is opened.

@@ -2,6 +2,7 @@
 //! does not say why it refused one; this finds what to look at. Ranges of capacities, kinds and contents are asked of the library's calls.
 
 use crate::view::View;
+use crate::words::count;
 use std::collections::BTreeSet;
 use telephone::{Exit, Kind, Link, Step, Table, EXITS, PLACES};
 
@@ -61,17 +62,13 @@ fn framing(image: &[u8]) -> Result<(), Fault> {
     if length < HEADER {
         return fault(1, length, format!("the image ends within its header of {HEADER} bytes"));
     }
-    let count = usize::from(word(image, 8));
-    let end = HEADER + STEP * count;
+    let steps = usize::from(word(image, 8));
+    let (end, said) = (HEADER + STEP * steps, count(steps, "step"));
     if length < end {
-        return fault(
-            1,
-            length,
-            format!("the image ends here, and its {count} steps end at byte {end}"),
-        );
+        return fault(1, length, format!("the image ends here, and with {said} at byte {end}"));
     }
     if length > end {
-        return fault(1, end, format!("the image goes on after its {count} steps"));
+        return fault(1, end, format!("the image goes on here, and ends with {said}"));
     }
     frame(image, 2, 0, (HEADER, HEADER_KIND), "header")?;
     (HEADER..end).step_by(STEP).try_for_each(|at| frame(image, 3, at, (STEP, STEP_KIND), "step"))

@@ -1,7 +1,8 @@
 //! The commands. Each reads what it is given, asks the library, and only then writes.
 
 use crate::files::{
-    broken_rule, give, give_image, image_bytes, input, input_failed, load, print, say, shown,
+    broken_rule, give, give_image, goes_nowhere, image_bytes, input, input_failed, load, print,
+    say, shown,
 };
 use crate::{number, Failure, Request};
 use plan::change::{change, Change};
@@ -11,7 +12,7 @@ use plan::pages;
 use plan::view::View;
 use plan::words::{count, refused};
 use std::ffi::OsStr;
-use std::io::{BufRead, BufReader, IsTerminal};
+use std::io::{self, BufRead, BufReader, IsTerminal, Read};
 use std::path::Path;
 use telephone::{raw, Refusal, Table};
 
@@ -51,7 +52,7 @@ pub const COMMANDS: [Command; 10] = [
         words: &["CAPACITY"],
         options: &[STORE],
         gist: "a new plan with the alarm alone",
-        help: "Makes a table of that capacity, 1 to 128, with step 0 alone in use. The image goes to standard output, or to FILE.\n",
+        help: FRESH,
         run: fresh,
     },
     Command {
@@ -67,7 +68,7 @@ pub const COMMANDS: [Command; 10] = [
         words: &["IMAGE"],
         options: &[],
         gist: "every step in words",
-        help: "Every step in use with its four exits, each with its target and strength; the free numbers.\n",
+        help: SHOW,
         run: show,
     },
     Command {
@@ -75,8 +76,7 @@ pub const COMMANDS: [Command; 10] = [
         words: &["IMAGE"],
         options: &["--dot", STORE],
         gist: "a picture for a browser",
-        help: "A picture of the plan as SVG, which a browser opens: the alarm on top, strong links solid, weak ones dashed. With --dot the \
-               same for Graphviz.\n",
+        help: DRAW,
         run: draw,
     },
     Command {
@@ -84,7 +84,7 @@ pub const COMMANDS: [Command; 10] = [
         words: &["IMAGE", "STEP"],
         options: &[],
         gist: "what holds a step in use",
-        help: "A strong chain from step 0 that holds the step, and every other link to it.\n",
+        help: WHY,
         run: why,
     },
     Command {
@@ -108,8 +108,7 @@ pub const COMMANDS: [Command; 10] = [
         words: &["IMAGE", "CAPACITY"],
         options: &[STORE],
         gist: "the plan in a table of another capacity",
-        help: "Renumbers the steps in use from 0 upward in their order and gives the table that capacity. Which step has which number now is \
-               said on standard error; the image goes to standard output, or to FILE.\n",
+        help: SQUEEZE,
         run: squeeze,
     },
     Command {
@@ -117,8 +116,7 @@ pub const COMMANDS: [Command; 10] = [
         words: &["A", "B"],
         options: &[],
         gist: "how two plans differ",
-        help: "Whether two images are one table, one plan with other strengths, or two plans; then step by step how they differ. Status 0 \
-               where they are one table, 1 where not.\n",
+        help: DIFF,
         run: differ,
     },
     Command {
@@ -126,36 +124,82 @@ pub const COMMANDS: [Command; 10] = [
         words: &["IMAGE"],
         options: &[],
         gist: "is the image accepted, and if not, why",
-        help: "Accepted, or the first rule of docs/IMAGE.md that is broken, with the byte where. Status 0 where it is accepted, 1 where not.\n",
+        help: CHECK,
         run: check,
     },
 ];
 
 const KEY: &str = "\
-Carries out key lines on a stored plan and answers each in words on standard error. The new image goes to standard output, or to FILE, which may be
-IMAGE itself. Where a line is refused, all lines are answered and nothing is stored; with --skip-refused, and where the lines are keyed at a terminal,
-a refused line changes nothing and the others count.
+Carries out key lines on a stored plan and answers each in words on standard
+error. The new image goes to FILE, which may be IMAGE itself, or to standard
+output. Where a line is refused, all lines are answered and nothing is stored;
+with --skip-refused, and where the lines are keyed at a terminal, a refused
+line changes nothing and the others count.
 
-  H*1 step exit kind content A    adds a step at an empty exit      H*100001000A
-  H*2 step exit step exit A       copies an exit into an empty one  H*200000012A
-  H*3 step exit A                 clears an exit                    H*30000A
-  H*4A                            says the counts
+  H*1 step exit kind content A  adds a step at an empty exit      H*100001000A
+  H*2 step exit step exit A     copies an exit into an empty one  H*200000012A
+  H*3 step exit A               clears an exit                    H*30000A
+  H*4A                          says the counts
 
-Steps and contents have three digits, exits and kinds one. Exits: 0 answered, 1 engaged, 2 no reply, 3 line fault. Kinds: 1 contact (0 to 99, 0 is
-the primary), 2 message (0 to 15), 3 wait (1 to 600 seconds).
+To lead an exit to a step, copy an exit that leads there already. Steps and
+contents have three digits, exits and kinds one. Exits: 0 answered, 1 engaged,
+2 no reply, 3 line fault. Kinds: 1 contact (0 to 99, 0 is the primary),
+2 message (0 to 15), 3 wait (1 to 600 seconds).
 ";
 
 const CLEAR: &str = "\
-Says on standard error what clearing the exit does: which steps become doubtful, which of them stay and what holds each then, and which go. The new
-image goes to standard output, or to FILE, which may be IMAGE itself; at a terminal it goes nowhere, so that one can look before clearing.
+Says on standard error what clearing the exit does: which steps become
+doubtful, which of them stay and what holds each then, and which go. The new
+image goes to FILE, which may be IMAGE itself, or to standard output; at a
+terminal it goes nowhere, so that one can look before clearing.
 Exits: 0 answered, 1 engaged, 2 no reply, 3 line fault.
 ";
 
 const TRIAL: &str = "\
-Goes through the plan from the alarm. RESULTS are the line results of the contacts in the order in which they are rung, a digit each: 0 answered,
-1 engaged, 2 no reply, 3 line fault. It ends open at an empty exit, spent at a contact with no result left, and stopped after N moves. N is 0 to 65535;
-where it is not given, it is 128 for each result and 128 more, or 65535 if that is less, which only a plan that goes round without ringing anybody
-comes to.
+Goes through the plan from the alarm. RESULTS are the line results of the
+contacts in the order in which they are rung, a digit each: 0 answered,
+1 engaged, 2 no reply, 3 line fault. A contact uses up a result and goes on by
+that exit; alarm, messages and waits go on by the answered exit. It ends open
+at an empty exit, spent at a contact with no result left, and stopped after N
+moves. N is 0 to 65535; where it is not given, it is 128 for each result and
+128 more, at most 65535.
+";
+
+const SQUEEZE: &str = "\
+Renumbers the steps in use from 0 upward in their order and gives the table
+that capacity. Which step has which number then is said on standard error; the
+image goes to FILE, which may be IMAGE itself, or to standard output.
+";
+
+const DRAW: &str = "\
+A picture of the plan as SVG, which a browser opens: the alarm on top, strong
+links solid, weak ones dashed. With --dot the same for Graphviz. It goes to
+FILE, or to standard output.
+";
+
+const DIFF: &str = "\
+Whether two images are one table, one plan with other strengths, or two plans;
+then step by step how they differ. A link is strong if its bit is the own bit
+of the step that it leads to. Status 0 where they are one table, 1 where not.
+";
+
+const CHECK: &str = "\
+Accepted, or the first rule of docs/IMAGE.md that is broken, with the byte to
+look at. Status 0 where it is accepted, 1 where not.
+";
+
+const FRESH: &str = "\
+Makes a table of that capacity, 1 to 128, with step 0 alone in use. The image
+goes to FILE, or to standard output.
+";
+
+const SHOW: &str = "\
+Every step in use with its four exits, each with its target and strength; then
+the free numbers.
+";
+
+const WHY: &str = "\
+A strong chain from step 0 that holds the step, and every other link to it.
 ";
 
 /// The table of an image, and what stands in it.
@@ -283,16 +327,15 @@ fn key(request: &Request) -> Result<u8, Failure> {
     let input = input()?;
     let skip = request.skip_refused || input.is_terminal();
     if input.is_terminal() {
-        say("a key line, then Enter; Ctrl-D ends (plan key --help names the lines)\n")?;
+        let end =
+            if goes_nowhere(request) { "ends; -o FILE would store" } else { "ends and stores" };
+        say(&format!("a key line, then Enter; Ctrl-D {end} (plan key --help names the lines)\n"))?;
     }
     let mut input = BufReader::new(input);
     let mut line = Vec::new();
     let mut refusals = 0;
     // each time round: the table and the view are as the lines so far left them
-    while input.read_until(b'\n', &mut line).map_err(input_failed)? > 0 {
-        if line.last() == Some(&b'\n') {
-            line.pop();
-        }
+    while next_line(&mut input, &mut line).map_err(input_failed)? {
         let words = match call(&table, |table| raw::key_line(table, &line)) {
             Ok((after, answer)) => {
                 let before = std::mem::replace(&mut view, View::of(&after));
@@ -305,11 +348,33 @@ fn key(request: &Request) -> Result<u8, Failure> {
             }
         };
         say(&format!("{:<12}  {words}\n", pages::line(&line)))?;
-        line.clear();
     }
     if refusals > 0 && !skip {
         return Err(format!("{} refused: nothing is stored", count(refusals, "line")));
     }
     give_image(request, &table)?;
     Ok(0)
+}
+
+/// Bytes of a line that are kept: more than a key line has, so that what is dropped of a longer one changes no answer.
+const KEPT: u64 = 64;
+
+/// Reads a line, without its byte 10, in place of the one before; false where there is none.
+fn next_line(input: &mut impl BufRead, line: &mut Vec<u8>) -> io::Result<bool> {
+    line.clear();
+    input.take(KEPT).read_until(b'\n', line)?;
+    let some = !line.is_empty();
+    if line.last() == Some(&b'\n') {
+        line.pop();
+        return Ok(true);
+    }
+    // the rest of a long line, a part at a time
+    let mut rest = Vec::new();
+    while some && rest.last() != Some(&b'\n') {
+        rest.clear();
+        if input.take(4096).read_until(b'\n', &mut rest)? == 0 {
+            break;
+        }
+    }
+    Ok(some)
 }

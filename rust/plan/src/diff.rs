@@ -2,6 +2,7 @@
 
 use crate::view::{Held, View};
 use crate::words::{named, strength};
+use std::cmp::Reverse;
 use std::collections::BTreeSet;
 use std::fmt::Display;
 use telephone::{Exit, Step};
@@ -30,9 +31,10 @@ impl Verdict {
     }
 }
 
-/// The verdict, and a line for each difference, step by step. Differences in strengths and bits are given of links that both tables have.
+/// The verdict, and a line for each difference, step by step: first those of the plans, then those of strengths, last those of bits. Strengths and bits
+/// are compared of links that both tables have.
 pub fn diff(a: &View, b: &View) -> (Verdict, Vec<String>) {
-    let mut found = Found { verdict: Verdict::Same, lines: Vec::new() };
+    let mut found = Found::default();
     found.unless_same(Verdict::OtherPlans, "capacity", a.capacity, b.capacity);
     found.unless_same(Verdict::OtherPlans, "last number given", a.last, b.last);
     let numbers: BTreeSet<u16> = a.steps.keys().chain(b.steps.keys()).copied().collect();
@@ -43,18 +45,21 @@ pub fn diff(a: &View, b: &View) -> (Verdict, Vec<String>) {
             (None, _) => found.only(b, number, "B"),
         }
     }
-    (found.verdict, found.lines)
+    let Found { mut lines } = found;
+    lines.sort_by_key(|(verdict, _)| Reverse(*verdict));
+    let verdict = lines.first().map_or(Verdict::Same, |(verdict, _)| *verdict);
+    (verdict, lines.into_iter().map(|(_, line)| line).collect())
 }
 
+/// The differences found, each with what follows from it alone.
+#[derive(Default)]
 struct Found {
-    verdict: Verdict,
-    lines: Vec<String>,
+    lines: Vec<(Verdict, String)>,
 }
 
 impl Found {
     fn add(&mut self, verdict: Verdict, line: String) {
-        self.verdict = self.verdict.max(verdict);
-        self.lines.push(line);
+        self.lines.push((verdict, line));
     }
 
     fn unless_same<T: PartialEq + Display>(&mut self, verdict: Verdict, what: &str, a: T, b: T) {

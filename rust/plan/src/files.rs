@@ -3,16 +3,20 @@
 use crate::{Failure, Request};
 use plan::check::{first_fault, LONGEST};
 use plan::words::refused;
-use std::ffi::{OsStr, OsString};
+use std::ffi::OsStr;
 use std::fs::{self, File};
 use std::io::{self, IsTerminal, Read, Write};
 use std::os::fd::AsFd;
+use std::os::unix::fs::{fchown, MetadataExt};
 use std::path::{Path, PathBuf};
 use telephone::{Table, IMAGE_MAX};
 
 /// A word of the command line as it can be shown in one line.
 pub fn shown(word: &OsStr) -> String {
-    word.to_string_lossy().escape_debug().collect()
+    match word.is_empty() {
+        true => "''".to_string(),
+        false => word.to_string_lossy().escape_debug().collect(),
+    }
 }
 
 /// What could not be done with a file.
@@ -94,73 +98,87 @@ pub fn give_image(request: &Request, table: &Table) -> Result<(), Failure> {
     let mut image = [0; IMAGE_MAX];
     let length = table.write_image(&mut image).map_err(refused)?;
     match &request.output {
-        Some(path) => store(path, &image[..length]),
-        None if io::stdout().is_terminal() => {
-            say("not stored: > FILE or -o FILE stores the new image\n")
+        Some(path) => {
+            store(path, &image[..length])?;
+            say(&format!("stored in {}\n", shown(path.as_os_str())))
         }
+        None if goes_nowhere(request) => say("not stored: -o FILE stores the new image\n"),
         None => write(&image[..length]),
     }
+}
+
+/// Whether the image of a command goes anywhere.
+pub fn goes_nowhere(request: &Request) -> bool {
+    request.output.is_none() && io::stdout().is_terminal()
 }
 
 /// Whether something can be stored where the command line says. It is asked before any work is done, so that no work is lost.
 pub fn can_store(request: &Request) -> Result<(), Failure> {
     let Some(path) = &request.output else { return Ok(()) };
-    let tried = match place(path)? {
-        Place::Device => File::options().write(true).open(path).map(|_| ()),
-        Place::Plain(path) => {
-            let beside = beside(&path);
-            File::create_new(&beside).and_then(|_| fs::remove_file(&beside))
-        }
-    };
+    let tried = place(path).and_then(|place| match place {
+        Place::Device => Ok(()),
+        Place::Plain(path) => begun(&path).and_then(|_| fs::remove_file(beside(&path))),
+    });
     tried.map_err(|error| failed(path, error))
 }
 
 /// What stands, or may stand, at a path.
 enum Place {
-    /// No plain file, as a device: it is written to.
+    /// No plain file, as a device: it is opened once, and written to.
     Device,
-    /// A plain file or none, by its path past all links: it is replaced.
+    /// A plain file that may be written, or none, by its path past all links: it is replaced.
     Plain(PathBuf),
 }
 
-fn place(path: &Path) -> Result<Place, Failure> {
+fn place(path: &Path) -> io::Result<Place> {
     match fs::metadata(path) {
-        Err(_) => Ok(Place::Plain(path.into())),
+        Ok(there) if there.is_dir() => Err(io::ErrorKind::IsADirectory.into()),
         Ok(there) if !there.is_file() => Ok(Place::Device),
-        Ok(_) => fs::canonicalize(path).map(Place::Plain).map_err(|error| failed(path, error)),
+        Ok(_) => {
+            File::options().write(true).open(path)?;
+            fs::canonicalize(path).map(Place::Plain)
+        }
+        // a link that leads nowhere is not replaced
+        Err(error) if path.is_symlink() || path.as_os_str().is_empty() => Err(error),
+        Err(_) => Ok(Place::Plain(path.into())),
     }
 }
 
 /// Puts bytes into a file, in place of what stood there.
 fn store(path: &Path, bytes: &[u8]) -> Result<(), Failure> {
-    let written = match place(path)? {
-        Place::Device => fs::write(path, bytes),
+    let written = place(path).and_then(|place| match place {
+        Place::Device => File::options().write(true).open(path)?.write_all(bytes),
         Place::Plain(path) => replace(&path, bytes),
-    };
+    });
     written.map_err(|error| failed(path, error))
 }
 
-/// Writes the bytes beside a file first and then puts them in its place, with the permissions that it had.
+/// Writes the bytes beside a file first and then puts them in its place, with the permissions that it had and, where the system allows it, its owner.
 fn replace(path: &Path, bytes: &[u8]) -> io::Result<()> {
-    let beside = beside(path);
     let written = || {
-        let mut file = File::create_new(&beside)?;
+        let mut file = begun(path)?;
         file.write_all(bytes)?;
         if let Ok(there) = fs::metadata(path) {
+            let _ = fchown(&file, Some(there.uid()), Some(there.gid()));
             file.set_permissions(there.permissions())?;
         }
         file.sync_all()?;
-        fs::rename(&beside, path)
+        fs::rename(beside(path), path)
     };
     written().inspect_err(|_| {
         // the first error is the one to tell
-        let _ = fs::remove_file(&beside);
+        let _ = fs::remove_file(beside(path));
     })
+}
+
+/// A file begun beside a path, for this run alone.
+fn begun(path: &Path) -> io::Result<File> {
+    // what an earlier run of the same number left behind is nobody's
+    let _ = fs::remove_file(beside(path));
+    File::create_new(beside(path))
 }
 
 /// A name in the same folder that no other run uses.
 fn beside(path: &Path) -> PathBuf {
-    let mut name = OsString::from(path);
-    name.push(format!(".{}.part", std::process::id()));
-    name.into()
+    path.with_file_name(format!(".plan-{}.part", std::process::id()))
 }

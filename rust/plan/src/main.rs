@@ -67,9 +67,10 @@ fn is_help(word: &OsStr) -> bool {
 
 fn overview() -> String {
     let lines =
-        COMMANDS.iter().map(|command| format!("  plan {:<40} {}\n", command.usage(), command.gist));
+        COMMANDS.iter().map(|command| format!("  {:<36} {}\n", command.usage(), command.gist));
     let lines: String = lines.collect();
-    format!("usage:\n{lines}\nplan COMMAND --help says more. IMAGE is a file that holds the image of a table.\n")
+    let more = "plan COMMAND --help says more. IMAGE is a file that holds an image.";
+    format!("usage:\n{lines}\n{more}\n")
 }
 
 /// Takes options and words apart. An option that the command does not have is an error.
@@ -83,7 +84,8 @@ fn request(command: &Command, words: &[OsString]) -> Result<Request, Failure> {
         } else if !text.starts_with('-') || text == "-" {
             request.words.push(word.clone());
         } else if !command.options.iter().any(|option| option.split(' ').next() == Some(text)) {
-            return Err(format!("no option {text}; usage: plan {}", command.usage()));
+            let option = files::shown(word);
+            return Err(format!("no option {option}; usage: plan {}", command.usage()));
         } else {
             match text {
                 "--dot" => request.dot = true,
@@ -105,6 +107,6 @@ pub fn number(what: &str, word: &OsStr) -> Result<u16, Failure> {
     let text = word.to_str().filter(|text| text.bytes().all(|byte| byte.is_ascii_digit()));
     let number = text.and_then(|text| text.parse().ok());
     number.ok_or_else(|| {
-        format!("{what} is a number from 0 to 65535, and {} is none", files::shown(word))
+        format!("{what} is given in decimal digits, below 65536, and not as {}", files::shown(word))
     })
 }

@@ -3,7 +3,7 @@
 use crate::change::{change, Change, Clearing};
 use crate::view::{Held, View};
 use crate::words::{self, count, named, place, row, steps, strength};
-use telephone::{Ending, Exit, Kind, Trial};
+use telephone::{Ending, Exit, Kind, Trial, PLACES};
 
 /// Steps of which one line says what holds them; a page says it of all.
 const HELD_IN_A_LINE: usize = 4;
@@ -105,26 +105,24 @@ fn leading(view: &View, held: &Held) -> String {
     format!("{step}, exit {} ({}), leads to {target}", held.exit.number(), held.exit)
 }
 
-/// What a clearing did, line by line: the steps that became doubtful, which of them stayed and what holds each now, and which went.
+/// What a clearing does, line by line: the steps that become doubtful, which of them stay and what holds each then, and which go.
 pub fn cleared(before: &View, after: &View, clearing: &Clearing) -> String {
     let mut page = Vec::new();
     let link = &clearing.link;
     let target = link.link.target;
     let was = format!("a {} link to {}", strength(link), named(before, target));
-    page.push(format!("cleared {} ({}): {was}", place(link), link.exit));
+    page.push(format!("clearing {} ({}): {was}", place(link), link.exit));
     let doubtful = clearing.doubtful();
     if doubtful.is_empty() {
-        page.push(format!("no step became doubtful: {}", held_by(after, target, " is held")));
+        page.push(format!("no step becomes doubtful: {}", held_by(after, target, " is held")));
         return text(&page);
     }
-    let became = count(doubtful.len(), "step");
-    page.push(format!("{became} became doubtful: {}", words::numbers(&doubtful)));
-    page.push(format!("{} stayed{}", some(clearing.stayed.len()), colon(&clearing.stayed)));
+    page.push(format!("doubtful: {}", steps(&doubtful)));
+    page.push(format!("of these stay: {}", some(clearing.stayed.len())));
     for &step in &clearing.stayed {
-        let kind = named(after, step);
-        page.push(format!("    {kind} is held by {}", holders(after, step)));
+        page.push(format!("    {} is held by {}", named(after, step), holders(after, step)));
     }
-    page.push(format!("{} went{}", some(clearing.freed.len()), colon(&clearing.freed)));
+    page.push(format!("of these go: {}", some(clearing.freed.len())));
     for &step in &clearing.freed {
         page.push(format!("    {}", named(before, step)));
     }
@@ -211,6 +209,9 @@ pub fn trial(view: &View, results: &[u8], trace: &[u8], trial: Trial) -> String 
             format!("open after {moves}: exit {} ({taken}) of {end} is empty", taken.number())
         }
         Ending::Spent => format!("spent after {moves}: {end} rings, and no line result is left"),
+        Ending::Stopped if rings_nobody(view, trace) => {
+            format!("stopped after {moves}: from {end} the plan goes round and rings nobody")
+        }
         Ending::Stopped => format!("stopped after {moves}, the limit, at {end}"),
         _ => format!("ended after {moves} at {end}"),
     });
@@ -219,6 +220,15 @@ pub fn trial(view: &View, results: &[u8], trace: &[u8], trial: Trial) -> String 
         rung => page.push(format!("contacts rung, in this order: {}", rung.join(", "))),
     }
     text(&page)
+}
+
+/// Whether a trial went on for as many moves as there can be steps and entered no contact: then it goes round in the same steps for ever.
+fn rings_nobody(view: &View, trace: &[u8]) -> bool {
+    let contact = |&step: &u8| {
+        let step = view.steps.get(&u16::from(step));
+        step.is_some_and(|step| matches!(step.kind, Kind::Contact(_)))
+    };
+    trace.len() >= PLACES && !trace[trace.len() - PLACES..].iter().any(contact)
 }
 
 /// What a squeeze did: the numbers that changed.
@@ -238,10 +248,13 @@ pub fn numbers(view: &View) -> String {
     format!("capacity {}: {}\n", view.capacity, counts_of(view))
 }
 
-/// A key line as it can be shown: its first bytes, odd ones as `?`.
+/// A key line as it can be shown: its first bytes, within marks where one of them could not be seen.
 pub fn line(bytes: &[u8]) -> String {
     const SHOWN: usize = 24;
-    let shown = |&byte: &u8| if matches!(byte, b' '..=b'~') { byte as char } else { '?' };
-    let start: String = bytes.iter().take(SHOWN).map(shown).collect();
-    start + if bytes.len() > SHOWN { ".." } else { "" }
+    let start = &bytes[..bytes.len().min(SHOWN)];
+    let more = if bytes.len() > SHOWN { ".." } else { "" };
+    match !start.is_empty() && start.iter().all(u8::is_ascii_graphic) {
+        true => start.escape_ascii().to_string() + more,
+        false => format!("'{}'{more}", start.escape_ascii()),
+    }
 }

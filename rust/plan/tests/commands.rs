@@ -6,7 +6,7 @@ use std::path::{Path, PathBuf};
 use std::process::{Command, Output, Stdio};
 
 /// Each command line, by the name of its output. The images stand in tests/images; those with a file .keys beside them were keyed.
-const CASES: [(&str, &str); 41] = [
+const CASES: [(&str, &str); 42] = [
     ("help", "--help"),
     ("help-key", "key --help"),
     ("help-trial", "trial ring.img --help"),
@@ -40,6 +40,7 @@ const CASES: [(&str, &str); 41] = [
     ("trial", "trial ring.img 212"),
     ("trial-open-at-once", "trial cleared.img"),
     ("trial-stopped", "trial ring.img 1111 --limit 3"),
+    ("trial-round", "trial waits.img"),
     ("trial-refused", "trial ring.img 04"),
     ("trial-no-digit", "trial ring.img 0x"),
     ("squeeze", "squeeze squeezable.img 4"),
@@ -184,7 +185,7 @@ fn key_lines() {
 /// The images that were keyed come out of their lines.
 #[test]
 fn keyed_images() {
-    for name in ["ring", "thirty", "full"] {
+    for name in ["ring", "thirty", "full", "squeezable", "waits"] {
         let lines = image(&format!("{name}.keys"));
         let given = output(fed(&mut plan(&["key", "fresh128.img"]), &lines));
         assert!(given.status.success(), "{name}: {}", text(&given.stderr));
@@ -213,6 +214,10 @@ fn stored_files() {
     assert!(is_failure(&output(&mut plan(&["squeeze", file, "0", "-o", file]))));
     assert!(is_failure(&output(&mut plan(&["draw", "cut.img", "-o", file]))));
     assert_eq!(fs::read(&path).unwrap(), image("cleared.img"));
+    let nowhere = folder.join("nowhere.img");
+    std::os::unix::fs::symlink("missing.img", &nowhere).unwrap();
+    assert!(is_failure(&output(&mut plan(&["fresh", "4", "-o", nowhere.to_str().unwrap()]))));
+    fs::remove_file(&nowhere).unwrap();
     let link = folder.join("link.img");
     std::os::unix::fs::symlink("plan.img", &link).unwrap();
     let made = output(&mut plan(&["fresh", "128", "-o", link.to_str().unwrap()]));
@@ -248,7 +253,7 @@ fn reading_and_writing_fail() {
         assert!(!output(plan(&words).args(["-o", "/dev/full"])).status.success(), "{line}");
     }
     assert!(is_failure(&output(plan(&["key", "ring.img"]).stdin(File::open("/").unwrap()))));
-    for path in ["missing/plan.img", "/proc/plan.img", "."] {
+    for path in ["missing/plan.img", "/proc/plan.img", ".", ""] {
         let given = output(fed(&mut plan(&["key", "ring.img", "-o", path]), b"H*4A\n"));
         assert!(is_failure(&given), "{path} is told after the work: {}", text(&given.stderr));
     }
@@ -256,6 +261,36 @@ fn reading_and_writing_fail() {
         Path::new("/dev/full").metadata().is_ok_and(|there| !there.is_file()),
         "/dev/full was replaced"
     );
+}
+
+/// Words of the command line that could make a second line, or hide in it, are shown in one.
+#[test]
+fn odd_words() {
+    let odd = ["-a\nplan: b", "--\u{1b}[31m", "", " ", "\u{202e}", "-1", "+1", "1.0", "٣"];
+    for word in odd {
+        for line in [&[word][..], &["show", word], &["why", "ring.img", word], &["fresh", word]] {
+            let given = output(&mut plan(line));
+            assert!(is_failure(&given), "{line:?}: {}", text(&given.stderr));
+            assert!(text(&given.stderr).trim_end().chars().all(|c| !c.is_control()), "{line:?}");
+        }
+    }
+    let given = output(&mut plan(&["show", "--", "ring.img"]));
+    assert_eq!(given.stdout, output(&mut plan(&["show", "ring.img"])).stdout);
+}
+
+/// A pipe with a name is opened once, and gets the image whole.
+#[test]
+fn named_pipes() {
+    let pipe = scratch("pipe");
+    let _ = fs::remove_file(&pipe);
+    assert!(Command::new("mkfifo").arg(&pipe).status().unwrap().success());
+    let read = std::thread::spawn({
+        let pipe = pipe.clone();
+        move || fs::read(pipe).unwrap()
+    });
+    let given = output(&mut plan(&["clear", "ring.img", "0", "0", "-o", pipe.to_str().unwrap()]));
+    assert!(given.status.success(), "{}", text(&given.stderr));
+    assert_eq!(read.join().unwrap(), image("cleared.img"));
 }
 
 /// Files of every length near the ends, and without an end, are answered.
@@ -291,13 +326,13 @@ fn at_a_terminal() {
         text(&given.stdout).replace('\r', "")
     };
     let said = at_terminal("fresh 4", b"");
-    assert!(
-        said.ends_with("3 free\nnot stored: > FILE or -o FILE stores the new image\n"),
-        "{said}"
-    );
+    assert!(said.ends_with("3 free\nnot stored: -o FILE stores the new image\n"), "{said}");
     let path = scratch("at_a_terminal.img");
     let line = format!("key ring.img -o {}", path.display());
     let said = at_terminal(&line, b"H*30003A\nH*30000A\n");
-    assert!(said.contains("Ctrl-D ends") && said.contains("refused by 6"), "{said}");
+    assert!(said.contains("Ctrl-D ends and stores") && said.contains("refused by 6"), "{said}");
+    assert!(said.ends_with(&format!("stored in {}\n", path.display())), "{said}");
     assert_eq!(fs::read(&path).unwrap(), image("cleared.img"));
+    let said = at_terminal("key ring.img", b"H*30000A\n");
+    assert!(said.contains("-o FILE would store") && said.contains("not stored"), "{said}");
 }
