@@ -1,17 +1,19 @@
 //! What the tool `plan` reads off tables, held against the second program: which steps a clearing makes doubtful, keeps and frees; the strong chains;
-//! what a key line did; and the rule that a refused image breaks.
+//! what a key line did; how two tables differ; and the rule that a refused image breaks.
 
 use compare::lend;
 use plan::change::{change, Change};
 use plan::check::first_fault;
+use plan::diff::{diff, Verdict};
 use plan::view::View;
 use reference::calls::{add, clear, fresh, Command};
 use reference::generate::{Generator, Random};
 use reference::image::{load, write, HEADER, RECORD};
 use reference::keys::{decode, key_line};
 use reference::plan::plan_of;
+use reference::sound::sound;
 use reference::table::{mark, members, place, Set, Table};
-use std::collections::BTreeSet;
+use std::collections::{BTreeMap, BTreeSet};
 
 fn view(table: &Table) -> View {
     View::of(&telephone::Table::from_raw(lend(table)).unwrap())
@@ -51,6 +53,65 @@ fn clearings() {
         }
     }
     assert!(stayed > 300 && freed > 300 && neither > 1000, "{stayed} {freed} {neither}");
+}
+
+/// What two tables have in common, by the second program: whether they are one plan, and whether links have the same strengths.
+fn verdict(a: &Table, b: &Table) -> Verdict {
+    let strong = |table: &Table, place: usize| {
+        let target = usize::from(table.targets[place]);
+        target != 0 && table.bits[place] == table.own[target]
+    };
+    if a == b {
+        Verdict::Same
+    } else if plan_of(a) != plan_of(b) {
+        Verdict::OtherPlans
+    } else if (0..a.targets.len()).any(|place| strong(a, place) != strong(b, place)) {
+        Verdict::OtherStrengths
+    } else {
+        Verdict::OtherBits
+    }
+}
+
+/// A sound table beside others: itself, with the bits of a step and of all links to it turned round, after a clearing, and squeezed.
+#[test]
+fn differences() {
+    let mut seen = BTreeMap::new();
+    for seed in 9600..9800 {
+        let mut random = Random(seed);
+        let table = random.sound_table();
+        let steps: Vec<usize> = members(table.in_use()).collect();
+        let mut turned = table.clone();
+        let step = random.pick(&steps);
+        turned.own[step] = 1 - turned.own[step];
+        for place in 0..turned.targets.len() {
+            if step != 0 && usize::from(turned.targets[place]) == step {
+                turned.bits[place] = 1 - turned.bits[place];
+            }
+        }
+        turned.counts = turned.counted();
+        let mut others = vec![table.clone(), turned, Random(seed + 1).sound_table()];
+        for held in view(&table).links().take(20) {
+            let mut after = table.clone();
+            assert_eq!(clear(&mut after, held.step, held.exit.number()).refusal, 0);
+            // the exit filled again, weakly or strongly: often one plan with other strengths
+            let place = place(held.step.into(), held.exit.number().into());
+            let target = usize::from(table.targets[place]);
+            for bit in [0, 1] {
+                let mut again = after.clone();
+                (again.targets[place], again.bits[place]) = (target as u16, bit);
+                again.counts = again.counted();
+                others.extend((after.used[target] == 1 && sound(&again)).then_some(again));
+            }
+            others.push(after);
+        }
+        for other in &others {
+            let (found, lines) = diff(&view(&table), &view(other));
+            assert_eq!(found, verdict(&table, other), "{lines:?}");
+            assert_eq!(found == Verdict::Same, lines.is_empty());
+            *seen.entry(found).or_insert(0) += 1;
+        }
+    }
+    assert!(seen.len() == 4 && seen.values().all(|&times| times > 100), "{seen:?}");
 }
 
 /// A strong chain for every step in use, of links that are strong, and as short as the marks say.

@@ -300,9 +300,12 @@ fn squeeze(request: &Request) -> Result<u8, Failure> {
 }
 
 fn differ(request: &Request) -> Result<u8, Failure> {
-    let (_, a) = viewed(&request.words[0])?;
-    let (_, b) = viewed(&request.words[1])?;
+    let (first, a) = viewed(&request.words[0])?;
+    let (second, b) = viewed(&request.words[1])?;
     let (verdict, lines) = diff(&a, &b);
+    if (first == second) != (verdict == Verdict::Same) {
+        return Err("the tables differ where nothing was compared".to_string());
+    }
     let lines: String = lines.iter().map(|line| format!("{line}\n")).collect();
     print(&format!("{}\n{lines}", verdict.words()))?;
     Ok(u8::from(verdict != Verdict::Same))
