@@ -1,5 +1,5 @@
-//! Input that cannot be read and answers that cannot be written, by the scripts `keys` and `plan`. The program `keys` says so on standard error; the script `keys`, which runs it, also
-//! ends with status 1. Where nothing fails, neither says anything, and the status is 0.
+//! Input that cannot be read and answers that cannot be written. The program `keys` says so on standard error; the script `keys`, which runs it, also
+//! ends with status 1. Where nothing fails, neither says anything, and the status is 0. The script `plan`, and what the scripts say where a proof fails.
 
 use compare::process::{keys_program, keys_script, output, plan_script};
 use std::os::unix::fs::PermissionsExt;
@@ -160,9 +160,7 @@ fn the_script_plan() {
     assert!(made.status.success(), "{}", text(&made.stderr));
     let image = image.display();
     for redirection in BAD_OUTPUT {
-        for words in
-            [format!("show '{image}'"), format!("clear '{image}' 0 0"), "--help".to_string()]
-        {
+        for words in [format!("show '{image}'"), format!("draw '{image}'"), "--help".to_string()] {
             let given = redirected(&plan_script(), &format!("{words} {redirection}"), b"");
             assert!(one_line_of("plan", &given), "{words} {redirection}: {}", text(&given.stderr));
             assert_eq!(given.status.code(), Some(2), "{words} {redirection}");

@@ -2,7 +2,7 @@
 //! what a key line did; how two tables differ; and the rule that a refused image breaks.
 
 use compare::lend;
-use plan::change::{change, Change};
+use plan::change::{checked, Change};
 use plan::check::first_fault;
 use plan::diff::{diff, Verdict};
 use plan::view::View;
@@ -36,10 +36,13 @@ fn clearings() {
             emptied.targets[place(step.into(), exit.into())] = 0;
             let doubtful = emptied.in_use() & !mark(1, &emptied.strong_links());
             let mut after = table.clone();
-            assert_eq!(clear(&mut after, step, exit).refusal, 0);
-            let Change::Cleared(clearing) = change(&before, &view(&after)) else {
+            let answer = clear(&mut after, step, exit);
+            assert_eq!(answer.refusal, 0);
+            let counts = (answer.first, answer.second);
+            let Ok(Change::Cleared(clearing)) = checked(&before, &view(&after), counts) else {
                 panic!("no clearing was seen: {step}, {exit}");
             };
+            assert!(checked(&before, &view(&after), (counts.0, counts.1 + 1)).is_err());
             assert_eq!(clearing.link, held);
             assert_eq!(set(&clearing.doubtful()), doubtful);
             assert_eq!(set(&clearing.freed), table.in_use() & !after.in_use());
@@ -150,10 +153,12 @@ fn key_lines() {
         for _ in 0..400 {
             let line = generator.key_line(&plan_of(&table));
             let before = view(&table);
-            if key_line(&mut table, &line).refusal != 0 {
+            let answer = key_line(&mut table, &line);
+            if answer.refusal != 0 {
                 continue;
             }
-            let did = match (decode(&line).unwrap(), change(&before, &view(&table))) {
+            let change = checked(&before, &view(&table), (answer.first, answer.second)).unwrap();
+            let did = match (decode(&line).unwrap(), change) {
                 (Command::Add { holder, exit, .. }, Change::Added(held)) => {
                     assert_eq!((held.step, held.exit.number()), (holder, exit));
                     0

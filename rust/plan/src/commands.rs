@@ -5,7 +5,7 @@ use crate::files::{
     say, shown,
 };
 use crate::{number, Failure, Request};
-use plan::change::{change, Change};
+use plan::change::{checked, Change};
 use plan::diff::{diff, Verdict};
 use plan::draw::{as_dot, as_svg};
 use plan::pages;
@@ -223,7 +223,7 @@ fn call(
 fn fresh(request: &Request) -> Result<u8, Failure> {
     let capacity = number("the capacity", &request.words[0])?;
     let table = Table::fresh(capacity).map_err(refused)?;
-    say(&pages::numbers(&View::of(&table)))?;
+    say(&format!("{}\n", pages::numbers(&View::of(&table))))?;
     give_image(request, &table)?;
     Ok(0)
 }
@@ -256,13 +256,9 @@ fn clear(request: &Request) -> Result<u8, Failure> {
     let exit = number("the exit", &request.words[2])?;
     let (table, answer) = call(&table, |table| raw::clear(table, step, exit)).map_err(refused)?;
     let after = View::of(&table);
-    let Change::Cleared(clearing) = change(&before, &after) else {
+    let Change::Cleared(clearing) = checked(&before, &after, answer)? else {
         return Err("no exit was cleared".to_string());
     };
-    let counted = (clearing.doubtful().len(), clearing.freed.len());
-    if counted != (answer.0.into(), answer.1.into()) {
-        return Err(format!("the tables show {counted:?}, and the clearing answered {answer:?}"));
-    }
     say(&pages::cleared(&before, &after, &clearing))?;
     give_image(request, &table)?;
     Ok(0)
@@ -315,7 +311,7 @@ fn check(request: &Request) -> Result<u8, Failure> {
     let bytes = image_bytes(Path::new(&request.words[0]))?;
     match Table::load(&bytes) {
         Ok(table) => {
-            print(&format!("accepted: {}", pages::numbers(&View::of(&table))))?;
+            print(&format!("accepted: {}\n", pages::numbers(&View::of(&table))))?;
             Ok(0)
         }
         Err(refusal) => {
@@ -343,7 +339,7 @@ fn key(request: &Request) -> Result<u8, Failure> {
             Ok((after, answer)) => {
                 let before = std::mem::replace(&mut view, View::of(&after));
                 table = after;
-                pages::answered(&before, &view, answer)
+                pages::answered(&view, &checked(&before, &view, answer)?)
             }
             Err(refusal) => {
                 refusals += 1;

@@ -107,7 +107,7 @@ pub fn give_image(request: &Request, table: &Table) -> Result<(), Failure> {
     }
 }
 
-/// Whether the image of a command goes anywhere.
+/// Whether the image of a command goes nowhere: it is not stored, and a terminal gets none.
 pub fn goes_nowhere(request: &Request) -> bool {
     request.output.is_none() && io::stdout().is_terminal()
 }

@@ -1,6 +1,6 @@
 //! What the commands say: a page of lines for a table, for a step, for a trial and for what a call did.
 
-use crate::change::{change, Change, Clearing};
+use crate::change::{Change, Clearing};
 use crate::view::{Held, View};
 use crate::words::{self, count, named, place, row, steps, strength};
 use telephone::{Ending, Exit, Kind, Trial, PLACES};
@@ -14,20 +14,22 @@ fn text(lines: &[String]) -> String {
 }
 
 /// Steps in use and free ones.
-fn counts(in_use: usize, free: usize) -> String {
+fn counts(view: &View) -> String {
+    let in_use = view.steps.len();
+    let free = usize::from(view.capacity).saturating_sub(in_use);
     format!("{} in use, {free} free", count(in_use, "step"))
 }
 
-fn counts_of(view: &View) -> String {
-    let in_use = view.steps.len();
-    counts(in_use, usize::from(view.capacity).saturating_sub(in_use))
+/// The capacity and the counts.
+pub fn numbers(view: &View) -> String {
+    format!("capacity {}: {}", view.capacity, counts(view))
 }
 
 /// The whole table: its numbers, each step in use with its four exits, and the free numbers.
 pub fn show(view: &View) -> String {
     let mut page = Vec::new();
     page.push(format!("capacity {}, last number given {}", view.capacity, view.last));
-    page.push(format!("{}", counts_of(view)));
+    page.push(counts(view));
     for &number in view.steps.keys() {
         page.push(format!("{}{}", named(view, number), bits_and_links(view, number)));
         for exit in Exit::ALL {
@@ -147,18 +149,18 @@ fn held_by(view: &View, step: u16, is_held: &str) -> String {
     format!("step {step}{is_held} by {}", holders(view, step))
 }
 
-/// What an accepted key line did, in one line, given the two numbers of its answer.
-pub fn answered(before: &View, after: &View, (first, second): (u16, u16)) -> String {
-    match change(before, after) {
+/// What an accepted key line did, in one line, given the table after it.
+pub fn answered(after: &View, change: &Change) -> String {
+    match change {
         Change::Added(held) => {
-            format!("added {} at {}", named(after, held.link.target), place(&held))
+            format!("added {} at {}", named(after, held.link.target), place(held))
         }
         Change::Linked(held) => {
             let target = named(after, held.link.target);
-            format!("{} now leads to {target}, by a {} link", place(&held), strength(&held))
+            format!("{} now leads to {target}, by a {} link", place(held), strength(held))
         }
-        Change::Cleared(clearing) => cleared_line(after, &clearing),
-        Change::Nothing => counts(first.into(), second.into()),
+        Change::Cleared(clearing) => cleared_line(after, clearing),
+        Change::Nothing => counts(after),
     }
 }
 
@@ -216,7 +218,7 @@ pub fn trial(view: &View, results: &[u8], trace: &[u8], trial: Trial) -> String 
         _ => format!("ended after {moves} at {end}"),
     });
     match &rung[..] {
-        [] => page.push(format!("nobody is rung")),
+        [] => page.push("nobody is rung".to_string()),
         rung => page.push(format!("contacts rung, in this order: {}", rung.join(", "))),
     }
     text(&page)
@@ -233,19 +235,13 @@ fn rings_nobody(view: &View, trace: &[u8]) -> bool {
 
 /// What a squeeze did: the numbers that changed.
 pub fn squeezed(before: &View, after: &View) -> String {
-    let mut page = Vec::new();
-    page.push(format!("capacity {}: {}", after.capacity, counts_of(after)));
+    let mut page = vec![numbers(after)];
     for (&old, &new) in before.steps.keys().zip(after.steps.keys()) {
         if old != new {
             page.push(format!("step {old} is now {}", named(after, new)));
         }
     }
     text(&page)
-}
-
-/// The capacity and the counts.
-pub fn numbers(view: &View) -> String {
-    format!("capacity {}: {}\n", view.capacity, counts_of(view))
 }
 
 /// A key line as it can be shown: its first bytes, within marks where one of them could not be seen.
