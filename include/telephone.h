@@ -1,15 +1,22 @@
 /* The call plan table of a lift telephone: the calls of documents 01 and 02, as the static library libtelephone.a defines them. For C99, C11 and C++.
  *
  *     plan_table t;
+ *     plan_quota quotas[PLAN_CABINS];
  *     if (plan_edition() != PLAN_EDITION) return 1;
- *     plan_fresh(&t, 128);
- *     plan_reply r = plan_add(&t, 0, PLAN_ANSWERED, PLAN_CONTACT, 7);
+ *     plan_sole_quotas(quotas, 128);
+ *     plan_fresh(&t, 128, quotas);
+ *     plan_reply r = plan_add(&t, 0, PLAN_ANSWERED, PLAN_CONTACT, 7, 0);
  *     if (r.refusal == PLAN_DONE) printf("step %d\n", r.first); else puts(plan_refusal_words(r.refusal));
  *
- * Memory. A table has 3,588 bytes. The caller owns it and lends it to a call by its address; a call that changes it does so in place. Other buffers
- * are lent by an address and a length. A call reads and writes what it is lent only while it runs, and only within its length; the library allocates
- * nothing and holds no pointer after it returns. No pointer is null: to lend a buffer of length 0, give any valid address. Things lent to one call do
- * not overlap, and nobody else writes them during the call.
+ * Cabins. Eight cabins share a plan. Each step is charged to the cabin, 0 to 7, that added it, until it is freed; step 0 is charged to none. A table
+ * has a guarantee and a limit for each cabin. No cabin has more steps than its limit, and one that has fewer than its guarantee is never refused for
+ * want of a step (8, 14, 15), whatever the others add or keep. A list of guarantees and limits is good if no guarantee is above its limit and all
+ * guarantees together are at most the capacity less 1. Where one cabin has the plan to itself, it is cabin 0, with the list of plan_sole_quotas.
+ *
+ * Memory. A table has 3,876 bytes. The caller owns it and lends it to a call by its address; a call that changes it does so in place. Other buffers
+ * are lent by an address and a length, and a list of guarantees and limits by the address of its eight pairs. A call reads and writes what it is lent
+ * only while it runs, and only within its length; the library allocates nothing and holds no pointer after it returns. No pointer is null: to lend a
+ * buffer of length 0, give any valid address. Things lent to one call do not overlap, and nobody else writes them during the call.
  *
  * Threads. The library keeps no state between calls: any number of threads may call it at once, with each table in one call at a time. Calls that
  * take a const table only read it, and may share one that nobody changes.
@@ -18,18 +25,18 @@
  *
  * Refusals. `refusal` is PLAN_DONE, or the number of the first condition of the call's order that holds. All other numbers of the reply are then 0,
  * every byte of the table is as it was, and no lent byte was written. Only plan_fresh and plan_load_image differ: refused, they leave a fresh table of
- * capacity 1.
+ * capacity 1, whose guarantees and limits are all 0.
  *
  * Stack. A call and the table lent to it together take at most PLAN_STACK_MAX bytes of stack; a table that stands elsewhere takes none of them.
- * Measured, without the caller's table of 3,588 bytes:
+ * Measured, without the caller's table of 3,876 bytes:
  *
- *     plan_edition, plan_fresh                                                     72 bytes
- *     plan_is_sound, plan_counts, plan_image_length, plan_read                  7,024
- *     plan_add, plan_link                                                       7,056
- *     plan_clear                                                                8,336
- *     plan_squeeze                                                              7,296
- *     plan_trial, plan_write_image, plan_load_image                             7,040
- *     plan_key_line                                                             8,400
+ *     plan_edition, plan_sole_quotas, plan_fresh                                   88 bytes
+ *     plan_is_sound, plan_counts, plan_image_length, plan_read                  7,280
+ *     plan_add, plan_link                                                       7,360
+ *     plan_clear                                                                8,560
+ *     plan_squeeze                                                              7,568
+ *     plan_trial, plan_write_image, plan_load_image                             7,280
+ *     plan_key_line                                                             8,640
  *
  * `cargo test --release --test stack -- --nocapture` in compare/ prints them.
  */
@@ -43,10 +50,11 @@
 extern "C" {
 #endif
 
-#define PLAN_EDITION 3        /* of this interface; in edition 1 tables went by value, in edition 2 a trial had no limit */
+#define PLAN_EDITION 4        /* of this interface; in edition 1 tables went by value, in 2 a trial had no limit, in 3 there were no cabins */
 #define PLAN_PLACES 128       /* the largest capacity */
 #define PLAN_EXITS 4          /* exits of a step */
-#define PLAN_IMAGE_MAX 2570   /* bytes of the largest image */
+#define PLAN_CABINS 8         /* cabins that share a plan */
+#define PLAN_IMAGE_MAX 2858   /* bytes of the largest image that is written */
 #define PLAN_STACK_MAX 16384  /* bytes of stack for any call, with the caller's table */
 
 /* Kinds of step, and the content of each. */
@@ -79,7 +87,10 @@ enum plan_refusal {
     PLAN_BAD_RESULT = 10,     /* some line result above 3 */
     PLAN_TOO_SHORT = 11,      /* lent buffer shorter than needed */
     PLAN_NOT_ACCEPTED = 12,   /* image not accepted */
-    PLAN_DOES_NOT_FIT = 13    /* capacity below the steps in use */
+    PLAN_DOES_NOT_FIT = 13,   /* capacity below the steps in use, or the charges do not fit the new quotas */
+    PLAN_CABIN_AT_LIMIT = 14, /* cabin at its limit */
+    PLAN_STEPS_RESERVED = 15, /* only steps reserved for other cabins are free */
+    PLAN_BAD_CABINS = 16      /* cabin above 7, or bad list of guarantees and limits */
 };
 
 enum plan_ending {
@@ -87,6 +98,12 @@ enum plan_ending {
     PLAN_SPENT = 1,           /* at a contact with no result left */
     PLAN_STOPPED = 2          /* at the limit of moves */
 };
+
+/* What a cabin is guaranteed, and what it may have at most, in steps. */
+typedef struct {
+    uint16_t guarantee;       /* at most the limit; all guarantees together at most the capacity less 1 */
+    uint16_t limit;           /* 0 to 65535 */
+} plan_quota;
 
 /* A table. Change it by calls only: a table that was changed otherwise may not be sound. */
 typedef struct {
@@ -99,6 +116,8 @@ typedef struct {
     uint16_t targets[512];    /* exit e of step i at i * 4 + e; 0 is an empty exit */
     uint16_t bits[512];       /* the bit of the link in the same exit */
     uint16_t counts[256];     /* counter b of step i at i * 2 + b */
+    uint16_t cabins[128];     /* the cabin that added each step; 0 for step 0 and for a free step */
+    plan_quota quotas[8];     /* by cabin */
 } plan_table;
 
 /* A refusal, and two numbers that each call gives a meaning. */
@@ -117,6 +136,7 @@ typedef struct {
     uint16_t targets[4];
     uint16_t bits[4];
     uint16_t counts[2];
+    uint16_t cabin;           /* 0 for step 0 */
 } plan_read_reply;
 
 /* How a trial ended. */
@@ -140,7 +160,7 @@ typedef struct {
 #else
 #define PLAN_LAYOUT(test, name) typedef char plan_layout_##name[(test) ? 1 : -1]
 #endif
-PLAN_LAYOUT(sizeof(plan_table) == 3588, size_of_a_table);
+PLAN_LAYOUT(sizeof(plan_table) == 3876, size_of_a_table);
 PLAN_LAYOUT(offsetof(plan_table, last) == 2, last);
 PLAN_LAYOUT(offsetof(plan_table, used) == 4, used);
 PLAN_LAYOUT(offsetof(plan_table, kinds) == 260, kinds);
@@ -149,9 +169,14 @@ PLAN_LAYOUT(offsetof(plan_table, own) == 772, own);
 PLAN_LAYOUT(offsetof(plan_table, targets) == 1028, targets);
 PLAN_LAYOUT(offsetof(plan_table, bits) == 2052, bits);
 PLAN_LAYOUT(offsetof(plan_table, counts) == 3076, counts);
+PLAN_LAYOUT(offsetof(plan_table, cabins) == 3588, cabins);
+PLAN_LAYOUT(offsetof(plan_table, quotas) == 3844, quotas);
+PLAN_LAYOUT(sizeof(plan_quota) == 4, size_of_a_quota);
+PLAN_LAYOUT(offsetof(plan_quota, limit) == 2, limit_in_a_quota);
 PLAN_LAYOUT(sizeof(plan_reply) == 6, size_of_a_reply);
-PLAN_LAYOUT(sizeof(plan_read_reply) == 28, size_of_a_read_reply);
+PLAN_LAYOUT(sizeof(plan_read_reply) == 30, size_of_a_read_reply);
 PLAN_LAYOUT(offsetof(plan_read_reply, counts) == 24, counts_in_a_read_reply);
+PLAN_LAYOUT(offsetof(plan_read_reply, cabin) == 28, cabin_in_a_read_reply);
 PLAN_LAYOUT(sizeof(plan_trial_reply) == 8, size_of_a_trial_reply);
 PLAN_LAYOUT(offsetof(plan_trial_reply, moves) == 6, moves_in_a_trial_reply);
 PLAN_LAYOUT(sizeof(plan_write_reply) == 4, size_of_a_write_reply);
@@ -164,13 +189,17 @@ uint16_t plan_edition(void);
 /* 1 if the table is sound, else 0. No refusal. */
 uint16_t plan_is_sound(const plan_table *t);
 
-/* Makes a table of that capacity with step 0 alone in use, whatever stood there.
- * first and second: 0. Refusal: 2. */
-plan_reply plan_fresh(plan_table *t, uint16_t capacity);
+/* Writes the list of a table that one cabin has to itself: cabin 0 has guarantee and limit capacity less 1, or 0 for capacity 0, all others have 0.
+ * No refusal. */
+void plan_sole_quotas(plan_quota quotas[PLAN_CABINS], uint16_t capacity);
 
-/* Puts a new step at an empty exit of the holder.
- * first: the number of the new step. Refusals, in order: 1, 3, 4, 5, 7, 8. */
-plan_reply plan_add(plan_table *t, uint16_t holder, uint16_t exit, uint16_t kind, uint16_t content);
+/* Makes a table of that capacity with these guarantees and limits and with step 0 alone in use, whatever stood there.
+ * first and second: 0. Refusals, in order: 2, 16. */
+plan_reply plan_fresh(plan_table *t, uint16_t capacity, const plan_quota quotas[PLAN_CABINS]);
+
+/* Puts a new step at an empty exit of the holder, and charges it to the cabin.
+ * first: the number of the new step. Refusals, in order: 1, 16, 3, 4, 5, 7, 8, 14, 15. */
+plan_reply plan_add(plan_table *t, uint16_t holder, uint16_t exit, uint16_t kind, uint16_t content, uint16_t cabin);
 
 /* Copies the target of an exit of the source into an empty exit of the second step.
  * first and second: 0. Refusals, in order: 1, of the source 3, 4, 6, of the second 3, 4, 5. */
@@ -180,10 +209,11 @@ plan_reply plan_link(plan_table *t, uint16_t source, uint16_t source_exit, uint1
  * first: steps made doubtful; second: steps freed. Refusals, in order: 1, 3, 4, 6. */
 plan_reply plan_clear(plan_table *t, uint16_t step, uint16_t exit);
 
-/* Squeezes the table into that capacity, which may also be larger. The steps in use are renumbered from 0 upward in their order, every target
- * follows, bits and counters travel with their steps, and the last number given becomes the highest of them. All places above it become zero.
- * first and second: 0. Refusals, in order: 1, 2, 13. */
-plan_reply plan_squeeze(plan_table *t, uint16_t capacity);
+/* Squeezes the table into that capacity, which may also be larger, and gives it these guarantees and limits. The steps in use are renumbered from 0
+ * upward in their order, every target follows, bits, counters and cabins travel with their steps, and the last number given becomes the highest of
+ * them. All places above it become zero. To keep the list of the table, lend a copy of it: what is lent does not overlap.
+ * first and second: 0. Refusals, in order: 1, 2, 16, 13. */
+plan_reply plan_squeeze(plan_table *t, uint16_t capacity, const plan_quota quotas[PLAN_CABINS]);
 
 /* All fields of a step. Refusals, in order: 1, 3. */
 plan_read_reply plan_read(const plan_table *t, uint16_t step);
@@ -199,19 +229,20 @@ plan_reply plan_counts(const plan_table *t);
  * Refusals, in order: 1, 10, 11. */
 plan_trial_reply plan_trial(const plan_table *t, uint16_t limit, const uint8_t *results, size_t results_length, uint8_t *trace, size_t trace_length);
 
-/* The length of the table's image: 10 bytes and 20 for each step in use. Refusal: 1. */
+/* The length of the table's image: 42 bytes and 22 for each step in use. Refusal: 1. */
 plan_write_reply plan_image_length(const plan_table *t);
 
-/* Writes the image of the table to the start of the buffer, its step records in ascending step number. Bytes past it are not touched. Two sound
- * tables are equal exactly when their images are, so stored images can be compared byte by byte.
+/* Writes the image of the table, in edition 2 of the format, to the start of the buffer, its step records in ascending step number. Bytes past it are
+ * not touched. Two sound tables are equal exactly when their written images are, so these can be compared byte by byte.
  * Refusals, in order: 1, 11. */
 plan_write_reply plan_write_image(const plan_table *t, uint8_t *buffer, size_t length);
 
-/* Makes the table of an image, which is exactly these bytes, whatever stood there. The step records may come in any order.
+/* Makes the table of an image of edition 1 or 2, which is exactly these bytes, whatever stood there. The step records may come in any order. Of an
+ * image of edition 1 all steps are charged to cabin 0, and the table has the list of plan_sole_quotas for its capacity.
  * first and second: 0. Refusal: 12. */
 plan_reply plan_load_image(plan_table *t, const uint8_t *bytes, size_t length);
 
-/* Carries out a key line, given without its byte 10; any bytes of any length.
+/* Carries out a key line, given without its byte 10; any bytes of any length. It adds for cabin 0.
  * first and second: the two numbers that the program `keys` prints. Refusals: 1, 9, then those of its call. */
 plan_reply plan_key_line(plan_table *t, const uint8_t *line, size_t length);
 
@@ -231,7 +262,10 @@ static inline const char *plan_refusal_words(uint16_t refusal) {
     case PLAN_BAD_RESULT: return "some line result above 3";
     case PLAN_TOO_SHORT: return "lent buffer shorter than needed";
     case PLAN_NOT_ACCEPTED: return "image not accepted";
-    case PLAN_DOES_NOT_FIT: return "capacity below the steps in use";
+    case PLAN_DOES_NOT_FIT: return "capacity below the steps in use, or the charges do not fit the new quotas";
+    case PLAN_CABIN_AT_LIMIT: return "cabin at its limit";
+    case PLAN_STEPS_RESERVED: return "only steps reserved for other cabins are free";
+    case PLAN_BAD_CABINS: return "cabin above 7, or bad list of guarantees and limits";
     default: return "unknown refusal";
     }
 }

@@ -1,6 +1,7 @@
 /* Links libtelephone.a and tries each call from C, or from C++: edition, names and words, the worked examples P1 to P10, every refusal of every call,
- * squeezes, trials, the case of `keys`, fields that all differ, lengths past 16 bits, and bytes that are no sound table. A table is lent with bytes
- * around it, which have to stay; a refused call has to leave every byte. Prints a line for each case that fails, and 'N passed, M failed' last. */
+ * cabins with their guarantees and limits, images of both editions, squeezes, trials, the case of `keys`, fields that all differ, lengths past 16
+ * bits, and bytes that are no sound table. A table is lent with bytes around it, which have to stay; a refused call has to leave every byte. Prints a
+ * line for each case that fails, and 'N passed, M failed' last. */
 #include "telephone.h"
 #include <stdio.h>
 #include <string.h>
@@ -39,47 +40,64 @@ static int gave(plan_reply r, int refusal, int first, int second) {
     return r.refusal == refusal && r.first == first && r.second == second;
 }
 
+/* A fresh table, and a squeeze, for cabin 0 alone. */
+static plan_reply fresh(plan_table *t, uint16_t capacity) {
+    plan_quota quotas[PLAN_CABINS];
+    plan_sole_quotas(quotas, capacity);
+    return plan_fresh(t, capacity, quotas);
+}
+
+static plan_reply squeeze(plan_table *t, uint16_t capacity) {
+    plan_quota quotas[PLAN_CABINS];
+    plan_sole_quotas(quotas, capacity);
+    return plan_squeeze(t, capacity, quotas);
+}
+
 /* A fresh table of capacity 4, over bytes that are no table. */
 static lent f4(void) {
     lent m;
     memset(&m, UNTOUCHED, sizeof m);
-    expect(gave(plan_fresh(&m.table, 4), PLAN_DONE, 0, 0) && edges_stand(&m), "F4");
+    expect(gave(fresh(&m.table, 4), PLAN_DONE, 0, 0) && edges_stand(&m), "F4");
     return m;
 }
 
 /* F4 after P1: step 1 at exit 0 of step 0. */
 static lent p1(void) {
     lent m = f4();
-    expect(gave(plan_add(&m.table, 0, PLAN_ANSWERED, PLAN_CONTACT, 0), PLAN_DONE, 1, 0), "P1");
+    expect(gave(plan_add(&m.table, 0, PLAN_ANSWERED, PLAN_CONTACT, 0, 0), PLAN_DONE, 1, 0), "P1");
     return m;
 }
 
 static void names(void) {
-    static const char *const words[14] = {
+    enum { KNOWN = 17 };
+    static const char *const words[KNOWN] = {
         "done", "table not sound", "capacity not 1 to 128", "step not in use", "exit above 3", "exit to be filled holds a link",
         "exit to copy or clear is empty", "kind not 1 to 3, or content out of range", "steps in use equal the capacity", "not a key line",
-        "some line result above 3", "lent buffer shorter than needed", "image not accepted", "capacity below the steps in use"};
-    static const int refusals[14] = {
+        "some line result above 3", "lent buffer shorter than needed", "image not accepted",
+        "capacity below the steps in use, or the charges do not fit the new quotas", "cabin at its limit",
+        "only steps reserved for other cabins are free", "cabin above 7, or bad list of guarantees and limits"};
+    static const int refusals[KNOWN] = {
         PLAN_DONE, PLAN_NOT_SOUND, PLAN_BAD_CAPACITY, PLAN_NOT_IN_USE, PLAN_BAD_EXIT, PLAN_EXIT_FILLED, PLAN_EXIT_EMPTY, PLAN_BAD_KIND, PLAN_FULL,
-        PLAN_NOT_KEY_LINE, PLAN_BAD_RESULT, PLAN_TOO_SHORT, PLAN_NOT_ACCEPTED, PLAN_DOES_NOT_FIT};
+        PLAN_NOT_KEY_LINE, PLAN_BAD_RESULT, PLAN_TOO_SHORT, PLAN_NOT_ACCEPTED, PLAN_DOES_NOT_FIT, PLAN_CABIN_AT_LIMIT, PLAN_STEPS_RESERVED,
+        PLAN_BAD_CABINS};
     int all = 1;
-    expect(plan_edition() == PLAN_EDITION && PLAN_EDITION == 3, "edition");
-    expect(sizeof(plan_table) == 3588, "size of a table");
-    for (int i = 0; i < 14; i++) all = all && refusals[i] == i && strcmp(plan_refusal_words((uint16_t)i), words[i]) == 0;
-    expect(all, "refusals 0 to 13 and their words");
+    expect(plan_edition() == PLAN_EDITION && PLAN_EDITION == 4, "edition");
+    expect(sizeof(plan_table) == 3876, "size of a table");
+    for (int i = 0; i < KNOWN; i++) all = all && refusals[i] == i && strcmp(plan_refusal_words((uint16_t)i), words[i]) == 0;
+    expect(all, "refusals 0 to 16 and their words");
     all = 1;
-    for (long i = 14; i < 65536; i++) all = all && strcmp(plan_refusal_words((uint16_t)i), "unknown refusal") == 0;
+    for (long i = KNOWN; i < 65536; i++) all = all && strcmp(plan_refusal_words((uint16_t)i), "unknown refusal") == 0;
     expect(all, "words of all other numbers");
     expect(PLAN_ALARM == 0 && PLAN_CONTACT == 1 && PLAN_MESSAGE == 2 && PLAN_WAIT == 3, "kinds");
     expect(PLAN_ANSWERED == 0 && PLAN_ENGAGED == 1 && PLAN_NO_REPLY == 2 && PLAN_LINE_FAULT == 3, "exits");
     expect(PLAN_OPEN == 0 && PLAN_SPENT == 1 && PLAN_STOPPED == 2, "endings");
-    expect(PLAN_PLACES == 128 && PLAN_EXITS == 4 && PLAN_IMAGE_MAX == 10 + 20 * PLAN_PLACES, "sizes");
+    expect(PLAN_PLACES == 128 && PLAN_EXITS == 4 && PLAN_CABINS == 8 && PLAN_IMAGE_MAX == 42 + 22 * PLAN_PLACES, "sizes");
 }
 
 static void edits(void) {
     lent m = p1();
     plan_table *t = &m.table;
-    plan_reply r = plan_add(t, 1, PLAN_NO_REPLY, PLAN_CONTACT, 1);
+    plan_reply r = plan_add(t, 1, PLAN_NO_REPLY, PLAN_CONTACT, 1, 0);
     expect(gave(r, 0, 2, 0), "P2");
     r = plan_link(t, 0, PLAN_ANSWERED, 2, PLAN_NO_REPLY);
     plan_read_reply s = plan_read(t, 1);
@@ -94,9 +112,9 @@ static void edits(void) {
     r = plan_clear(t, 0, PLAN_ENGAGED);
     expect(gave(r, 0, 2, 2) && plan_read(t, 1).refusal == 3 && plan_read(t, 2).refusal == 3, "P6");
     expect(gave(plan_counts(t), 0, 1, 3), "P6, counts");
-    r = plan_add(t, 0, 0, PLAN_WAIT, 600);
+    r = plan_add(t, 0, 0, PLAN_WAIT, 600, 0);
     expect(gave(r, 0, 3, 0), "P7, first");
-    r = plan_add(t, 3, 0, PLAN_MESSAGE, 15);
+    r = plan_add(t, 3, 0, PLAN_MESSAGE, 15, 0);
     expect(gave(r, 0, 1, 0) && gave(plan_counts(t), 0, 3, 1), "P7, second");
     expect(plan_is_sound(t) == 1 && edges_stand(&m), "after P7");
     m = p1();
@@ -106,10 +124,19 @@ static void edits(void) {
     expect(edges_stand(&m), "after P9");
 }
 
+/* A list of such a table: cabin 4 has no step and is guaranteed all free ones, the others have a step each; all limits differ. */
+static void listed(plan_quota quotas[PLAN_CABINS], uint16_t capacity) {
+    static const uint16_t guarantees[PLAN_CABINS] = {1, 0, 1, 0, 0, 0, 1, 1};
+    for (int i = 0; i < PLAN_CABINS; i++) {
+        quotas[i].guarantee = i == 4 ? (uint16_t)(capacity - 8) : guarantees[i];
+        quotas[i].limit = (uint16_t)(300 + i);
+    }
+}
+
 /* A table in which the fields of step 2 and the numbers of the table all differ. The bits are those of step 2's links, which are all strong; the
  * steps that they lead to have these numbers. */
 static plan_table numbered(uint16_t capacity, uint16_t last, const uint16_t bits[4], const uint16_t targets[4]) {
-    static const uint16_t kinds[8] = {0, 1, 3, 1, 2, 3, 1, 2}, contents[8] = {0, 11, 600, 12, 13, 14, 15, 7};
+    static const uint16_t kinds[8] = {0, 1, 3, 1, 2, 3, 1, 2}, contents[8] = {0, 11, 600, 12, 13, 14, 15, 7}, cabins[8] = {0, 7, 2, 1, 5, 0, 3, 6};
     plan_table t;
     memset(&t, 0, sizeof t);
     t.capacity = capacity;
@@ -119,7 +146,9 @@ static plan_table numbered(uint16_t capacity, uint16_t last, const uint16_t bits
         t.used[step] = 1;
         t.kinds[step] = kinds[i];
         t.contents[step] = contents[i];
+        t.cabins[step] = cabins[i];
     }
+    listed(t.quotas, capacity);
     t.own[2] = 1;
     for (int i = 0; i < 4; i++) {
         t.targets[2 * 4 + i] = targets[i];
@@ -156,6 +185,7 @@ static void fields(void) {
         t = different(bits);
         plan_read_reply s = plan_read(&t, 2);
         expect(s.refusal == 0 && s.kind == 3 && s.content == 600 && s.own == 1 && s.counts[0] == 5 && s.counts[1] == 7, "fields of a step");
+        expect(s.cabin == 2, "cabin of a step");
         expect(s.targets[0] == 4 && s.targets[1] == 6 && s.targets[2] == 8 && s.targets[3] == 10, "targets of a step");
         expect(memcmp(s.bits, bits, sizeof s.bits) == 0, "bits of a step");
         expect(gave(plan_counts(&t), 0, 8, 3) && gave(plan_key_line(&t, (const uint8_t *)"H*4A", 4), 0, 8, 3), "8 in use, 3 free");
@@ -163,73 +193,170 @@ static void fields(void) {
         plan_trial_reply r = plan_trial(&t, 7, results, 5, trace, 9);
         expect(r.refusal == 0 && r.ending == PLAN_STOPPED && r.last == 4 && r.moves == 7, "stopped at 4 after 7");
         expect(memcmp(trace, entered, 7) == 0 && all_untouched(trace + 7, 2), "its trace");
-        expect(gave(plan_add(&t, 10, PLAN_NO_REPLY, PLAN_CONTACT, 99), 0, 5, 0) && t.targets[10 * 4 + 2] == 5, "add 10, 2, 1, 99");
-        expect(t.kinds[5] == PLAN_CONTACT && t.contents[5] == 99 && t.last == 5, "the step added");
+        expect(gave(plan_add(&t, 10, PLAN_NO_REPLY, PLAN_CONTACT, 99, 4), 0, 5, 0) && t.targets[10 * 4 + 2] == 5, "add 10, 2, 1, 99 for cabin 4");
+        expect(t.kinds[5] == PLAN_CONTACT && t.contents[5] == 99 && t.cabins[5] == 4 && t.last == 5, "the step added");
         expect(gave(plan_link(&t, 2, PLAN_LINE_FAULT, 8, PLAN_ENGAGED), 0, 0, 0) && t.targets[8 * 4 + 1] == 10, "link 2, 3 to 8, 1");
         expect(gave(plan_clear(&t, 8, PLAN_ENGAGED), 0, 0, 0) && gave(plan_clear(&t, 10, PLAN_NO_REPLY), 0, 1, 1), "both cleared");
         plan_table as_was = different(bits);
         as_was.last = 5;
         expect(same(&t, &as_was), "the table but for its last number");
     }
-    plan_fresh(&t, 9);
-    plan_add(&t, 0, 0, PLAN_CONTACT, 0);
-    plan_add(&t, 1, 1, PLAN_CONTACT, 0);
-    plan_add(&t, 2, 3, PLAN_CONTACT, 0);
+    fresh(&t, 9);
+    plan_add(&t, 0, 0, PLAN_CONTACT, 0, 0);
+    plan_add(&t, 1, 1, PLAN_CONTACT, 0, 0);
+    plan_add(&t, 2, 3, PLAN_CONTACT, 0, 0);
     plan_link(&t, 1, 1, 0, 2);
     expect(gave(plan_clear(&t, 0, 0), 0, 3, 1) && gave(plan_counts(&t), 0, 3, 6), "a clearing with 3 doubtful and 1 freed");
 }
 
+/* Whether bytes are refused, and a fresh table of capacity 1 is left. */
+static int not_loaded(const uint8_t *bytes, size_t length) {
+    plan_table t, fresh1;
+    fresh(&fresh1, 1);
+    memset(&t, UNTOUCHED, sizeof t);
+    return gave(plan_load_image(&t, bytes, length), PLAN_NOT_ACCEPTED, 0, 0) && same(&t, &fresh1);
+}
+
+/* P10 is F4's image in edition 1. */
+static const uint8_t p10[30] = {0x0A, 0, 1, 0, 4, 0, 0, 0, 1, 0, 0x14, 0, 2};
+
 static void images(void) {
-    static const uint8_t f4_image[30] = {0x0A, 0, 1, 0, 4, 0, 0, 0, 1, 0, 0x14, 0, 2};
-    uint8_t buffer[40];
+    enum { HEADER = 42, LENGTH = HEADER + 22 };
+    static const uint8_t header[14] = {0x2A, 0, 3, 0, 4, 0, 0, 0, 1, 0, 3, 0, 3, 0}, step[4] = {0x16, 0, 4, 0};
+    uint8_t f4_image[LENGTH], buffer[LENGTH + 10];
     lent m = f4(), n = p1();
-    plan_table fresh1, *t = &n.table;
-    plan_fresh(&fresh1, 1);
+    plan_table *t = &n.table;
+    int all = 1;
+    memset(f4_image, 0, sizeof f4_image);
+    memcpy(f4_image, header, sizeof header);
+    memcpy(f4_image + HEADER, step, sizeof step);
     plan_write_reply w = plan_image_length(&m.table);
-    expect(w.refusal == 0 && w.length == 30, "length of F4's image");
+    expect(w.refusal == 0 && w.length == LENGTH, "length of F4's image");
     memset(buffer, UNTOUCHED, sizeof buffer);
-    w = plan_write_image(&m.table, buffer, 29);
-    expect(w.refusal == PLAN_TOO_SHORT && w.length == 0 && all_untouched(buffer, 40), "F4 written into 29 bytes");
+    w = plan_write_image(&m.table, buffer, LENGTH - 1);
+    expect(w.refusal == PLAN_TOO_SHORT && w.length == 0 && all_untouched(buffer, sizeof buffer), "F4 written into 63 bytes");
     w = plan_write_image(&m.table, buffer, sizeof buffer);
-    expect(w.refusal == 0 && w.length == 30 && memcmp(buffer, f4_image, 30) == 0 && all_untouched(buffer + 30, 10), "P10");
+    expect(w.refusal == 0 && w.length == LENGTH && memcmp(buffer, f4_image, LENGTH) == 0 && all_untouched(buffer + LENGTH, 10), "F4 written");
     w = plan_image_length(t);
-    expect(w.refusal == 0 && w.length == 50, "length of P1's image");
-    expect(gave(plan_load_image(t, f4_image, 30), 0, 0, 0) && same(t, &m.table), "P10 loaded over another table");
-    expect(gave(plan_load_image(t, f4_image, 0), PLAN_NOT_ACCEPTED, 0, 0) && same(t, &fresh1), "no bytes");
+    expect(w.refusal == 0 && w.length == LENGTH + 22, "length of P1's image");
+    expect(gave(plan_load_image(t, f4_image, LENGTH), 0, 0, 0) && same(t, &m.table), "F4's image loaded over another table");
     memset(t, UNTOUCHED, sizeof *t);
-    expect(gave(plan_load_image(t, f4_image, 29), PLAN_NOT_ACCEPTED, 0, 0) && same(t, &fresh1), "an image cut short");
+    expect(gave(plan_load_image(t, p10, sizeof p10), 0, 0, 0) && same(t, &m.table), "P10 loaded over bytes that are no table");
+    expect(not_loaded(f4_image, 0), "no bytes");
+    for (size_t length = 1; length < LENGTH; length++) all = all && not_loaded(f4_image, length);
+    for (size_t length = 1; length < sizeof p10; length++) all = all && not_loaded(p10, length);
+    expect(all, "images cut short");
     expect(edges_stand(&m) && edges_stand(&n), "after the images");
 }
 
-/* One table, one image (W1): records in any order are one table and are written sorted; other strengths are another table and another image. */
-static void one_image(void) {
-    uint8_t written[90], other[90], again[90];
-    plan_table t, u;
-    plan_fresh(&t, 8);
-    plan_add(&t, 0, 0, PLAN_CONTACT, 0);
-    plan_add(&t, 1, 1, PLAN_MESSAGE, 15);
-    plan_add(&t, 2, 2, PLAN_WAIT, 600);
-    expect(plan_write_image(&t, written, 90).length == 90, "four steps are written");
-    memcpy(other, written, 10);
-    for (int k = 0; k < 4; k++) {
-        expect(written[10 + 20 * k + 4] == k, "records ascend");
-        memcpy(other + 10 + 20 * k, written + 10 + 20 * ((k + 3) % 4), 20);
+/* The image of edition 1 with the same records as one of edition 2, without list and cabins; gives its length. */
+static size_t old_image(const uint8_t *image, size_t length, uint8_t *old) {
+    static const uint8_t header[4] = {10, 0, 1, 0}, step[4] = {20, 0, 2, 0};
+    size_t to = 10;
+    memcpy(old, header, 4);
+    memcpy(old + 4, image + 4, 6);
+    for (size_t from = 42; from < length; from += 22, to += 20) {
+        memcpy(old + to, step, 4);
+        memcpy(old + to + 4, image + from + 4, 16);
     }
-    expect(memcmp(other, written, 90) != 0, "another order is other bytes");
-    expect(gave(plan_load_image(&u, other, 90), 0, 0, 0) && same(&t, &u), "another order is the same table");
-    expect(plan_write_image(&u, again, 90).length == 90 && memcmp(again, written, 90) == 0, "and is written sorted");
+    return to;
+}
 
-    plan_fresh(&t, 4);
-    plan_add(&t, 0, 0, PLAN_CONTACT, 0);
+/* Both editions (W5). Of edition 1 all steps are charged to cabin 0, which has all of the capacity; a loaded table is written in edition 2. */
+static void editions(void) {
+    uint8_t image[42 + 3 * 22], old[10 + 3 * 20], again[sizeof image], mixed[sizeof image];
+    const size_t length = sizeof image;
+    lent m = p1();
+    plan_table t;
+    int all = 1;
+    plan_add(&m.table, 1, 1, PLAN_WAIT, 600, 0);
+    plan_link(&m.table, 1, 1, 0, 1);
+    expect(plan_write_image(&m.table, image, length).length == length && old_image(image, length, old) == sizeof old, "three steps in both editions");
+    memset(&t, UNTOUCHED, sizeof t);
+    expect(gave(plan_load_image(&t, old, sizeof old), 0, 0, 0) && same(&t, &m.table), "edition 1 is loaded");
+    for (int i = 0; i < PLAN_CABINS; i++) {
+        const uint16_t most = i == 0 ? 3 : 0;
+        all = all && t.quotas[i].guarantee == most && t.quotas[i].limit == most;
+    }
+    expect(all && plan_read(&t, 2).cabin == 0, "cabin 0 has all of it");
+    expect(plan_write_image(&t, again, length).length == length && memcmp(again, image, length) == 0, "and written as edition 2");
+    memcpy(again, old, sizeof old);
+    again[4] = 0;
+    expect(not_loaded(again, sizeof old), "edition 1 with capacity 0");
+    again[4] = 2;
+    expect(not_loaded(again, sizeof old), "edition 1 with a step at the capacity");
+    memcpy(mixed, image, 42);
+    memcpy(mixed + 42, old + 10, 60);
+    expect(not_loaded(mixed, 42 + 60), "the header of edition 2, steps of edition 1");
+    memcpy(mixed, old, 10);
+    memcpy(mixed + 10, image + 42, 66);
+    expect(not_loaded(mixed, 10 + 66), "the header of edition 1, steps of edition 2");
+    memcpy(mixed, image, length);
+    memcpy(mixed + 42 + 44, old + 10 + 40, 20);
+    expect(not_loaded(mixed, length - 2), "the last step of edition 1");
+    mixed[length - 2] = mixed[length - 1] = 0;
+    expect(not_loaded(mixed, length), "the same, as long as one of edition 2");
+    memcpy(mixed, old, sizeof old);
+    memcpy(mixed + 10 + 40, image + 42 + 44, 22);
+    expect(not_loaded(mixed, sizeof old + 2), "the last step of edition 2");
+    memcpy(mixed, image, length);
+    mixed[0] = 10;
+    expect(not_loaded(mixed, length), "kind 3 with length 10");
+    mixed[0] = 42, mixed[2] = 1;
+    expect(not_loaded(mixed, length), "kind 1 with length 42");
+    expect(edges_stand(&m), "after the editions");
+}
+
+/* One table, one image (W1): records in any order are one table and are written sorted; other strengths are another table and another image, and so
+ * are other cabins and other limits. */
+static void one_image(void) {
+    enum { LENGTH = 42 + 4 * 22, BITS = 42 + 10 };
+    uint8_t written[LENGTH], other[LENGTH], again[LENGTH];
+    plan_table t, u;
+    fresh(&t, 8);
+    plan_add(&t, 0, 0, PLAN_CONTACT, 0, 0);
+    plan_add(&t, 1, 1, PLAN_MESSAGE, 15, 0);
+    plan_add(&t, 2, 2, PLAN_WAIT, 600, 0);
+    expect(plan_write_image(&t, written, LENGTH).length == LENGTH, "four steps are written");
+    memcpy(other, written, 42);
+    for (int k = 0; k < 4; k++) {
+        expect(written[42 + 22 * k + 4] == k, "records ascend");
+        memcpy(other + 42 + 22 * k, written + 42 + 22 * ((k + 3) % 4), 22);
+    }
+    expect(memcmp(other, written, LENGTH) != 0, "another order is other bytes");
+    expect(gave(plan_load_image(&u, other, LENGTH), 0, 0, 0) && same(&t, &u), "another order is the same table");
+    expect(plan_write_image(&u, again, LENGTH).length == LENGTH && memcmp(again, written, LENGTH) == 0, "and is written sorted");
+
+    fresh(&t, 4);
+    plan_add(&t, 0, 0, PLAN_CONTACT, 0, 0);
     plan_link(&t, 0, 0, 0, 1);
-    plan_fresh(&u, 4);
-    plan_add(&u, 0, 1, PLAN_CONTACT, 0);
+    fresh(&u, 4);
+    plan_add(&u, 0, 1, PLAN_CONTACT, 0, 0);
     plan_link(&u, 0, 1, 0, 0);
-    plan_write_image(&t, written, 50);
-    plan_write_image(&u, other, 50);
-    expect(written[20] == 2 && other[20] == 1, "one plan, other strengths: the bits of step 0");
-    other[20] = 2;
-    expect(memcmp(written, other, 50) == 0, "and nothing else");
+    plan_write_image(&t, written, LENGTH);
+    plan_write_image(&u, other, LENGTH);
+    expect(written[BITS] == 2 && other[BITS] == 1, "one plan, other strengths: the bits of step 0");
+    other[BITS] = 2;
+    expect(memcmp(written, other, 42 + 2 * 22) == 0, "and nothing else");
+}
+
+/* The image of a table in which the fields of step 2 all differ: the list in the header, the cabin last in a record. */
+static void image_fields(void) {
+    enum { RECORD = 42 + 2 * 22 };
+    uint8_t image[42 + 8 * 22];
+    plan_table t, u;
+    for (int p = 0; p < 3; p++) {
+        int all = 1;
+        t = different(patterns[p]);
+        expect(plan_write_image(&t, image, sizeof image).length == sizeof image, "eight steps are written");
+        for (int i = 0; i < PLAN_CABINS; i++) {
+            const uint8_t *pair = image + 10 + 4 * i;
+            all = all && pair[0] == t.quotas[i].guarantee && pair[1] == 0 && pair[2] == (300 + i) % 256 && pair[3] == 1;
+        }
+        expect(all && image[0] == 42 && image[2] == 3 && image[4] == 11 && image[6] == 9 && image[8] == 8, "the header");
+        expect(image[RECORD] == 22 && image[RECORD + 2] == 4 && image[RECORD + 4] == 2 && image[RECORD + 20] == 2, "the record of step 2");
+        expect(gave(plan_load_image(&u, image, sizeof image), 0, 0, 0) && same(&u, &t), "it is loaded again");
+    }
 }
 
 /* Tries every call that can be refused on a table, whichever refusal comes, and says whether a refused call left every byte. */
@@ -239,14 +366,15 @@ static int leaves_every_byte(lent *m, const uint16_t a[4], const uint8_t *line) 
     uint8_t lent_bytes[PLAN_IMAGE_MAX];
     const size_t room = sizeof lent_bytes;
     const uint8_t results[2] = {(uint8_t)a[0], (uint8_t)a[1]};
+    const plan_quota quotas[PLAN_CABINS] = {{a[1], a[2]}, {a[3], a[0]}};
     int all = 1;
-    if (plan_add(t, a[0], a[1], a[2], a[3]).refusal) all = all && memcmp(m, &was, sizeof was) == 0;
+    if (plan_add(t, a[0], a[1], a[2], a[3], a[1]).refusal) all = all && memcmp(m, &was, sizeof was) == 0;
     *m = was;
     if (plan_link(t, a[0], a[1], a[2], a[3]).refusal) all = all && memcmp(m, &was, sizeof was) == 0;
     *m = was;
     if (plan_clear(t, a[0], a[1]).refusal) all = all && memcmp(m, &was, sizeof was) == 0;
     *m = was;
-    if (plan_squeeze(t, a[0]).refusal) all = all && memcmp(m, &was, sizeof was) == 0;
+    if (plan_squeeze(t, a[0], quotas).refusal) all = all && memcmp(m, &was, sizeof was) == 0;
     *m = was;
     if (plan_key_line(t, line, strlen((const char *)line)).refusal) all = all && memcmp(m, &was, sizeof was) == 0;
     *m = was;
@@ -274,17 +402,17 @@ static void refusals(void) {
     lent f = f4(), p = p1(), out = f4(), one = f4();
     plan_table fresh1;
     int all = 1;
-    expect(gave(plan_fresh(&fresh1, 1), 0, 0, 0) && gave(plan_fresh(&one.table, 128), 0, 0, 0), "fresh 1 and 128");
+    expect(gave(fresh(&fresh1, 1), 0, 0, 0) && gave(fresh(&one.table, 128), 0, 0, 0), "fresh 1 and 128");
     for (int i = 0; i < 5; i++) {
         memset(&one.table, UNTOUCHED, sizeof one.table);
-        all = all && gave(plan_fresh(&one.table, capacities[i]), PLAN_BAD_CAPACITY, 0, 0) && same(&one.table, &fresh1);
+        all = all && gave(fresh(&one.table, capacities[i]), PLAN_BAD_CAPACITY, 0, 0) && same(&one.table, &fresh1);
     }
     expect(all && edges_stand(&one), "capacities that are refused");
     out.table.used[0] = 0;
-    REFUSED(1, out, plan_add(&out.table, 9, 9, 9, 9));
+    REFUSED(1, out, plan_add(&out.table, 9, 9, 9, 9, 9));
     REFUSED(1, out, plan_link(&out.table, 9, 9, 9, 9));
     REFUSED(1, out, plan_clear(&out.table, 9, 9));
-    REFUSED(1, out, plan_squeeze(&out.table, 0));
+    REFUSED(1, out, squeeze(&out.table, 0));
     REFUSED(1, out, plan_counts(&out.table));
     REFUSED(1, out, plan_key_line(&out.table, (const uint8_t *)"H*5A", 4));
     expect(plan_is_sound(&out.table) == 0 && plan_read(&out.table, 9).refusal == 1, "read of a table that is not sound");
@@ -292,31 +420,32 @@ static void refusals(void) {
     expect(plan_write_image(&out.table, one.before, 0).refusal == 1, "image of one");
     expect(plan_trial(&out.table, 1, out.before, EDGE, one.before, 0).refusal == 1 && edges_stand(&one), "trial of one");
     expect(plan_read(&f.table, 1).refusal == 3 && plan_read(&f.table, 65535).refusal == 3, "F4, read 1");
-    REFUSED(3, f, plan_add(&f.table, 1, 4, 0, 0));
+    /* cabin 7 may have no step, so that 14 would come later */
+    REFUSED(3, f, plan_add(&f.table, 1, 4, 0, 0, 7));
     REFUSED(3, f, plan_link(&f.table, 256, 4, 9, 9));
     REFUSED(3, f, plan_clear(&f.table, 128, 4));
     REFUSED(4, f, plan_clear(&f.table, 0, 4));
-    REFUSED(4, p, plan_add(&p.table, 0, 256, 0, 0));
+    REFUSED(4, p, plan_add(&p.table, 0, 256, 0, 0, 7));
     REFUSED(4, p, plan_link(&p.table, 0, 4, 9, 9));
     REFUSED(4, p, plan_link(&p.table, 0, 0, 0, 4));
-    REFUSED(5, p, plan_add(&p.table, 0, 0, 0, 0));
+    REFUSED(5, p, plan_add(&p.table, 0, 0, 0, 0, 7));
     REFUSED(5, p, plan_link(&p.table, 0, 0, 0, 0));
     REFUSED(6, f, plan_clear(&f.table, 0, 0));
     REFUSED(6, f, plan_link(&f.table, 0, 0, 9, 9));
-    REFUSED(7, f, plan_add(&f.table, 0, 0, PLAN_WAIT, 0));
-    REFUSED(7, f, plan_add(&f.table, 0, 0, PLAN_WAIT, 601));
-    REFUSED(7, f, plan_add(&f.table, 0, 0, PLAN_CONTACT, 100));
-    REFUSED(7, f, plan_add(&f.table, 0, 0, PLAN_MESSAGE, 16));
-    REFUSED(7, f, plan_add(&f.table, 0, 0, PLAN_ALARM, 0));
-    REFUSED(7, f, plan_add(&f.table, 0, 0, 257, 0));
+    REFUSED(7, f, plan_add(&f.table, 0, 0, PLAN_WAIT, 0, 7));
+    REFUSED(7, f, plan_add(&f.table, 0, 0, PLAN_WAIT, 601, 0));
+    REFUSED(7, f, plan_add(&f.table, 0, 0, PLAN_CONTACT, 100, 0));
+    REFUSED(7, f, plan_add(&f.table, 0, 0, PLAN_MESSAGE, 16, 0));
+    REFUSED(7, f, plan_add(&f.table, 0, 0, PLAN_ALARM, 0, 0));
+    REFUSED(7, f, plan_add(&f.table, 0, 0, 257, 0, 0));
     one.table = fresh1;
-    REFUSED(8, one, plan_add(&one.table, 0, 0, PLAN_CONTACT, 0));
+    REFUSED(8, one, plan_add(&one.table, 0, 0, PLAN_CONTACT, 0, 0));
     REFUSED(9, f, plan_key_line(&f.table, (const uint8_t *)"H*5A", 4));
     REFUSED(9, f, plan_key_line(&f.table, (const uint8_t *)"H*4A ", 5));
     REFUSED(9, f, plan_key_line(&f.table, f.before, 0));
     REFUSED(6, f, plan_key_line(&f.table, (const uint8_t *)"H*30000A", 8));
-    for (int i = 0; i < 5; i++) REFUSED(2, p, plan_squeeze(&p.table, capacities[i]));
-    REFUSED(13, p, plan_squeeze(&p.table, 1));
+    for (int i = 0; i < 5; i++) REFUSED(2, p, squeeze(&p.table, capacities[i]));
+    REFUSED(13, p, squeeze(&p.table, 1));
     all = 1;
     for (int i = 0; i < 8 * 8 * 8 * 8; i++) {
         const uint16_t a[4] = {odd[i % 8], odd[i / 8 % 8], odd[i / 64 % 8], odd[i / 512]};
@@ -325,6 +454,152 @@ static void refusals(void) {
         for (int k = 0; k < 4; k++) all = all && leaves_every_byte(tables[k], a, (const uint8_t *)lines[i % 5]);
     }
     expect(all, "a refused call leaves every byte, and so does a call that reads");
+}
+
+/* Whether fresh answers so over bytes that are no table, and leaves the list as it is: refused, with a fresh table of capacity 1; else with a table
+ * that has the list, and is otherwise that of one cabin. */
+static int made(uint16_t capacity, const plan_quota quotas[PLAN_CABINS], int refusal) {
+    lent m;
+    plan_table expected;
+    plan_quota list[PLAN_CABINS];
+    memset(&m, UNTOUCHED, sizeof m);
+    memcpy(list, quotas, sizeof list);
+    fresh(&expected, refusal ? 1 : capacity);
+    if (!refusal) memcpy(expected.quotas, quotas, sizeof expected.quotas);
+    if (!gave(plan_fresh(&m.table, capacity, list), refusal, 0, 0) || memcmp(list, quotas, sizeof list) != 0) return 0;
+    return same(&m.table, &expected) && edges_stand(&m) && plan_is_sound(&m.table) == 1;
+}
+
+/* Lists of guarantees and limits (W5): that of one cabin, and those that a fresh table takes or refuses. */
+static void lists(void) {
+    static const uint16_t capacities[6] = {0, 1, 2, 128, 129, 65535};
+    plan_quota around[PLAN_CABINS + 2], quotas[PLAN_CABINS];
+    int all = 1;
+    for (int i = 0; i < 6; i++) {
+        const uint16_t most = (uint16_t)(capacities[i] ? capacities[i] - 1 : 0);
+        memset(around, UNTOUCHED, sizeof around);
+        plan_sole_quotas(around + 1, capacities[i]);
+        for (int k = 0; k < PLAN_CABINS; k++) all = all && around[k + 1].guarantee == (k ? 0 : most) && around[k + 1].limit == (k ? 0 : most);
+        all = all && all_untouched((const uint8_t *)around, sizeof around[0]);
+        all = all && all_untouched((const uint8_t *)(around + PLAN_CABINS + 1), sizeof around[0]);
+    }
+    expect(all, "the list of one cabin");
+    memset(quotas, 0, sizeof quotas);
+    expect(made(1, quotas, PLAN_DONE) && made(128, quotas, PLAN_DONE), "a list of zeros");
+    for (int i = 0; i < PLAN_CABINS; i++) {
+        quotas[i].guarantee = 3;
+        quotas[i].limit = 2;
+        expect(made(128, quotas, PLAN_BAD_CABINS), "a limit below its guarantee");
+        expect(made(129, quotas, PLAN_BAD_CAPACITY) && made(0, quotas, PLAN_BAD_CAPACITY), "and a capacity out of range");
+        quotas[i].limit = 3;
+        expect(made(4, quotas, PLAN_DONE) && made(3, quotas, PLAN_BAD_CABINS), "one cabin is guaranteed all steps, or one more");
+        quotas[i].guarantee = 0;
+        quotas[i].limit = 65535;
+    }
+    expect(made(1, quotas, PLAN_DONE) && made(128, quotas, PLAN_DONE), "no bound on limits");
+    for (uint16_t i = 0; i < PLAN_CABINS; i++) quotas[i].guarantee = i;
+    expect(made(29, quotas, PLAN_DONE) && made(28, quotas, PLAN_BAD_CABINS), "guarantees together, 28");
+    for (int i = 0; i < PLAN_CABINS; i++) quotas[i].guarantee = 65536 / PLAN_CABINS;
+    expect(made(128, quotas, PLAN_BAD_CABINS), "guarantees together, 65,536");
+    memset(quotas, 0, sizeof quotas);
+    quotas[2].guarantee = quotas[5].guarantee = 32768;
+    quotas[2].limit = quotas[5].limit = 65535;
+    expect(made(128, quotas, PLAN_BAD_CABINS) && made(1, quotas, PLAN_BAD_CABINS), "twice 32,768");
+}
+
+/* Adds of several cabins, one step below the other. Cabin 0 is guaranteed 1 step and may have 2, cabin 1 2 and 3, cabin 3 none and 5; the others may
+ * have none. */
+static void cabins(void) {
+    static const plan_quota quotas[PLAN_CABINS] = {{1, 2}, {2, 3}, {0, 0}, {0, 5}};
+    static const uint16_t charged[6] = {0, 3, 3, 0, 1, 1};
+    lent m = f4(), out;
+    plan_table *t = &m.table;
+    expect(gave(plan_fresh(t, 6, quotas), 0, 0, 0), "a table of three cabins");
+    REFUSED(16, m, plan_add(t, 0, 0, PLAN_CONTACT, 0, 8));
+    REFUSED(16, m, plan_add(t, 9, 9, 9, 9, 256));
+    REFUSED(16, m, plan_add(t, 9, 9, 9, 9, 65535));
+    out = m;
+    out.table.last = 6;
+    REFUSED(1, out, plan_add(&out.table, 9, 9, 9, 9, 8));
+    REFUSED(14, m, plan_add(t, 0, 0, PLAN_CONTACT, 0, 2));
+    REFUSED(7, m, plan_add(t, 0, 0, PLAN_CONTACT, 100, 2));
+    expect(gave(plan_add(t, 0, 0, PLAN_CONTACT, 0, 3), 0, 1, 0) && gave(plan_add(t, 1, 0, PLAN_CONTACT, 0, 3), 0, 2, 0), "two that are not reserved");
+    REFUSED(15, m, plan_add(t, 2, 0, PLAN_CONTACT, 0, 3));
+    REFUSED(14, m, plan_add(t, 2, 0, PLAN_CONTACT, 0, 2));
+    REFUSED(7, m, plan_add(t, 2, 0, PLAN_ALARM, 0, 3));
+    expect(gave(plan_add(t, 2, 0, PLAN_CONTACT, 0, 0), 0, 3, 0), "the step that cabin 0 is guaranteed");
+    REFUSED(15, m, plan_add(t, 3, 0, PLAN_CONTACT, 0, 0));
+    expect(gave(plan_add(t, 3, 0, PLAN_CONTACT, 0, 1), 0, 4, 0) && gave(plan_add(t, 4, 0, PLAN_CONTACT, 0, 1), 0, 5, 0), "the two of cabin 1");
+    for (uint16_t i = 0; i < 4; i++) REFUSED(8, m, plan_add(t, 5, 0, PLAN_CONTACT, 0, i));
+    REFUSED(16, m, plan_add(t, 5, 0, PLAN_CONTACT, 0, 8));
+    for (uint16_t i = 0; i < 6; i++) expect(t->cabins[i] == charged[i] && plan_read(t, i).cabin == charged[i], "the cabin of a step");
+    expect(gave(plan_clear(t, 4, 0), 0, 1, 1) && t->cabins[5] == 0, "a freed step has cabin 0");
+    REFUSED(15, m, plan_add(t, 4, 0, PLAN_CONTACT, 0, 3));
+    REFUSED(15, m, plan_add(t, 4, 0, PLAN_CONTACT, 0, 0));
+    expect(gave(plan_add(t, 4, 0, PLAN_CONTACT, 0, 1), 0, 5, 0) && t->cabins[5] == 1, "it is kept for the cabin that had it");
+    expect(gave(plan_clear(t, 0, 0), 0, 5, 5) && gave(plan_add(t, 0, 0, PLAN_CONTACT, 0, 3), 0, 1, 0), "a charge goes with its steps");
+    expect(memcmp(t->quotas, quotas, sizeof quotas) == 0 && edges_stand(&m), "the list stays");
+}
+
+/* A cabin below its guarantee is never refused for want of a step: all others add until they are refused, then it adds what it is guaranteed. */
+static void guarantees(void) {
+    plan_quota quotas[PLAN_CABINS];
+    for (uint16_t i = 0; i < PLAN_CABINS; i++) quotas[i].guarantee = i, quotas[i].limit = 128;
+    for (uint16_t cabin = 0; cabin < PLAN_CABINS; cabin++) {
+        const uint16_t wanted = cabin ? PLAN_STEPS_RESERVED : PLAN_FULL;
+        plan_table t;
+        uint16_t last = 0;
+        int all = gave(plan_fresh(&t, 128, quotas), 0, 0, 0);
+        for (uint16_t other = 0; other < PLAN_CABINS; other++) {
+            plan_reply r;
+            if (other == cabin) continue;
+            while ((r = plan_add(&t, last, 0, PLAN_WAIT, 1, other)).refusal == PLAN_DONE) last = r.first;
+        }
+        for (uint16_t other = 0; other < PLAN_CABINS; other++) {
+            if (other != cabin) all = all && plan_add(&t, last, 0, PLAN_WAIT, 1, other).refusal == wanted;
+        }
+        expect(all && gave(plan_counts(&t), 0, 128 - cabin, cabin), "all other cabins have what they get");
+        for (uint16_t i = 0; i < cabin; i++, last++) all = all && gave(plan_add(&t, last, 0, PLAN_WAIT, 1, cabin), 0, last + 1, 0);
+        expect(all && plan_add(&t, last, 0, PLAN_WAIT, 1, cabin).refusal == PLAN_FULL, "a cabin gets what it is guaranteed");
+    }
+}
+
+/* Key lines add for cabin 0, and are refused as it is. */
+static void keyed_cabins(void) {
+    static const plan_quota few[PLAN_CABINS] = {{0, 1}, {0, 9}}, none[PLAN_CABINS] = {{0, 3}, {3, 3}};
+    const uint8_t *line = (const uint8_t *)"H*100001000A", *second = (const uint8_t *)"H*100011000A";
+    lent m = f4();
+    plan_fresh(&m.table, 4, few);
+    expect(gave(plan_key_line(&m.table, line, 12), 0, 1, 0) && plan_read(&m.table, 1).cabin == 0, "a key line adds for cabin 0");
+    REFUSED(14, m, plan_key_line(&m.table, second, 12));
+    expect(gave(plan_add(&m.table, 0, 1, PLAN_CONTACT, 0, 1), 0, 2, 0), "another cabin adds");
+    plan_fresh(&m.table, 4, none);
+    REFUSED(15, m, plan_key_line(&m.table, line, 12));
+}
+
+/* What soundness asks of cabins: each of these tables fails one clause. */
+static void unsound_cabins(void) {
+    static const plan_quota quotas[PLAN_CABINS] = {{1, 2}, {2, 3}, {0, 0}, {0, 5}};
+    lent m = f4(), tables[9];
+    plan_table *t = &m.table;
+    plan_fresh(t, 6, quotas);
+    plan_add(t, 0, 0, PLAN_CONTACT, 0, 3);
+    plan_add(t, 1, 0, PLAN_CONTACT, 0, 3);
+    expect(plan_is_sound(t) == 1, "a table with steps of cabin 3");
+    for (int i = 0; i < 9; i++) tables[i] = m;
+    tables[0].table.cabins[1] = 8;
+    tables[1].table.cabins[1] = 65535;
+    tables[2].table.cabins[0] = 3;
+    tables[3].table.cabins[3] = 3;
+    tables[4].table.cabins[127] = 1;
+    tables[5].table.quotas[7].guarantee = 1;
+    tables[6].table.quotas[3].limit = 1;
+    tables[7].table.quotas[1].guarantee = 3;
+    tables[8].table.quotas[2].guarantee = 65533, tables[8].table.quotas[2].limit = 65535;
+    for (int i = 0; i < 9; i++) {
+        expect(plan_is_sound(&tables[i].table) == 0, "a table that is not sound by its cabins");
+        REFUSED(1, tables[i], plan_add(&tables[i].table, 2, 0, PLAN_CONTACT, 0, 0));
+    }
 }
 
 /* A squeeze (W2). Steps 0, 2, 3 and 5 become 0 to 3: a ring 2 to 3 to 5 to 2, which step 0 enters at 5, weak links from 3 to 5 and to itself, and own
@@ -337,8 +612,8 @@ static void squeezes(void) {
     static const uint16_t counts[8] = {0, 0, 0, 1, 1, 1, 1, 1}, capacities[4] = {4, 5, 8, 128}, upward[4] = {4, 5, 6, 7};
     lent m = f4(), n;
     plan_table *t = &m.table, expected;
-    plan_fresh(t, 8);
-    for (int i = 0; i < 5; i++) plan_add(t, adds[i][0], adds[i][1], adds[i][2], adds[i][3]);
+    fresh(t, 8);
+    for (int i = 0; i < 5; i++) plan_add(t, adds[i][0], adds[i][1], adds[i][2], adds[i][3], 0);
     plan_link(t, 0, 1, 5, 0);
     plan_link(t, 2, 0, 3, 1);
     plan_link(t, 3, 3, 0, 3);
@@ -356,19 +631,60 @@ static void squeezes(void) {
     for (int i = 0; i < 4; i++) {
         n = m;
         expected.capacity = capacities[i];
-        expect(gave(plan_squeeze(&n.table, capacities[i]), 0, 0, 0) && same(&n.table, &expected) && edges_stand(&n), "squeezed");
-        expect(gave(plan_squeeze(&n.table, capacities[i]), 0, 0, 0) && same(&n.table, &expected) && edges_stand(&n), "squeezed twice");
+        plan_sole_quotas(expected.quotas, capacities[i]);
+        expect(gave(squeeze(&n.table, capacities[i]), 0, 0, 0) && same(&n.table, &expected) && edges_stand(&n), "squeezed");
+        expect(gave(squeeze(&n.table, capacities[i]), 0, 0, 0) && same(&n.table, &expected) && edges_stand(&n), "squeezed twice");
     }
-    expect(gave(plan_squeeze(&n.table, 5), 0, 0, 0) && gave(plan_add(&n.table, 0, 0, PLAN_WAIT, 1), 0, 4, 0), "add after a squeeze");
-    REFUSED(PLAN_FULL, n, plan_add(&n.table, 0, 1, PLAN_WAIT, 1));
-    REFUSED(PLAN_DOES_NOT_FIT, n, plan_squeeze(&n.table, 4));
-    REFUSED(PLAN_DOES_NOT_FIT, m, plan_squeeze(&m.table, 3));
-    REFUSED(PLAN_BAD_CAPACITY, m, plan_squeeze(&m.table, 0));
+    expect(gave(squeeze(&n.table, 5), 0, 0, 0) && gave(plan_add(&n.table, 0, 0, PLAN_WAIT, 1, 0), 0, 4, 0), "add after a squeeze");
+    REFUSED(PLAN_FULL, n, plan_add(&n.table, 0, 1, PLAN_WAIT, 1, 0));
+    REFUSED(PLAN_DOES_NOT_FIT, n, squeeze(&n.table, 4));
+    REFUSED(PLAN_DOES_NOT_FIT, m, squeeze(&m.table, 3));
+    REFUSED(PLAN_BAD_CAPACITY, m, squeeze(&m.table, 0));
     for (int p = 0; p < 3; p++) {
+        plan_quota quotas[PLAN_CABINS];
         plan_table u = different(patterns[p]);
         expected = numbered(8, 7, patterns[p], upward);
-        expect(gave(plan_squeeze(&u, 8), 0, 0, 0) && same(&u, &expected), "squeezed with all fields of step 2 different");
+        listed(quotas, 8);
+        expect(gave(plan_squeeze(&u, 8, quotas), 0, 0, 0) && same(&u, &expected), "squeezed with all fields of step 2 different");
     }
+}
+
+/* Lists of a squeeze (W5): 16 after 2 and before 13, and 13 where the charges do not fit the list. The table has eight steps; each cabin but 4 has
+ * one. */
+static void squeezed_lists(void) {
+    plan_quota quotas[PLAN_CABINS];
+    lent m = f4(), n;
+    m.table = different(patterns[0]);
+    n = m;
+    n.table.last = 11;
+    listed(quotas, 8);
+    quotas[4].guarantee = 301, quotas[4].limit = 300;
+    REFUSED(1, n, plan_squeeze(&n.table, 0, quotas));
+    REFUSED(2, m, plan_squeeze(&m.table, 129, quotas));
+    REFUSED(16, m, plan_squeeze(&m.table, 7, quotas));
+    REFUSED(16, m, plan_squeeze(&m.table, 128, quotas));
+    listed(quotas, 12);
+    REFUSED(13, m, plan_squeeze(&m.table, 11, quotas));
+    REFUSED(16, m, plan_squeeze(&m.table, 8, quotas));
+    quotas[1].guarantee = quotas[3].guarantee = 32768, quotas[1].limit = quotas[3].limit = 65535;
+    REFUSED(16, m, plan_squeeze(&m.table, 128, quotas));
+    REFUSED(13, m, squeeze(&m.table, 11));
+    REFUSED(13, m, squeeze(&m.table, 128));
+    for (int i = 0; i < PLAN_CABINS; i++) {
+        const int fits = i == 4;
+        listed(quotas, 8);
+        quotas[i].guarantee = quotas[i].limit = 0;
+        n = m;
+        expect(gave(plan_squeeze(&n.table, 8, quotas), fits ? 0 : 13, 0, 0), "a cabin with a limit of 0");
+        expect(fits || memcmp(&n, &m, sizeof n) == 0, "which changes nothing where it does not fit");
+    }
+    memcpy(quotas, m.table.quotas, sizeof quotas);
+    n = m;
+    expect(gave(plan_squeeze(&n.table, 128, quotas), 0, 0, 0) && memcmp(n.table.quotas, quotas, sizeof quotas) == 0, "the list of before");
+    expect(gave(plan_add(&n.table, 0, 3, PLAN_WAIT, 1, 1), 0, 8, 0) && n.table.cabins[8] == 1, "more room for all cabins");
+    for (int i = 0; i < PLAN_CABINS; i++) quotas[i].guarantee = 0, quotas[i].limit = i == 4 ? 0 : 2;
+    expect(gave(plan_squeeze(&n.table, 9, quotas), 0, 0, 0) && memcmp(n.table.quotas, quotas, sizeof quotas) == 0, "and full again");
+    expect(plan_is_sound(&n.table) == 1 && edges_stand(&n), "after the lists");
 }
 
 /* Whether a trial ends so after these steps, and leaves the table and the bytes around the trace and past the moves. The trace is as long as the
@@ -407,17 +723,17 @@ static void trials(void) {
     static const uint8_t round[9] = {1, 2, 3, 4, 1, 2, 3, 4, 5}, other[2] = {1, 6}, wait[3] = {1, 1, 1};
     lent m = f4(), f = f4();
     plan_table *t = &m.table;
-    plan_add(t, 0, 0, PLAN_WAIT, 1);
+    plan_add(t, 0, 0, PLAN_WAIT, 1, 0);
     plan_link(t, 0, 0, 1, 0);
     expect(tried(t, 3, results, 0, PLAN_STOPPED, wait, 3), "W3's example");
     expect(tried(&f.table, 0, results, 0, PLAN_OPEN, wait, 0), "F4 with limit 0");
     expect(tried(&f.table, 65535, results, 6, PLAN_OPEN, wait, 0), "F4 with limit 65535");
-    plan_fresh(t, 128);
-    for (uint16_t step = 0; step < 127; step++) upward[step] = (uint8_t)plan_add(t, step, 0, PLAN_MESSAGE, 0).first;
+    fresh(t, 128);
+    for (uint16_t step = 0; step < 127; step++) upward[step] = (uint8_t)plan_add(t, step, 0, PLAN_MESSAGE, 0, 0).first;
     expect(tried(t, 127, results, 6, PLAN_OPEN, upward, 127), "127 messages, open at the limit");
     expect(tried(t, 126, results, 6, PLAN_STOPPED, upward, 126), "127 messages, stopped before the last");
-    plan_fresh(t, 7);
-    for (int i = 0; i < 6; i++) plan_add(t, adds[i][0], adds[i][1], adds[i][2], adds[i][3]);
+    fresh(t, 7);
+    for (int i = 0; i < 6; i++) plan_add(t, adds[i][0], adds[i][1], adds[i][2], adds[i][3], 0);
     plan_link(t, 0, 0, 4, PLAN_NO_REPLY);
     plan_link(t, 0, 0, 2, PLAN_ENGAGED);
     plan_link(t, 0, 0, 3, PLAN_NO_REPLY);
@@ -448,22 +764,22 @@ static void trials(void) {
 
 /* Lengths that 8 or 16 bits do not hold: limits, results, traces, buffers, images and key lines. */
 static void lengths(void) {
-    enum { MOST = 70000, LINE = 1000000 };
+    enum { MOST = 70000, LINE = 1000000, LENGTH = 42 + 2 * 22 };
     static const uint16_t limits[5] = {256, 257, 300, 65534, 65535};
     static const size_t many[4] = {65535, 65536, 65537, MOST};
     static uint8_t results[MOST], lent_bytes[MOST + 1], line[LINE], ones[65535];
     lent m = p1();
     memset(ones, 1, sizeof ones);
     memset(results, PLAN_ENGAGED, sizeof results);
-    plan_fresh(&m.table, 4);
-    plan_add(&m.table, 0, 0, PLAN_WAIT, 600);
+    fresh(&m.table, 4);
+    plan_add(&m.table, 0, 0, PLAN_WAIT, 600, 0);
     plan_link(&m.table, 0, 0, 1, 0);
     for (int i = 0; i < 5; i++) {
         expect(tried(&m.table, limits[i], results, 0, PLAN_STOPPED, ones, limits[i]), "a ring of waits, no results");
         expect(tried(&m.table, limits[i], results, 65536, PLAN_STOPPED, ones, limits[i]), "a ring of waits, results left");
     }
-    plan_fresh(&m.table, 4);
-    plan_add(&m.table, 0, 0, PLAN_CONTACT, 0);
+    fresh(&m.table, 4);
+    plan_add(&m.table, 0, 0, PLAN_CONTACT, 0, 0);
     plan_link(&m.table, 0, 0, 1, PLAN_ENGAGED);
     const lent was = m;
     for (int i = 0; i < 5; i++) {
@@ -479,20 +795,20 @@ static void lengths(void) {
     expect(not_tried(&m.table, 300, results, MOST, 300, PLAN_BAD_RESULT), "a result above 3 behind 65,536 others");
     memset(lent_bytes, UNTOUCHED, sizeof lent_bytes);
     plan_write_reply w = plan_write_image(&m.table, lent_bytes, 65536);
-    expect(w.refusal == 0 && w.length == 50 && all_untouched(lent_bytes + 50, sizeof lent_bytes - 50), "an image into 65,536 bytes");
+    expect(w.refusal == 0 && w.length == LENGTH && all_untouched(lent_bytes + LENGTH, sizeof lent_bytes - LENGTH), "an image into 65,536 bytes");
     expect(memcmp(&m, &was, sizeof m) == 0, "the table after them");
     memcpy(line, "H*4A", 4);
     REFUSED(9, m, plan_key_line(&m.table, line, 65536 + 4));
     REFUSED(9, m, plan_key_line(&m.table, line, LINE));
-    expect(gave(plan_load_image(&m.table, lent_bytes, 65536 + 50), PLAN_NOT_ACCEPTED, 0, 0), "an image and 65,536 bytes");
-    expect(gave(plan_load_image(&m.table, lent_bytes, 50), 0, 0, 0) && same(&m.table, &was.table), "the image alone");
+    expect(gave(plan_load_image(&m.table, lent_bytes, 65536 + LENGTH), PLAN_NOT_ACCEPTED, 0, 0), "an image and 65,536 bytes");
+    expect(gave(plan_load_image(&m.table, lent_bytes, LENGTH), 0, 0, 0) && same(&m.table, &was.table), "the image alone");
 }
 
 static void keys(void) {
     static const char *const lines[5] = {"H*100001000A", "H*200000012A", "H*30000A", "H*4A", "H*30000A"};
     static const int answers[5][3] = {{0, 1, 0}, {0, 0, 0}, {0, 1, 1}, {0, 1, 127}, {6, 0, 0}};
     lent m = f4();
-    plan_fresh(&m.table, 128);
+    fresh(&m.table, 128);
     for (int i = 0; i < 5; i++) {
         plan_reply r = plan_key_line(&m.table, (const uint8_t *)lines[i], strlen(lines[i]));
         expect(gave(r, answers[i][0], answers[i][1], answers[i][2]) && edges_stand(&m), lines[i]);
@@ -508,7 +824,7 @@ static void wild(void) {
     memset(&m, UNTOUCHED, sizeof m);
     for (int value = 0; value < 256; value++) {
         memset(&m.table, value, sizeof m.table);
-        all = all && plan_is_sound(&m.table) == 0 && gave(plan_add(&m.table, 0, 0, 1, 0), 1, 0, 0) && gave(plan_clear(&m.table, 0, 0), 1, 0, 0);
+        all = all && plan_is_sound(&m.table) == 0 && gave(plan_add(&m.table, 0, 0, 1, 0, 0), 1, 0, 0) && gave(plan_clear(&m.table, 0, 0), 1, 0, 0);
         all = all && leaves_every_byte(&m, a, (const uint8_t *)"H*4A");
     }
     expect(all, "bytes that are no sound table");
@@ -519,9 +835,17 @@ int main(void) {
     edits();
     fields();
     images();
+    editions();
     one_image();
+    image_fields();
     refusals();
+    lists();
+    cabins();
+    guarantees();
+    keyed_cabins();
+    unsound_cabins();
     squeezes();
+    squeezed_lists();
     trials();
     lengths();
     keys();

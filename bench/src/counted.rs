@@ -1,18 +1,26 @@
 //! (b) The same job in Rust: bits and counters in a table that is changed in place, with a linear soundness test on every call.
 
-use telephone::raw::Table;
+use crate::quotas::{fit, refuse_list, refuse_step, Charges};
+use telephone::raw::{Quotas, Table};
 
 const PLACES: usize = 128;
 const EXITS: usize = 4;
+const CABINS: u16 = 8;
 
-/// Whether a table is sound: single steps and a recount in one pass, then the strong links in topological order from step 0.
-#[inline(never)]
+/// Whether a table is sound.
 pub fn sound(t: &Table) -> bool {
+    charges(t).is_some()
+}
+
+/// The charges of a table that is sound: single steps and a recount in one pass, then the strong links in topological order from step 0.
+#[inline(never)]
+fn charges(t: &Table) -> Option<Charges> {
     let capacity = usize::from(t.capacity);
     if !(1..=PLACES).contains(&capacity) || t.last >= t.capacity || t.used[0] != 1 {
-        return false;
+        return None;
     }
     let mut counts = [0u16; 256];
+    let mut charges = Charges::default();
     let mut size = 0;
     for step in 0..PLACES {
         let targets = &t.targets[step * EXITS..][..EXITS];
@@ -20,36 +28,41 @@ pub fn sound(t: &Table) -> bool {
         match t.used[step] {
             1 => {
                 size += 1;
-                let kind = (t.kinds[step], t.contents[step]);
-                let fits = if step == 0 { kind == (0, 0) } else { content_fits(kind.0, kind.1) };
+                let (kind, content, cabin) = (t.kinds[step], t.contents[step], t.cabins[step]);
+                let fits = match step {
+                    0 => (kind, content, cabin) == (0, 0, 0),
+                    _ => content_fits(kind, content) && cabin < CABINS,
+                };
                 if step >= capacity || !fits || t.own[step] > 1 {
-                    return false;
+                    return None;
                 }
+                charges[usize::from(cabin)] += u16::from(step != 0);
                 for (&target, &bit) in targets.iter().zip(bits) {
                     if target == 0 {
                         if bit != 0 {
-                            return false;
+                            return None;
                         }
                     } else {
                         let target = usize::from(target);
                         if target >= PLACES || t.used[target] != 1 || bit > 1 {
-                            return false;
+                            return None;
                         }
                         counts[target * 2 + usize::from(bit)] += 1;
                     }
                 }
             }
             0 => {
-                let single = t.kinds[step] | t.contents[step] | t.own[step];
+                let single = t.kinds[step] | t.contents[step] | t.own[step] | t.cabins[step];
                 let links = targets.iter().chain(bits).fold(0, |all, &field| all | field);
                 if single | links | t.counts[step * 2] | t.counts[step * 2 + 1] != 0 {
-                    return false;
+                    return None;
                 }
             }
-            _ => return false,
+            _ => return None,
         }
     }
-    counts == t.counts && reached(t) == size
+    let fits = fit(t.capacity, &t.quotas, &charges);
+    (fits && counts == t.counts && reached(t) == size).then_some(charges)
 }
 
 /// The steps that step 0 reaches when each is entered at its last strong link: all in use exactly if strong links form no ring and reach each.
@@ -99,9 +112,17 @@ fn place(t: &Table, step: u16, exit: u16) -> Result<usize, u16> {
 }
 
 #[inline(never)]
-pub fn add(t: &mut Table, holder: u16, exit: u16, kind: u16, content: u16) -> Result<u16, u16> {
-    if !sound(t) {
-        return Err(1);
+pub fn add(
+    t: &mut Table,
+    holder: u16,
+    exit: u16,
+    kind: u16,
+    content: u16,
+    cabin: u16,
+) -> Result<u16, u16> {
+    let charges = charges(t).ok_or(1u16)?;
+    if cabin >= CABINS {
+        return Err(16);
     }
     let at = place(t, holder, exit)?;
     if t.targets[at] != 0 {
@@ -113,10 +134,12 @@ pub fn add(t: &mut Table, holder: u16, exit: u16, kind: u16, content: u16) -> Re
     let free = |number: &u16| t.used[usize::from(*number)] == 0;
     let number =
         (t.last + 1..t.capacity).find(free).or_else(|| (1..=t.last).find(free)).ok_or(8u16)?;
+    refuse_step(t.capacity, &t.quotas, &charges, cabin)?;
     let step = usize::from(number);
     t.used[step] = 1;
     t.kinds[step] = kind;
     t.contents[step] = content;
+    t.cabins[step] = cabin;
     t.last = number;
     t.targets[at] = number;
     t.counts[step * 2] += 1;
@@ -169,21 +192,17 @@ pub fn clear(t: &mut Table, step: u16, exit: u16) -> Result<(u16, u16), u16> {
 }
 
 #[inline(never)]
-pub fn squeeze(t: &mut Table, capacity: u16) -> Result<(), u16> {
-    if !sound(t) {
-        return Err(1);
-    }
+pub fn squeeze(t: &mut Table, capacity: u16, quotas: &Quotas) -> Result<(), u16> {
+    let charges = charges(t).ok_or(1u16)?;
     if !(1..=PLACES).contains(&usize::from(capacity)) {
         return Err(2);
     }
+    refuse_list(capacity, quotas, &charges)?;
     let mut numbers = [0u16; PLACES];
     let mut size = 0;
     for (number, used) in numbers.iter_mut().zip(t.used) {
         *number = size;
         size += used;
-    }
-    if capacity < size {
-        return Err(13);
     }
     // A new number is at most the old one, so that no record is written over before it has moved.
     for step in (0..PLACES).filter(|&step| t.used[step] == 1) {
@@ -191,6 +210,7 @@ pub fn squeeze(t: &mut Table, capacity: u16) -> Result<(), u16> {
         t.kinds[number] = t.kinds[step];
         t.contents[number] = t.contents[step];
         t.own[number] = t.own[step];
+        t.cabins[number] = t.cabins[step];
         for exit in 0..EXITS {
             let (from, to) = (step * EXITS + exit, number * EXITS + exit);
             t.targets[to] = numbers[usize::from(t.targets[from])];
@@ -199,7 +219,7 @@ pub fn squeeze(t: &mut Table, capacity: u16) -> Result<(), u16> {
         t.counts[number * 2] = t.counts[step * 2];
         t.counts[number * 2 + 1] = t.counts[step * 2 + 1];
     }
-    (t.capacity, t.last) = (capacity, size - 1);
+    (t.capacity, t.last, t.quotas) = (capacity, size - 1, *quotas);
     only_below(t, size.into());
     Ok(())
 }
@@ -207,7 +227,7 @@ pub fn squeeze(t: &mut Table, capacity: u16) -> Result<(), u16> {
 /// The steps below a number are in use, and the records from there on become zero.
 pub fn only_below(t: &mut Table, size: usize) {
     t.used[..size].fill(1);
-    for fields in [&mut t.used, &mut t.kinds, &mut t.contents, &mut t.own] {
+    for fields in [&mut t.used, &mut t.kinds, &mut t.contents, &mut t.own, &mut t.cabins] {
         fields[size..].fill(0);
     }
     t.targets[size * EXITS..].fill(0);
@@ -290,7 +310,8 @@ fn free(t: &mut Table, steps: u128) {
         }
     }
     for step in members(steps) {
-        (t.used[step], t.kinds[step], t.contents[step], t.own[step]) = (0, 0, 0, 0);
+        (t.used[step], t.kinds[step], t.contents[step]) = (0, 0, 0);
+        (t.own[step], t.cabins[step]) = (0, 0);
         (t.counts[step * 2], t.counts[step * 2 + 1]) = (0, 0);
     }
 }

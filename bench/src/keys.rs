@@ -1,6 +1,6 @@
 //! The program `keys` on a million mixed key lines: its time, and its answers held to those of (d).
 
-use crate::{clock, fresh, tuned_edit, Times};
+use crate::{clock, sole, tuned_edit, Times};
 use reference::calls::Command;
 use reference::generate::{key_text, Random};
 use reference::keys::decode;
@@ -29,7 +29,7 @@ fn line(random: &mut Random, table: &Table) -> Vec<u8> {
     let mut text = key_text(match random.pick(calls) {
         b'a' => {
             let (holder, exit) = place(random, table, false);
-            Command::Add { holder, exit, kind: 1, content: random.below(100) as u16 }
+            Command::Add { holder, exit, kind: 1, content: random.below(100) as u16, cabin: 0 }
         }
         b'l' => {
             let (source, source_exit) = place(random, table, true);
@@ -51,7 +51,7 @@ fn line(random: &mut Random, table: &Table) -> Vec<u8> {
 
 /// The lines, and the answers that (d) gives.
 fn visit() -> (Vec<u8>, String) {
-    let (mut random, mut table) = (Random(3), fresh(128));
+    let (mut random, mut table) = (Random(3), sole());
     let (mut input, mut output) = (Vec::new(), String::new());
     for _ in 0..LINES {
         let text = line(&mut random, &table);

@@ -1,31 +1,37 @@
 //! Prints the numbers: times as median and best of many passes, all measured in this process but those of the program `keys`, then stack and size.
 //! (a) is the proved library through its interface, (b) `counted`, (c) `marked`, (d) `tuned`. Before anything is timed, (b), (c) and (d) are held
-//! to (a) after every edit, the soundness tests of (b) and (d) on damaged tables, and the trials of (d).
+//! to (a) after every edit, the soundness tests of (b) and (d) on damaged tables, and the trials of (d). With the word `edits`, it prints the edits
+//! that `versions` reads, and nothing else.
 
 mod clock;
 mod counted;
 mod keys;
 mod marked;
+mod quotas;
 mod tuned;
 
 use compare::stack::depth;
-use compare::{kept, lend, ring, rounds};
+use compare::{kept, lend, lend_list, ring, rounds, words, WORDS};
+use reference::cabins::{list, one_cabin};
 use reference::calls::Command;
-use reference::generate::Random;
+use reference::generate::{key_text, Random};
 use reference::history::Call;
 use reference::plan::Plan;
 use reference::sound::{CONTACT, WAIT};
+use reference::table::Quotas;
+use std::fmt::Debug;
 use std::hint::black_box;
 use telephone::raw::{self, Table};
+use telephone::sole_quotas;
 
 const EDITS: usize = 10_000;
 const PASSES: usize = 41;
 
-/// Edits that are all accepted, from a fresh table of capacity 128. A dense plan keeps most exits filled, a sparse one has few links beside those
-/// that hold its steps. Without rings, a link that would close one is not made.
-fn edits(seed: u64, dense: bool, rings: bool) -> Vec<Command> {
+/// Edits that are all accepted, from a fresh table of capacity 128 with this list. A dense plan keeps most exits filled, a sparse one has few links
+/// beside those that hold its steps. Without rings, a link that would close one is not made.
+fn edits(seed: u64, quotas: Quotas, dense: bool, rings: bool) -> Vec<Command> {
     let mut random = Random(seed);
-    let mut plan = Plan::fresh(128);
+    let mut plan = Plan::fresh(128, quotas).expect("a good list");
     let goal = if dense { 340 } else { 12 };
     let mut made = Vec::new();
     while made.len() < EDITS {
@@ -33,7 +39,10 @@ fn edits(seed: u64, dense: bool, rings: bool) -> Vec<Command> {
         let extra = filled.len() + 1 - plan.steps.len();
         let command = if plan.steps.len() < 128 && !random.once_in(3) {
             let (holder, exit) = random.pick(&empty);
-            Command::Add { holder, exit, kind: 3, content: 1 + random.below(600) as u16 }
+            let content = 1 + random.below(600) as u16;
+            let cabins: Vec<u16> = (0..8).filter(|&cabin| plan.room(cabin).is_ok()).collect();
+            let cabin = if let [one] = cabins[..] { one } else { random.pick(&cabins) };
+            Command::Add { holder, exit, kind: 3, content, cabin }
         } else if extra < goal && !filled.is_empty() && !empty.is_empty() && !random.once_in(3) {
             let (source, source_exit) = random.pick(&filled);
             let (second, second_exit) = random.pick(&empty);
@@ -83,10 +92,15 @@ fn reaches(plan: &Plan, from: u16, to: u16) -> bool {
     false
 }
 
-fn fresh(capacity: u16) -> Table {
+fn fresh(quotas: &raw::Quotas) -> Table {
     let mut table = Table::ZERO;
-    assert_eq!(raw::fresh(&mut table, capacity).refusal, 0);
+    assert_eq!(raw::fresh(&mut table, 128, quotas).refusal, 0);
     table
+}
+
+/// A fresh table that cabin 0 has to itself.
+fn sole() -> Table {
+    fresh(&sole_quotas(128))
 }
 
 /// The answer to an edit: the refusal, or two numbers.
@@ -95,8 +109,8 @@ type Answer = Result<(u16, u16), u16>;
 /// An edit by (a).
 fn proved_edit(table: &mut Table, edit: Command) -> Answer {
     let reply = match edit {
-        Command::Add { holder, exit, kind, content } => {
-            raw::add(table, holder, exit, kind, content)
+        Command::Add { holder, exit, kind, content, cabin } => {
+            raw::add(table, holder, exit, kind, content, cabin)
         }
         Command::Link { source, source_exit, second, second_exit } => {
             raw::link(table, source, source_exit, second, second_exit)
@@ -118,8 +132,8 @@ fn answer(reply: raw::Reply) -> Answer {
 /// An edit by (b).
 fn counted_edit(table: &mut Table, edit: Command) -> Answer {
     match edit {
-        Command::Add { holder, exit, kind, content } => {
-            counted::add(table, holder, exit, kind, content).map(|number| (number, 0))
+        Command::Add { holder, exit, kind, content, cabin } => {
+            counted::add(table, holder, exit, kind, content, cabin).map(|number| (number, 0))
         }
         Command::Link { source, source_exit, second, second_exit } => {
             counted::link(table, source, source_exit, second, second_exit).map(|()| (0, 0))
@@ -132,8 +146,8 @@ fn counted_edit(table: &mut Table, edit: Command) -> Answer {
 /// An edit by (c), which gives no doubtful count.
 fn marked_edit(plan: &mut marked::Plan, edit: Command) -> Answer {
     match edit {
-        Command::Add { holder, exit, kind, content } => {
-            plan.add(holder, exit, kind, content).map(|number| (number, 0))
+        Command::Add { holder, exit, kind, content, cabin } => {
+            plan.add(holder, exit, kind, content, cabin).map(|number| (number, 0))
         }
         Command::Link { source, source_exit, second, second_exit } => {
             plan.link(source, source_exit, second, second_exit).map(|()| (0, 0))
@@ -146,8 +160,8 @@ fn marked_edit(plan: &mut marked::Plan, edit: Command) -> Answer {
 /// An edit by (d).
 fn tuned_edit(table: &mut Table, edit: Command) -> Answer {
     match edit {
-        Command::Add { holder, exit, kind, content } => {
-            tuned::add(table, holder, exit, kind, content).map(|number| (number, 0))
+        Command::Add { holder, exit, kind, content, cabin } => {
+            tuned::add(table, holder, exit, kind, content, cabin).map(|number| (number, 0))
         }
         Command::Link { source, source_exit, second, second_exit } => {
             tuned::link(table, source, source_exit, second, second_exit).map(|()| (0, 0))
@@ -168,35 +182,68 @@ fn all<T>(mut table: T, edits: &[Command], edit: impl Fn(&mut T, Command) -> Ans
     (table, sum)
 }
 
-/// Makes all edits by all four, and holds the answers and the tables or plans after each to those of (a). Gives the table after the last one.
-fn agree(edits: &[Command]) -> Table {
-    let (mut a, mut b, mut d) = (fresh(128), fresh(128), fresh(128));
-    let mut c = marked::Plan::fresh(128);
-    for &edit in edits {
-        let answer = proved_edit(&mut a, edit);
-        assert!(counted_edit(&mut b, edit) == answer && b == a, "(b) differs: {edit:?}");
-        assert!(tuned_edit(&mut d, edit) == answer && d == a, "(d) differs: {edit:?}");
-        let plain = answer.map(|(first, second)| match edit {
+/// A table in (a), (b) and (d), and its plan in (c). Each call is held to (a): its answer, and the table or plan after it.
+struct Four {
+    a: Table,
+    b: Table,
+    c: marked::Plan,
+    d: Table,
+}
+
+impl Four {
+    fn new(table: &Table) -> Four {
+        let [a, b, d] = [table.clone(), table.clone(), table.clone()];
+        Four { a, b, c: marked::Plan::of(table), d }
+    }
+
+    /// Makes an edit by all four. Gives the answer of (a).
+    fn edit(&mut self, edit: Command) -> Answer {
+        let [a, b, d] = [
+            proved_edit(&mut self.a, edit),
+            counted_edit(&mut self.b, edit),
+            tuned_edit(&mut self.d, edit),
+        ];
+        let plain = a.map(|(first, second)| match edit {
             Command::Clear { .. } => (0, second),
             _ => (first, second),
         });
-        assert!(marked_edit(&mut c, edit) == plain, "(c) differs: {edit:?}");
-        assert!(c.agrees(&marked::Plan::of(&a)), "(c) has another plan: {edit:?}");
+        assert!(marked_edit(&mut self.c, edit) == plain, "(c) differs: {edit:?}");
+        self.agree(&edit, [a, b, d])
     }
-    a
+
+    /// Squeezes the table by all four. Gives the answer of (a).
+    fn squeeze(&mut self, capacity: u16, quotas: &raw::Quotas) -> Answer {
+        let [a, b, d] = [
+            answer(raw::squeeze(&mut self.a, capacity, quotas)),
+            bare(counted::squeeze(&mut self.b, capacity, quotas)),
+            bare(tuned::squeeze(&mut self.d, capacity, quotas)),
+        ];
+        let made = (capacity, quotas);
+        assert!(bare(self.c.squeeze(capacity, quotas)) == a, "(c) differs: {made:?}");
+        self.agree(&made, [a, b, d])
+    }
+
+    /// Holds the answers of (b) and (d), both tables and the plan to those of (a).
+    fn agree(&self, made: &dyn Debug, [a, b, d]: [Answer; 3]) -> Answer {
+        assert!(b == a && self.b == self.a, "(b) differs: {made:?}");
+        assert!(d == a && self.d == self.a, "(d) differs: {made:?}");
+        assert!(self.c.agrees(&marked::Plan::of(&self.a)), "(c) has another plan: {made:?}");
+        a
+    }
 }
 
-/// Squeezes a table by all four, and holds the answers and the tables or plans to those of (a). Gives the answer of (a).
-fn squeeze(table: &Table, capacity: u16) -> Answer {
-    let (mut a, mut b, mut d) = (table.clone(), table.clone(), table.clone());
-    let mut c = marked::Plan::of(table);
-    let answer = answer(raw::squeeze(&mut a, capacity));
-    let bare = answer.map(|_| ());
-    assert!(counted::squeeze(&mut b, capacity) == bare && b == a, "(b) differs: {capacity}");
-    assert!(tuned::squeeze(&mut d, capacity) == bare && d == a, "(d) differs: {capacity}");
-    assert!(c.squeeze(capacity) == bare, "(c) differs: {capacity}");
-    assert!(c.agrees(&marked::Plan::of(&a)), "(c) has another plan: {capacity}");
-    answer
+/// The answer of a squeeze.
+fn bare(squeezed: Result<(), u16>) -> Answer {
+    squeezed.map(|()| (0, 0))
+}
+
+/// Makes all edits by all four, which have to agree. Gives the table after the last one.
+fn agree(mix: &Mix) -> Table {
+    let mut four = Four::new(&mix.start());
+    for &edit in &mix.edits {
+        assert!(four.edit(edit).is_ok(), "refused: {edit:?}");
+    }
+    four.a
 }
 
 /// Holds the soundness tests of (b) and (d) to that of (a) on one table; gives the verdict.
@@ -219,24 +266,16 @@ fn verdicts() -> (usize, usize) {
         note(&lend(&table));
     }
     for seed in 0..3 {
-        let sound = lend(&Random(seed).sound_table());
-        for at in 0..1794 {
-            for value in [0, 1, 2, 3, 127, 128, 255, 256, 1024, 32768, 65535] {
+        let sound = Random(seed).sound_table();
+        for at in 0..WORDS {
+            for value in [0, 1, 2, 3, 7, 8, 127, 128, 255, 256, 1024, 32768, 65535] {
                 let mut table = sound.clone();
-                *word(&mut table, at) = value;
-                note(&table);
+                *words(&mut table).nth(at).expect("a word of the table") = value;
+                note(&lend(&table));
             }
         }
     }
     found
-}
-
-/// A word of a table, by its place in memory.
-fn word(table: &mut Table, at: usize) -> &mut u16 {
-    let Table { capacity, last, used, kinds, contents, own, targets, bits, counts } = table;
-    let arrays = [&mut used[..], kinds, contents, own, targets, bits, counts];
-    let mut words = [capacity, last].into_iter().chain(arrays.into_iter().flatten());
-    words.nth(at).expect("a word of the table")
 }
 
 /// Nanoseconds of one run of a function, over so many runs.
@@ -316,8 +355,9 @@ fn head(name: &str, programs: &[&str]) {
 }
 
 /// The edits by all four.
-fn edit_row(name: &str, edits: &[Command]) {
-    let (start, plan) = (fresh(128), marked::Plan::fresh(128));
+fn edit_row(mix: &Mix) {
+    let (start, edits) = (mix.start(), &mix.edits[..]);
+    let plan = marked::Plan::of(&start);
     let times = passes(
         1,
         [
@@ -335,7 +375,7 @@ fn edit_row(name: &str, edits: &[Command]) {
             },
         ],
     );
-    row(name, &times.map(|time| time.each(EDITS)));
+    row(mix.name, &times.map(|time| time.each(EDITS)));
 }
 
 /// The soundness test of one table by (a), (b) and (d). Gives the times of (a).
@@ -409,18 +449,18 @@ fn clear_row(name: &str, table: &Table, counts: (u16, u16)) -> Times {
     )
 }
 
-/// A squeeze into as many places as there are steps in use, by all four.
+/// A squeeze of a table of cabin 0 into as many places as there are steps in use, by all four.
 fn squeeze_row(name: &str, table: &Table) {
     let capacity = raw::counts(table).first;
-    assert_eq!(squeeze(table, capacity), Ok((0, 0)), "{name}");
-    let bare = |squeezed: Result<(), u16>| squeezed.map(|()| (0, 0));
+    let quotas = sole_quotas(capacity);
+    assert_eq!(Four::new(table).squeeze(capacity, &quotas), Ok((0, 0)), "{name}");
     call_row(
         name,
         table,
-        |t| answer(raw::squeeze(t, capacity)),
-        |t| bare(counted::squeeze(t, capacity)),
-        |plan| bare(plan.squeeze(capacity)),
-        |t| bare(tuned::squeeze(t, capacity)),
+        |t| answer(raw::squeeze(t, capacity, &quotas)),
+        |t| bare(counted::squeeze(t, capacity, &quotas)),
+        |plan| bare(plan.squeeze(capacity, &quotas)),
+        |t| bare(tuned::squeeze(t, capacity, &quotas)),
     );
 }
 
@@ -480,7 +520,7 @@ enum Chain {
 
 /// A table whose steps stand in one chain in this order, from exit 0 to exit 0.
 fn chain(order: impl IntoIterator<Item = u16>, how: Chain) -> Table {
-    let mut table = kept(&fresh(128));
+    let mut table = kept(&sole());
     let mut exit = 0;
     for step in order {
         let place = usize::from(step);
@@ -519,33 +559,75 @@ fn stack(table: &Table, mut call: impl FnMut(&mut Table) -> raw::Reply) -> usize
     bytes
 }
 
-/// The kinds of edits that are timed.
-fn kinds() -> [(&'static str, Vec<Command>); 4] {
+/// Edits that are timed, from a fresh table with this list.
+struct Mix {
+    name: &'static str,
+    quotas: Quotas,
+    edits: Vec<Command>,
+}
+
+impl Mix {
+    fn new(name: &'static str, quotas: Quotas, dense: bool, rings: bool) -> Mix {
+        Mix { name, quotas, edits: edits(1, quotas, dense, rings) }
+    }
+
+    fn start(&self) -> Table {
+        fresh(&lend_list(&self.quotas))
+    }
+}
+
+/// The mixes of cabin 0, which has the table to itself.
+fn sole_mixes() -> [Mix; 4] {
+    let mix = |name, dense, rings| Mix::new(name, one_cabin(128), dense, rings);
     [
-        ("dense, with rings", edits(1, true, true)),
-        ("dense, without rings", edits(1, true, false)),
-        ("sparse, with rings", edits(1, false, true)),
-        ("sparse, without rings", edits(1, false, false)),
+        mix("dense, with rings", true, true),
+        mix("dense, without rings", true, false),
+        mix("sparse, with rings", false, true),
+        mix("sparse, without rings", false, false),
     ]
+}
+
+/// All mixes. Of eight cabins, each is guaranteed 8 steps and may have 24, which together are more than there are; that mix is dense, with rings.
+fn mixes() -> Vec<Mix> {
+    let eight = Mix::new("eight cabins", list(&[[8, 24]; 8]), true, true);
+    sole_mixes().into_iter().chain([eight]).collect()
+}
+
+/// Prints the mixes of cabin 0: a name, then the key line of each edit.
+fn print_edits() {
+    for mix in sole_mixes() {
+        println!("{}", mix.name);
+        for edit in mix.edits {
+            println!("{}", String::from_utf8_lossy(&key_text(edit)));
+        }
+    }
 }
 
 fn main() {
     assert_eq!(telephone::check_edition(), Ok(()));
-    let kinds = kinds();
-    let tables: Vec<Table> = kinds.iter().map(|(_, edits)| agree(edits)).collect();
+    match std::env::args().nth(1).as_deref() {
+        None => print_numbers(),
+        Some("edits") => print_edits(),
+        Some(word) => panic!("not a word that this program knows: {word}"),
+    }
+}
+
+fn print_numbers() {
+    let mixes = mixes();
+    let tables: Vec<Table> = mixes.iter().map(agree).collect();
     let (sound, unsound) = verdicts();
     println!("(a) the proved library");
     println!("(b) Rust with bits and counters, and a linear soundness test on every call");
     println!("(c) Rust with the plain plan, which marks after each clearing; it has no bits, no counters and no soundness test");
     println!("(d) the job of (b), and trials, in safe Rust written for speed");
-    println!("All four agree in each answer, and in the table or plan after each of {} edits; (a), (b) and (d) agree on", kinds.len() * EDITS);
+    println!("All four agree in each answer, and in the table or plan after each of {} edits; (a), (b) and (d) agree on", mixes.len() * EDITS);
     println!("{sound} tables that are sound and {unsound} that are not. Nanoseconds of processor time, median and best of {PASSES} passes;");
     println!("of ratios, the median over the passes and the ratio of the best.");
 
     let programs = ["(a)", "(b)", "(c)", "(d)"];
     head(&format!("One edit, of {EDITS} over 128 steps"), &programs);
-    for (name, edits) in &kinds {
-        edit_row(name, edits);
+    for mix in &mixes {
+        edit_row(mix);
     }
 
     let freed = chain(1..128, Chain::Free);
@@ -557,9 +639,9 @@ fn main() {
         ("downward, no exit empty", chain((1..128).rev(), Chain::Dense)),
     ];
     head("Soundness test of one table", &["(a)", "(b)", "(d)"]);
-    test_row("fresh, capacity 128", &fresh(128));
-    for ((name, _), table) in kinds.iter().zip(&tables) {
-        test_row(&format!("after the edits, {name}"), table);
+    test_row("fresh, capacity 128", &sole());
+    for (mix, table) in mixes.iter().zip(&tables) {
+        test_row(&format!("after the edits, {}", mix.name), table);
     }
     let test = test_row("chain of 127 steps", &freed);
     test_row("chain of 127 steps, no exit empty", &taken_back[3].1);
@@ -592,13 +674,15 @@ fn main() {
 #[cfg(test)]
 mod tests {
     use super::*;
-    use reference::generate::trials;
+    use compare::Refusals;
+    use reference::generate::{trials, Generator};
+    use reference::plan::plan_of;
 
     #[test]
     fn programs_agree() {
-        for (_, edits) in kinds() {
-            agree(&edits);
-        }
+        mixes().iter().for_each(|mix| {
+            agree(mix);
+        });
     }
 
     #[test]
@@ -607,24 +691,52 @@ mod tests {
         assert!(sound > 10_000 && unsound > 50_000, "{sound} sound, {unsound} not");
     }
 
-    /// Squeezes of generated tables, into every capacity around what they need.
+    /// Histories of generated edits and squeezes, refused or not, on generated tables with any cabins and lists.
     #[test]
-    fn squeezes_agree() {
-        let mut accepted = 0;
-        for seed in 0..300 {
-            let table = lend(&Random(seed).sound_table());
-            let needed = raw::counts(&table).first;
-            for capacity in [0, needed - 1, needed, needed + 1, table.capacity, 128, 129, 65535] {
-                accepted += usize::from(squeeze(&table, capacity).is_ok());
+    fn histories_agree() {
+        let mut refusals = Refusals::default();
+        for seed in 0..120 {
+            let mut four = Four::new(&lend(&Random(seed).sound_table()));
+            let mut generator = Generator::new(seed);
+            for _ in 0..200 {
+                let answer = match generator.call(&plan_of(&kept(&four.a))) {
+                    Call::Edit(Command::Count) => continue,
+                    Call::Edit(edit) => four.edit(edit),
+                    Call::Squeeze { capacity, quotas } => {
+                        four.squeeze(capacity, &lend_list(&quotas))
+                    }
+                    _ => continue,
+                };
+                refusals[usize::from(answer.err().unwrap_or(0))] += 1;
             }
         }
-        assert!(accepted > 1000, "{accepted}");
+        for refusal in [0, 2, 3, 4, 5, 6, 7, 8, 13, 14, 15, 16] {
+            assert!(refusals[refusal] > 50, "{refusals:?}");
+        }
+    }
+
+    /// Squeezes of generated tables, into every capacity around what they need, with lists that fit and others.
+    #[test]
+    fn squeezes_agree() {
+        let mut refusals = Refusals::default();
+        for seed in 0..300 {
+            let (mut random, table) = (Random(!seed), Random(seed).sound_table());
+            let needed = table.size();
+            for capacity in [0, needed - 1, needed, needed + 1, table.capacity, 128, 129, 65535] {
+                let quotas = random.list(capacity, &table.charges());
+                let answer = Four::new(&lend(&table)).squeeze(capacity, &lend_list(&quotas));
+                refusals[usize::from(answer.err().unwrap_or(0))] += 1;
+            }
+        }
+        for refusal in [0, 2, 13, 16] {
+            assert!(refusals[refusal] > 100, "{refusals:?}");
+        }
     }
 
     /// Generated trials, with every ending and refusal.
     #[test]
     fn trials_agree() {
-        let (mut endings, mut refusals) = ([0; 3], [0; 12]);
+        let (mut endings, mut refusals) = ([0; 3], Refusals::default());
         for (table, calls) in trials(0..300) {
             for call in calls {
                 let Call::Trial { limit, results, trace: room } = call else { unreachable!() };
@@ -645,13 +757,8 @@ mod tests {
             [(1..128).collect(), (1..128).rev().collect(), zigzag().collect()];
         for order in orders {
             for how in [Chain::Free, Chain::Held, Chain::Dense] {
-                let table = chain(order.iter().copied(), how);
-                let edit = Command::Clear { step: 0, exit: 0 };
-                let (mut a, mut b, mut d) = (table.clone(), table.clone(), table.clone());
-                let answer = proved_edit(&mut a, edit);
-                assert_eq!(counted_edit(&mut b, edit), answer);
-                assert_eq!(tuned_edit(&mut d, edit), answer);
-                assert!(a == b && a == d);
+                let mut four = Four::new(&chain(order.iter().copied(), how));
+                assert!(four.edit(Command::Clear { step: 0, exit: 0 }).is_ok());
             }
         }
     }

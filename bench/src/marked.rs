@@ -1,7 +1,8 @@
 //! (c) The plain plan in Rust, with no bits and no counters: after each clearing, what step 0 reaches is marked and the rest is taken out.
-//! It has no table that could be unsound, so it makes no soundness test; it cannot answer the doubtful count.
+//! It has no table that could be unsound, so it makes no soundness test; it cannot answer the doubtful count. Beside the plan it keeps the charges.
 
-use telephone::raw::Table;
+use crate::quotas::{refuse_list, refuse_step, Charges};
+use telephone::raw::{Quotas, Table};
 
 #[derive(Clone)]
 pub struct Plan {
@@ -11,10 +12,13 @@ pub struct Plan {
     kinds: [u16; 128],
     contents: [u16; 128],
     targets: [[u8; 4]; 128],
+    cabins: [u8; 128],
+    quotas: Quotas,
+    charges: Charges,
 }
 
 impl Plan {
-    pub fn fresh(capacity: u16) -> Plan {
+    pub fn fresh(capacity: u16, quotas: Quotas) -> Plan {
         Plan {
             capacity,
             last: 0,
@@ -22,24 +26,33 @@ impl Plan {
             kinds: [0; 128],
             contents: [0; 128],
             targets: [[0; 4]; 128],
+            cabins: [0; 128],
+            quotas,
+            charges: [0; 8],
         }
     }
 
     /// The plan of a sound table.
     pub fn of(table: &Table) -> Plan {
-        let mut plan = Plan { last: table.last, used: 0, ..Plan::fresh(table.capacity) };
+        let fresh = Plan::fresh(table.capacity, table.quotas);
+        let mut plan = Plan { last: table.last, used: 0, ..fresh };
         for step in 0..128 {
             plan.used |= u128::from(table.used[step]) << step;
             plan.targets[step] = std::array::from_fn(|exit| table.targets[step * 4 + exit] as u8);
         }
         (plan.kinds, plan.contents) = (table.kinds, table.contents);
+        plan.cabins = table.cabins.map(|cabin| cabin as u8);
+        plan.charges = plan.charged(plan.used & !1);
         plan
     }
 
     /// Whether two plans are the same. What stands at steps out of use does not count.
     pub fn agrees(&self, other: &Plan) -> bool {
-        let step = |plan: &Plan, i: usize| (plan.kinds[i], plan.contents[i], plan.targets[i]);
-        let numbers = |plan: &Plan| (plan.capacity, plan.last, plan.used);
+        let step = |plan: &Plan, i: usize| {
+            (plan.kinds[i], plan.contents[i], plan.targets[i], plan.cabins[i])
+        };
+        let numbers =
+            |plan: &Plan| (plan.capacity, plan.last, plan.used, plan.quotas, plan.charges);
         let in_use = |i: &usize| self.used >> i & 1 == 1;
         numbers(self) == numbers(other)
             && (0..128).filter(in_use).all(|i| step(self, i) == step(other, i))
@@ -52,8 +65,28 @@ impl Plan {
         self.targets[usize::from(step)].get_mut(usize::from(exit)).ok_or(4)
     }
 
+    /// How many of these steps each cabin has.
+    fn charged(&self, mut steps: u128) -> Charges {
+        let mut charges = Charges::default();
+        while steps != 0 {
+            charges[usize::from(self.cabins[steps.trailing_zeros() as usize])] += 1;
+            steps &= steps - 1;
+        }
+        charges
+    }
+
     #[inline(never)]
-    pub fn add(&mut self, holder: u16, exit: u16, kind: u16, content: u16) -> Result<u16, u16> {
+    pub fn add(
+        &mut self,
+        holder: u16,
+        exit: u16,
+        kind: u16,
+        content: u16,
+        cabin: u16,
+    ) -> Result<u16, u16> {
+        if cabin >= 8 {
+            return Err(16);
+        }
         if *self.exit(holder, exit)? != 0 {
             return Err(5);
         }
@@ -69,10 +102,13 @@ impl Plan {
         let free = |number: &u16| self.used >> number & 1 == 0;
         let upward = (self.last + 1..self.capacity).find(free);
         let number = upward.or_else(|| (1..=self.last).find(free)).ok_or(8u16)?;
+        refuse_step(self.capacity, &self.quotas, &self.charges, cabin)?;
         self.used |= 1 << number;
         self.kinds[usize::from(number)] = kind;
         self.contents[usize::from(number)] = content;
         self.targets[usize::from(number)] = [0; 4];
+        self.cabins[usize::from(number)] = cabin as u8;
+        self.charges[usize::from(cabin)] += 1;
         self.last = number;
         *self.exit(holder, exit)? = number as u8;
         Ok(number)
@@ -113,20 +149,20 @@ impl Plan {
                 }
             }
         }
-        let freed = (self.used & !marked).count_ones() as u16;
+        let freed = self.used & !marked;
+        let gone = self.charged(freed);
+        self.charges.iter_mut().zip(gone).for_each(|(charge, gone)| *charge -= gone);
         self.used = marked;
-        Ok(freed)
+        Ok(freed.count_ones() as u16)
     }
 
     #[inline(never)]
-    pub fn squeeze(&mut self, capacity: u16) -> Result<(), u16> {
+    pub fn squeeze(&mut self, capacity: u16, quotas: &Quotas) -> Result<(), u16> {
         if !(1..=128).contains(&capacity) {
             return Err(2);
         }
+        refuse_list(capacity, quotas, &self.charges)?;
         let size = self.used.count_ones() as u16;
-        if capacity < size {
-            return Err(13);
-        }
         let mut numbers = [0u8; 128];
         let mut rest = self.used;
         for number in 0..usize::from(size) {
@@ -136,12 +172,13 @@ impl Plan {
             self.kinds[number] = self.kinds[step];
             self.contents[number] = self.contents[step];
             self.targets[number] = self.targets[step];
+            self.cabins[number] = self.cabins[step];
         }
         for target in self.targets[..usize::from(size)].as_flattened_mut() {
             *target = numbers[usize::from(*target)];
         }
         self.used = u128::MAX >> (128 - size);
-        (self.capacity, self.last) = (capacity, size - 1);
+        (self.capacity, self.last, self.quotas) = (capacity, size - 1, *quotas);
         Ok(())
     }
 }

@@ -4,12 +4,14 @@
 #![forbid(unsafe_code)]
 
 use crate::counted::only_below;
-use telephone::raw::Table;
+use crate::quotas::{fit, refuse_list, refuse_step, Charges};
+use telephone::raw::{Quotas, Table};
 
 const PLACES: usize = 128;
 const EXITS: usize = 4;
 const LINKS: usize = PLACES * EXITS;
 const COUNTERS: usize = PLACES * 2;
+const CABINS: usize = 8;
 /// The kind of a contact.
 const CONTACT: u16 = 1;
 
@@ -35,25 +37,35 @@ fn mask(holds: bool) -> u16 {
 }
 
 /// Whether a table is sound.
-#[inline(never)]
 pub fn sound(t: &Table) -> bool {
+    charges(t).is_some()
+}
+
+/// The charges of a table that is sound.
+#[inline(never)]
+fn charges(t: &Table) -> Option<Charges> {
     let capacity = usize::from(t.capacity);
     if !(1..=PLACES).contains(&capacity) || t.last >= t.capacity || t.used[0] != 1 {
-        return false;
+        return None;
     }
 
     // Single fields. For each counter of a step, `marks` gets WEAK if it counts weak links, and COUNT if the step is in use.
     let mut marks = [0u16; COUNTERS];
-    let (mut bad, mut any_used, mut any_kind) = (t.kinds[0] | t.contents[0], 0, 0);
+    let mut bad = t.kinds[0] | t.contents[0] | t.cabins[0];
+    let (mut any_used, mut any_kind, mut any_cabin) = (0, 0, 0);
     let (mut size, mut differ) = (0u16, 0u16);
     for i in 0..PLACES {
         let (used, kind, content, own) = (t.used[i], t.kinds[i], t.contents[i], t.own[i]);
+        let cabin = t.cabins[i];
         // A wait has 1 to 600, which is 0 to 599 from 1 on.
         let wait = mask(kind == 3);
         let most = mask(kind == 1) & 99 | mask(kind == 2) & 15 | wait & 599;
         bad |= own.saturating_sub(used) | content.wrapping_add(wait).saturating_sub(most);
+        // A cabin is at most 7, and that of a free step 0.
+        bad |= cabin.saturating_sub(used.wrapping_mul(CABINS as u16 - 1));
         any_used |= used;
         any_kind |= kind;
+        any_cabin |= cabin;
         // Step 0, and no other, is in use without a kind.
         differ = differ.wrapping_sub(mask(used == 0) ^ mask(kind == 0));
         size = size.wrapping_add(used);
@@ -86,14 +98,45 @@ pub fn sound(t: &Table) -> bool {
     }
     bad |= any_count & !COUNT;
     if bad != 0 || differ != 1 || counted != LINKS as u16 - empty {
-        return false;
+        return None;
+    }
+    // Where all steps are cabin 0's, none are counted.
+    let charges = match any_cabin {
+        0 => [size - 1, 0, 0, 0, 0, 0, 0, 0],
+        _ => sorted(&t.cabins, size),
+    };
+    if !fit(t.capacity, &t.quotas, &charges) {
+        return None;
     }
 
     // Every link is withdrawn, from step 0 on; a step is entered at its last strong link. The table is sound exactly if all steps in use are entered
     // and all counters come to 0: none can pass 0 and come back, and then the counters of free steps are 0 too, and their exits empty.
     let entered = withdraw(&counter, &mut left);
     let rest = left[..COUNTERS].iter().fold(0, |rest, count| rest | count);
-    entered == size && rest & !WEAK == 0
+    (entered == size && rest & !WEAK == 0).then_some(charges)
+}
+
+/// For each pair of cabins, a unit in the byte of each.
+const UNITS: [u64; CABINS * CABINS] = {
+    let mut units = [0; CABINS * CABINS];
+    let mut pair = 0;
+    while pair < units.len() {
+        units[pair] = (1 << (8 * (pair % CABINS))) + (1 << (8 * (pair / CABINS)));
+        pair += 1;
+    }
+    units
+};
+
+/// The charges, where so many steps are in use, and step 0 and all free ones have cabin 0. Two steps are counted at a time, each cabin in a byte of a
+/// number.
+#[inline(always)]
+fn sorted(cabins: &[u16; PLACES], size: u16) -> Charges {
+    let (low, high) = cabins.split_at(PLACES / 2);
+    let pairs: [u16; PLACES / 2] = std::array::from_fn(|i| low[i] | high[i] << 3);
+    let sums = pairs.iter().fold(0u64, |sums, &pair| sums + UNITS[usize::from(pair) % UNITS.len()]);
+    let mut charges = sums.to_le_bytes().map(u16::from);
+    charges[0] -= PLACES as u16 + 1 - size;
+    charges
 }
 
 /// Withdraws the exits of step 0 and of each step whose last strong link is withdrawn; gives how many steps that are. The step to go on with is
@@ -152,9 +195,17 @@ pub fn counts(t: &Table) -> Result<(u16, u16), u16> {
 }
 
 #[inline(never)]
-pub fn add(t: &mut Table, holder: u16, exit: u16, kind: u16, content: u16) -> Result<u16, u16> {
-    if !sound(t) {
-        return Err(1);
+pub fn add(
+    t: &mut Table,
+    holder: u16,
+    exit: u16,
+    kind: u16,
+    content: u16,
+    cabin: u16,
+) -> Result<u16, u16> {
+    let charges = charges(t).ok_or(1u16)?;
+    if usize::from(cabin) >= CABINS {
+        return Err(16);
     }
     let at = place(t, holder, exit)?;
     if t.targets[at] != 0 {
@@ -166,8 +217,9 @@ pub fn add(t: &mut Table, holder: u16, exit: u16, kind: u16, content: u16) -> Re
     let free = |number: &u16| t.used[usize::from(*number)] == 0;
     let number =
         (t.last + 1..t.capacity).find(free).or_else(|| (1..=t.last).find(free)).ok_or(8u16)?;
+    refuse_step(t.capacity, &t.quotas, &charges, cabin)?;
     let step = usize::from(number);
-    (t.used[step], t.kinds[step], t.contents[step]) = (1, kind, content);
+    (t.used[step], t.kinds[step], t.contents[step], t.cabins[step]) = (1, kind, content, cabin);
     (t.last, t.targets[at], t.counts[step * 2]) = (number, number, 1);
     Ok(number)
 }
@@ -216,19 +268,15 @@ pub fn clear(t: &mut Table, step: u16, exit: u16) -> Result<(u16, u16), u16> {
 }
 
 #[inline(never)]
-pub fn squeeze(t: &mut Table, capacity: u16) -> Result<(), u16> {
-    if !sound(t) {
-        return Err(1);
-    }
+pub fn squeeze(t: &mut Table, capacity: u16, quotas: &Quotas) -> Result<(), u16> {
+    let charges = charges(t).ok_or(1u16)?;
     if !(1..=PLACES).contains(&usize::from(capacity)) {
         return Err(2);
     }
-    let size: u16 = t.used.iter().sum();
-    if capacity < size {
-        return Err(13);
-    }
-    (t.capacity, t.last) = (capacity, size - 1);
-    let size = usize::from(size);
+    refuse_list(capacity, quotas, &charges)?;
+    let last: u16 = charges.iter().sum();
+    (t.capacity, t.last, t.quotas) = (capacity, last, *quotas);
+    let size = usize::from(last) + 1;
     if t.used[..size].iter().all(|&used| used == 1) {
         return Ok(());
     }
@@ -242,7 +290,8 @@ pub fn squeeze(t: &mut Table, capacity: u16) -> Result<(), u16> {
     }
     for (to, &step) in steps[..size].iter().enumerate() {
         let from = usize::from(step) % PLACES;
-        (t.kinds[to], t.contents[to], t.own[to]) = (t.kinds[from], t.contents[from], t.own[from]);
+        (t.kinds[to], t.contents[to]) = (t.kinds[from], t.contents[from]);
+        (t.own[to], t.cabins[to]) = (t.own[from], t.cabins[from]);
         move_fields::<EXITS>(&mut t.targets, from, to);
         move_fields::<EXITS>(&mut t.bits, from, to);
         move_fields::<2>(&mut t.counts, from, to);
@@ -391,6 +440,7 @@ fn free(t: &mut Table, steps: u128) {
                 (t.targets[place], t.bits[place]) = (0, 0);
             }
         }
-        (t.used[step], t.kinds[step], t.contents[step], t.own[step]) = (0, 0, 0, 0);
+        (t.used[step], t.kinds[step], t.contents[step]) = (0, 0, 0);
+        (t.own[step], t.cabins[step]) = (0, 0);
     }
 }

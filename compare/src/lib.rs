@@ -5,63 +5,96 @@
 pub mod process;
 pub mod stack;
 
-use reference::calls::{add, fresh, link, Command};
+use reference::cabins::{list, pairs};
+use reference::calls::{add, fresh_for_cabin_0, link, Command};
 use reference::faults::Fault;
-use reference::history::{self, Call, Outcome, Start, UNTOUCHED};
-use reference::sound::CONTACT;
-use reference::table::Table;
+use reference::generate::{key_text, Generator};
+use reference::history::{self, agrees, Call, Outcome, Start, UNTOUCHED};
+use reference::plan::{plan_of, Plan};
+use reference::sound::{sound, CONTACT};
+use reference::table::{Quotas, Table};
 use std::fmt::{self, Debug};
-use telephone::raw;
+use telephone::raw::{self, Quota};
+
+/// The words of a table.
+pub const WORDS: usize = size_of::<raw::Table>() / 2;
+
+/// How often each refusal, 0 to the highest, came up.
+pub type Refusals = [usize; 17];
 
 /// The same table for the interface.
 pub fn lend(table: &Table) -> raw::Table {
-    let Table { capacity, last, used, kinds, contents, own, targets, bits, counts } = table.clone();
-    raw::Table { capacity, last, used, kinds, contents, own, targets, bits, counts }
+    let Table { capacity, last, used, kinds, contents, own, targets, bits, counts, cabins, quotas } =
+        table.clone();
+    let quotas = lend_list(&quotas);
+    raw::Table { capacity, last, used, kinds, contents, own, targets, bits, counts, cabins, quotas }
 }
 
 /// The same table for the second program.
 pub fn kept(table: &raw::Table) -> Table {
-    let raw::Table { capacity, last, used, kinds, contents, own, targets, bits, counts } =
-        table.clone();
-    Table { capacity, last, used, kinds, contents, own, targets, bits, counts }
+    let raw::Table {
+        capacity,
+        last,
+        used,
+        kinds,
+        contents,
+        own,
+        targets,
+        bits,
+        counts,
+        cabins,
+        quotas,
+    } = table.clone();
+    let quotas = kept_list(&quotas);
+    Table { capacity, last, used, kinds, contents, own, targets, bits, counts, cabins, quotas }
+}
+
+/// The same list of guarantees and limits for the interface.
+pub fn lend_list(quotas: &Quotas) -> raw::Quotas {
+    pairs(quotas).map(|[guarantee, limit]| Quota { guarantee, limit })
+}
+
+/// The same list for the second program.
+pub fn kept_list(quotas: &raw::Quotas) -> Quotas {
+    list(&quotas.map(|Quota { guarantee, limit }| [guarantee, limit]))
+}
+
+/// Every word of a table, in the order of its memory.
+pub fn words(table: &mut Table) -> impl Iterator<Item = &mut u16> {
+    let Table { capacity, last, used, kinds, contents, own, targets, bits, counts, cabins, quotas } =
+        table;
+    let arrays = [&mut used[..], kinds, contents, own, targets, bits, counts, cabins, quotas];
+    [capacity, last].into_iter().chain(arrays.into_iter().flatten())
 }
 
 /// Bytes on each side of what is lent.
 const EDGE: usize = 64;
 
-/// A table in memory, with bytes on both sides that no call may change.
+/// A table or a list in memory, with bytes on both sides that no call may change.
 #[repr(C)]
-pub struct Lent {
+pub struct Lent<T> {
     before: [u8; EDGE],
-    pub table: raw::Table,
+    pub lent: T,
     after: [u8; EDGE],
 }
 
-impl Lent {
-    pub fn new(table: raw::Table) -> Lent {
-        Lent { before: [UNTOUCHED; EDGE], table, after: [UNTOUCHED; EDGE] }
-    }
-
-    /// Memory in which no table stands yet.
-    pub fn unmade() -> Lent {
-        let word = u16::from_ne_bytes([UNTOUCHED; 2]);
-        let (steps, exits) = ([word; 128], [word; 512]);
-        Lent::new(raw::Table {
-            capacity: word,
-            last: word,
-            used: steps,
-            kinds: steps,
-            contents: steps,
-            own: steps,
-            targets: exits,
-            bits: exits,
-            counts: [word; 256],
-        })
+impl<T> Lent<T> {
+    pub fn new(lent: T) -> Lent<T> {
+        Lent { before: [UNTOUCHED; EDGE], lent, after: [UNTOUCHED; EDGE] }
     }
 
     /// Whether the bytes on both sides are as they were.
     pub fn edges_stand(&self) -> bool {
         self.before == [UNTOUCHED; EDGE] && self.after == [UNTOUCHED; EDGE]
+    }
+}
+
+impl Lent<raw::Table> {
+    /// Memory in which no table stands yet.
+    pub fn unmade() -> Lent<raw::Table> {
+        let mut table = Table::zero();
+        words(&mut table).for_each(|word| *word = u16::from_ne_bytes([UNTOUCHED; 2]));
+        Lent::new(lend(&table))
     }
 }
 
@@ -86,10 +119,21 @@ fn with_bytes<R>(bytes: &[u8], call: impl FnOnce(&[u8]) -> R) -> R {
     given
 }
 
+/// Lends a list to be read, with bytes on both sides; none of them may change.
+fn with_list<R>(quotas: &Quotas, call: impl FnOnce(&raw::Quotas) -> R) -> R {
+    let list = Lent::new(lend_list(quotas));
+    let given = call(&list.lent);
+    let after = std::hint::black_box(&list);
+    assert!(after.edges_stand() && kept_list(&after.lent) == *quotas, "a lent list changed");
+    given
+}
+
 /// Makes the first call of a history through the interface.
 pub fn begin(table: &mut raw::Table, start: &Start) -> Outcome {
     match start {
-        Start::Fresh { capacity } => two(raw::fresh(table, *capacity)),
+        Start::Fresh { capacity, quotas } => {
+            two(with_list(quotas, |quotas| raw::fresh(table, *capacity, quotas)))
+        }
         Start::Load { image } => two(with_bytes(image, |image| raw::load_image(table, image))),
     }
 }
@@ -97,15 +141,17 @@ pub fn begin(table: &mut raw::Table, start: &Start) -> Outcome {
 /// Makes a call through the interface.
 pub fn call(table: &mut raw::Table, call: &Call) -> Outcome {
     match call {
-        Call::Edit(Command::Add { holder, exit, kind, content }) => {
-            two(raw::add(table, *holder, *exit, *kind, *content))
+        Call::Edit(Command::Add { holder, exit, kind, content, cabin }) => {
+            two(raw::add(table, *holder, *exit, *kind, *content, *cabin))
         }
         Call::Edit(Command::Link { source, source_exit, second, second_exit }) => {
             two(raw::link(table, *source, *source_exit, *second, *second_exit))
         }
         Call::Edit(Command::Clear { step, exit }) => two(raw::clear(table, *step, *exit)),
         Call::Edit(Command::Count) => two(raw::counts(table)),
-        Call::Squeeze { capacity } => two(raw::squeeze(table, *capacity)),
+        Call::Squeeze { capacity, quotas } => {
+            two(with_list(quotas, |quotas| raw::squeeze(table, *capacity, quotas)))
+        }
         Call::KeyLine(line) => two(with_bytes(line, |line| raw::key_line(table, line))),
         Call::Write { buffer } => {
             let (reply, lent) = with_buffer(*buffer, |bytes| raw::write_image(table, bytes));
@@ -121,8 +167,8 @@ pub fn call(table: &mut raw::Table, call: &Call) -> Outcome {
         }
         Call::Read { step } => {
             let reply = raw::read(table, *step);
-            let single = [reply.kind, reply.content, reply.own];
-            let fields = [&single[..], &reply.targets, &reply.bits, &reply.counts];
+            let (single, cabin) = ([reply.kind, reply.content, reply.own], [reply.cabin]);
+            let fields = [&single[..], &reply.targets, &reply.bits, &reply.counts, &cabin];
             let numbers = fields.concat().into_iter().map(usize::from).collect();
             Outcome { refusal: reply.refusal, numbers, lent: Vec::new() }
         }
@@ -169,7 +215,7 @@ impl Debug for Difference {
 
 /// Two tables that start the same, one behind the interface and one in the second program, with a fault in it or none.
 pub struct Pair {
-    pub proved: Lent,
+    pub proved: Lent<raw::Table>,
     pub second: Table,
     fault: Fault,
 }
@@ -182,7 +228,7 @@ impl Pair {
     /// Makes the first call of a history on both, over memory in which no table stands. Gives the pair, and the outcome or what differs.
     pub fn begin(start: &Start, fault: Fault) -> (Pair, Result<Outcome, Difference>) {
         let mut lent = Lent::unmade();
-        let proved = begin(&mut lent.table, start);
+        let proved = begin(&mut lent.lent, start);
         let (table, second) = history::begin(start, fault);
         let pair = Pair { proved: lent, second: table, fault };
         let compared = pair.compared(start, proved, &second);
@@ -191,7 +237,7 @@ impl Pair {
 
     /// Makes a call on both. Gives the outcome, or what differs.
     pub fn call(&mut self, made: &Call) -> Result<Outcome, Difference> {
-        let proved = call(&mut self.proved.table, made);
+        let proved = call(&mut self.proved.lent, made);
         let second = history::run(&mut self.second, made, self.fault);
         self.compared(made, proved, &second)
     }
@@ -220,7 +266,7 @@ impl Pair {
             let [a, b] = [&proved.lent, &second.lent].map(|lent| at.and_then(|i| lent.get(i)));
             found.push((Evidence::Lent, format!("lent byte {at:?}: proved {a:?}, second {b:?}")));
         }
-        let table = kept(&self.proved.table);
+        let table = kept(&self.proved.lent);
         if table != self.second {
             found.push((Evidence::Table, difference(&table, &self.second)));
         }
@@ -244,27 +290,49 @@ pub fn both(table: &mut Table, call: &Call) -> Outcome {
     outcome
 }
 
-/// The first field in which two tables differ.
+/// A call on a copy of a table, made by both programs, which have to agree. The plain plan is held to it too: what it says of the call is answered,
+/// and it becomes that of the copy. A table that is not sound gets 1.
+pub fn as_said(table: &Table, call: &Call) -> Outcome {
+    let mut made = table.clone();
+    let outcome = both(&mut made, call);
+    if sound(table) {
+        let mut plan = plan_of(table);
+        let said = plan.draw(call);
+        assert!(agrees(&outcome, said), "{call:?}: {outcome:?}, plan: {said:?}");
+        assert!(plan_of(&made) == plan, "{call:?}: another plan");
+    } else {
+        assert!(agrees(&outcome, Err(1)) && made == *table, "{call:?}: {outcome:?}");
+    }
+    outcome
+}
+
+/// The first word in which two tables differ.
 pub fn difference(proved: &Table, second: &Table) -> String {
-    let fields = |table: &Table| {
-        let own = [&[table.capacity, table.last], &table.used[..], &table.kinds, &table.contents];
-        [&own.concat()[..], &table.own, &table.targets, &table.bits, &table.counts].concat()
-    };
-    let (proved, second) = (fields(proved), fields(second));
-    match (0..proved.len()).find(|&i| proved[i] != second[i]) {
-        Some(i) => format!("word {i} of the table: proved {}, second {}", proved[i], second[i]),
+    let (mut proved, mut second) = (proved.clone(), second.clone());
+    let mut pairs = words(&mut proved).zip(words(&mut second)).enumerate();
+    match pairs.find(|(_, (a, b))| a != b) {
+        Some((i, (a, b))) => format!("word {i} of the table: proved {a}, second {b}"),
         None => "none".to_string(),
+    }
+}
+
+/// The next line of a visit by key lines: most are edits that suit the plan, the rest are malformed or odd.
+pub fn next_line(generator: &mut Generator, plan: &Plan) -> Vec<u8> {
+    match generator.call(plan) {
+        Call::Edit(command) => key_text(command),
+        Call::KeyLine(line) => line,
+        _ => generator.key_line(plan),
     }
 }
 
 /// A table of capacity 128 with a ring of steps 1 upward that have these kinds, which step 0 leads to. Contact i leads to the next by exit i % 4,
 /// every other step by the answered exit.
 pub fn ring(kinds: &[u16]) -> Table {
-    let (mut table, _) = fresh(128);
+    let mut table = fresh_for_cabin_0(128);
     let exits: Vec<u16> = [0].into_iter().chain(exits(kinds)).collect();
     for (step, &kind) in kinds.iter().enumerate() {
         let content = 1 + step as u16 % 15;
-        assert_eq!(add(&mut table, step as u16, exits[step], kind, content).refusal, 0);
+        assert_eq!(add(&mut table, step as u16, exits[step], kind, content, 0).refusal, 0);
     }
     let last = kinds.len();
     assert_eq!(link(&mut table, 0, 0, last as u16, exits[last]).refusal, 0);

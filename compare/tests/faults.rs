@@ -1,11 +1,12 @@
 //! Faults planted in the second program. The comparison has to find each, by the evidence that it leaves, in the calls that have it and in no other.
 
 use compare::{ring, rounds, Evidence, Pair};
-use reference::calls::{fresh, Command};
+use reference::cabins::one_cabin;
+use reference::calls::{fresh_for_cabin_0, Command};
 use reference::faults::{Fault, Length, Part, Sort};
-use reference::generate::{key_text, Generator, Random};
+use reference::generate::{key_text, start, Generator, Random};
 use reference::history::{run, Call, Start};
-use reference::image::write;
+use reference::image::encode;
 use reference::plan::plan_of;
 use reference::sound::{ALARM, CONTACT, MESSAGE, WAIT};
 use reference::table::Table;
@@ -20,8 +21,8 @@ fn cases() -> Vec<(Table, Call)> {
     let mut cases = Vec::new();
     for seed in 0..32 {
         let mut table = match seed % 4 {
-            0 => fresh(128).0,
-            1 => fresh(4).0,
+            0 => fresh_for_cabin_0(128),
+            1 => fresh_for_cabin_0(4),
             _ => Random(seed).sound_table(),
         };
         let mut generator = Generator::new(seed);
@@ -37,21 +38,21 @@ fn cases() -> Vec<(Table, Call)> {
     let mut unsound = ring(&[CONTACT; 5]);
     unsound.counts[3] += 1;
     let each = [
-        Call::Edit(Command::Add { holder: 0, exit: 3, kind: 1, content: 0 }),
+        Call::Edit(Command::Add { holder: 0, exit: 3, kind: 1, content: 0, cabin: 0 }),
         Call::Edit(Command::Link { source: 0, source_exit: 0, second: 0, second_exit: 2 }),
         Call::Edit(Command::Clear { step: 0, exit: 0 }),
         Call::Edit(Command::Count),
-        Call::Squeeze { capacity: 128 },
+        Call::Squeeze { capacity: 128, quotas: one_cabin(128) },
         Call::Read { step: 0 },
         Call::Trial { limit: 4, results: vec![0, 1], trace: 4 },
-        Call::Write { buffer: 2570 },
+        Call::Write { buffer: 2858 },
         Call::ImageLength,
         Call::KeyLine(b"H*4A".to_vec()),
     ];
     cases.extend(each.map(|call| (unsound.clone(), call)));
     let kinds = [CONTACT; 5];
     let ring = ring(&kinds);
-    let refused = Command::Add { holder: 0, exit: 0, kind: 0, content: 0 };
+    let refused = Command::Add { holder: 0, exit: 0, kind: 0, content: 0, cabin: 0 };
     cases.push((ring.clone(), Call::KeyLine(key_text(refused))));
     for (limit, results, trace) in [(300, 300, 300), (65535, 70_000, 65_535), (9, 7, 65_536)] {
         let results = rounds(&kinds, results);
@@ -63,15 +64,14 @@ fn cases() -> Vec<(Table, Call)> {
     cases
 }
 
-/// First calls: fresh and load, accepted and refused.
+/// First calls: fresh and load, accepted and refused, those of made-up histories and some more.
 fn starts() -> Vec<Start> {
-    let mut image = vec![0; 2570];
-    let written = write(&ring(&[CONTACT; 5]), &mut image).first;
-    image.truncate(written.into());
+    let image = encode(&ring(&[CONTACT; 5]));
     let long = [&image[..], &vec![0; 65_536]].concat();
     let loads = [image, Vec::new(), long].map(|image| Start::Load { image });
-    let fresh = [0, 1, 128, 129].map(|capacity| Start::Fresh { capacity });
-    fresh.into_iter().chain(loads).collect()
+    let fresh =
+        [0, 1, 128, 129].map(|capacity| Start::Fresh { capacity, quotas: one_cabin(capacity) });
+    (0..72).map(start).chain(fresh).chain(loads).collect()
 }
 
 /// What the comparison finds of a fault.
@@ -85,40 +85,62 @@ fn found(fault: Fault, starts: &[Start], cases: &[(Table, Call)]) -> Found {
         .collect()
 }
 
+/// Calls of these sorts that differ in each of these ways.
+fn ways(sorts: &[Sort], ways: &[&[Evidence]]) -> Found {
+    sorts.iter().flat_map(|&sort| ways.iter().map(move |way| (sort, way.to_vec()))).collect()
+}
+
 /// The faults that have a name: the calls that show it, and each of the ways in which a call shows it.
-fn named() -> Vec<(Fault, Vec<Sort>, Vec<Vec<Evidence>>)> {
+fn named() -> Vec<(Fault, Found)> {
     use Evidence::*;
     use Fault::*;
-    use Sort::{Add, Clear, Count, KeyLine, Link, Read, Squeeze, Trial, Write};
+    use Sort::{Add, Clear, Count, Fresh, KeyLine, Link, Load, Read, Squeeze, Trial, Write};
+    let added: &[Evidence] = &[Refusal, Number(0), Table];
     vec![
-        (CopyKeepsStrength, vec![Link, KeyLine], vec![vec![Table]]),
-        (CounterOffByOne, vec![Link, KeyLine], vec![vec![Table]]),
-        (HighestFirst, vec![Clear, KeyLine], vec![vec![Table]]),
-        (FreedKeepsBit, vec![Clear, KeyLine], vec![vec![Table]]),
+        (CopyKeepsStrength, ways(&[Link, KeyLine], &[&[Table]])),
+        (CounterOffByOne, ways(&[Link, KeyLine], &[&[Table]])),
+        (HighestFirst, ways(&[Clear, KeyLine], &[&[Table]])),
+        (FreedKeepsBit, ways(&[Clear, KeyLine], &[&[Table]])),
+        (FreedKeepsCabin, ways(&[Clear, KeyLine], &[&[Table]])),
         (
             SkipRepair,
-            vec![Clear, KeyLine],
-            vec![vec![Number(0), Table], vec![Number(0), Number(1), Table]],
+            ways(&[Clear, KeyLine], &[&[Number(0), Table], &[Number(0), Number(1), Table]]),
         ),
-        (SwappedRefusals, vec![Add, KeyLine], vec![vec![Refusal]]),
-        (FitBeforeRange, vec![Squeeze], vec![vec![Refusal]]),
-        (OrderReversed, vec![Squeeze], vec![vec![Table]]),
-        (TargetsStay, vec![Squeeze], vec![vec![Table]]),
-        (OwnBitsStay, vec![Squeeze], vec![vec![Table]]),
-        (CountersStay, vec![Squeeze], vec![vec![Table]]),
-        (RecordsStay, vec![Squeeze], vec![vec![Table]]),
-        (LastStays, vec![Squeeze], vec![vec![Table]]),
-        (StoppedBeforeOpen, vec![Trial], vec![vec![Number(0)]]),
-        (StoppedBeforeSpent, vec![Trial], vec![vec![Number(0)]]),
-        (OpenBeforeSpent, vec![Trial], vec![vec![Number(0)]]),
-        (DoubtfulSaidFreed, vec![Clear], vec![vec![Number(1)]]),
-        (CountsExchanged, vec![Count], vec![vec![Number(0), Number(1)]]),
-        (CountersExchanged, vec![Read], vec![vec![Number(11), Number(12)]]),
-        (SpentSaidOpen, vec![Trial], vec![vec![Number(0)]]),
-        (StoppedSaidSpent, vec![Trial], vec![vec![Number(0)]]),
-        (TraceOneBehind, vec![Trial], vec![vec![Lent]]),
-        (WrittenDescending, vec![Write], vec![vec![Lent]]),
-        (MovesInAByte, vec![Trial], vec![vec![Number(2)]]),
+        (SwappedRefusals, ways(&[Add, KeyLine], &[&[Refusal]])),
+        (CabinAfterHolder, ways(&[Add], &[&[Refusal]])),
+        (CabinCut, ways(&[Add], &[&[Refusal], added])),
+        (CabinForgotten, ways(&[Add], &[&[Table]])),
+        (AlarmCharged, ways(&[Add, KeyLine], &[&[Refusal], added])),
+        (LimitPassed, ways(&[Add, KeyLine], &[&[Refusal], added])),
+        (ReservedTaken, ways(&[Add, KeyLine], &[added])),
+        (ReservedBeforeLimit, ways(&[Add, KeyLine], &[&[Refusal]])),
+        (GuaranteeRefused, ways(&[Add, KeyLine], &[added])),
+        (SumIn16Bits, &ways(&[Fresh], &[&[Refusal, Table]]) | &ways(&[Squeeze], &[&[Refusal]])),
+        (ListBeforeRange, ways(&[Fresh, Squeeze], &[&[Refusal]])),
+        (EditionsMixed, ways(&[Load], &[&[Refusal, Table]])),
+        (NoGuaranteeLoaded, ways(&[Load], &[&[Table]])),
+        (FitBeforeRange, ways(&[Squeeze], &[&[Refusal]])),
+        (FitBeforeList, ways(&[Squeeze], &[&[Refusal]])),
+        (FitBySize, ways(&[Squeeze], &[&[Refusal, Table]])),
+        (OrderReversed, ways(&[Squeeze], &[&[Table]])),
+        (TargetsStay, ways(&[Squeeze], &[&[Table]])),
+        (OwnBitsStay, ways(&[Squeeze], &[&[Table]])),
+        (CountersStay, ways(&[Squeeze], &[&[Table]])),
+        (RecordsStay, ways(&[Squeeze], &[&[Table]])),
+        (LastStays, ways(&[Squeeze], &[&[Table]])),
+        (CabinsLost, ways(&[Squeeze], &[&[Table]])),
+        (ListStays, ways(&[Squeeze], &[&[Table]])),
+        (StoppedBeforeOpen, ways(&[Trial], &[&[Number(0)]])),
+        (StoppedBeforeSpent, ways(&[Trial], &[&[Number(0)]])),
+        (OpenBeforeSpent, ways(&[Trial], &[&[Number(0)]])),
+        (DoubtfulSaidFreed, ways(&[Clear], &[&[Number(1)]])),
+        (CountsExchanged, ways(&[Count], &[&[Number(0), Number(1)]])),
+        (CountersExchanged, ways(&[Read], &[&[Number(11), Number(12)]])),
+        (SpentSaidOpen, ways(&[Trial], &[&[Number(0)]])),
+        (StoppedSaidSpent, ways(&[Trial], &[&[Number(0)]])),
+        (TraceOneBehind, ways(&[Trial], &[&[Lent]])),
+        (WrittenDescending, ways(&[Write], &[&[Lent]])),
+        (MovesInAByte, ways(&[Trial], &[&[Number(2)]])),
     ]
 }
 
@@ -126,11 +148,10 @@ fn named() -> Vec<(Fault, Vec<Sort>, Vec<Vec<Evidence>>)> {
 fn planted_faults_show() {
     let (starts, cases) = (starts(), cases());
     assert_eq!(found(Fault::None, &starts, &cases), Found::new());
-    for (fault, sorts, ways) in named() {
+    for (fault, ways) in named() {
         let found = found(fault, &starts, &cases);
         println!("{fault:?} is found by {found:?}");
-        let pairs = sorts.iter().flat_map(|sort| ways.iter().map(|way| (*sort, way.clone())));
-        assert_eq!(found, pairs.collect(), "{fault:?}");
+        assert_eq!(found, ways, "{fault:?}");
     }
 }
 

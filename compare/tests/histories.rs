@@ -1,87 +1,107 @@
-//! Every call of made-up histories, through the interface and on the second program: key lines alone, and all calls, from fresh tables and from
-//! tables with strengths that no history from a fresh one gives.
+//! Every call of made-up histories, through the interface and on the second program: key lines alone, and all calls, from fresh tables, from loaded
+//! ones, and from tables with strengths that no history from a fresh one gives.
 
-use compare::Pair;
-use reference::calls::fresh;
+use compare::{next_line, Pair, Refusals};
+use reference::calls::{fresh_for_cabin_0, Command};
 use reference::faults::Fault;
-use reference::generate::{key_text, Generator, Random};
-use reference::history::Call;
+use reference::generate::{start, Generator, Random};
+use reference::history::{Call, Outcome};
 use reference::plan::plan_of;
 use reference::table::Table;
 
 /// What a run of calls came across, so that a test can say that it covered what it should.
-#[derive(Default)]
+#[derive(Default, Debug)]
 struct Seen {
-    refusals: [usize; 14],
+    /// First calls by their refusal, and all other calls.
+    begun: Refusals,
+    refusals: Refusals,
     full: usize,
     freed: usize,
     kept: usize,
     refilled: usize,
     squeezed: usize,
     renumbered: usize,
+    /// Squeezes refused for a bad list, for too small a capacity, and for steps that do not fit a good list.
+    bad_lists: usize,
+    too_small: usize,
+    unfit_lists: usize,
+    /// Accepted adds by their cabin, and refused ones for a cabin above 7.
+    adds: [usize; 8],
+    no_cabin: usize,
+    /// Key lines refused by 14 and by 15.
+    held_lines: [usize; 2],
     /// Trials by their ending.
     endings: [usize; 3],
 }
 
 impl Seen {
-    fn note(&mut self, refusal: u16, numbers: &[usize], clear: bool, table: &Table) {
-        self.refusals[usize::from(refusal)] += 1;
-        if refusal == 0 && clear {
-            self.freed += usize::from(numbers[1] > 0);
-            self.kept += usize::from(numbers[0] > numbers[1]);
+    /// Notes a call, the table before it and the table after it.
+    fn note(&mut self, call: &Call, outcome: &Outcome, before: &Table, after: &Table) {
+        let Outcome { refusal, numbers, .. } = outcome;
+        let accepted = *refusal == 0;
+        self.refusals[usize::from(*refusal)] += 1;
+        match call.command() {
+            Some(Command::Add { cabin, .. }) if accepted => self.adds[usize::from(cabin)] += 1,
+            Some(Command::Add { .. }) => self.no_cabin += usize::from(*refusal == 16),
+            Some(Command::Clear { .. }) if accepted => {
+                self.freed += usize::from(numbers[1] > 0);
+                self.kept += usize::from(numbers[0] > numbers[1]);
+            }
+            _ => {}
         }
-        if table.size() == 128 {
+        match call {
+            Call::Squeeze { .. } if accepted => {
+                self.squeezed += 1;
+                self.renumbered += usize::from(after.used != before.used);
+            }
+            Call::Squeeze { capacity, .. } => {
+                let small = *capacity < before.size();
+                self.bad_lists += usize::from(*refusal == 16);
+                self.too_small += usize::from(*refusal == 13 && small);
+                self.unfit_lists += usize::from(*refusal == 13 && !small);
+            }
+            Call::Trial { .. } if accepted => self.endings[numbers[0]] += 1,
+            Call::KeyLine(_) if matches!(refusal, 14 | 15) => {
+                self.held_lines[usize::from(refusal - 14)] += 1;
+            }
+            _ => {}
+        }
+        if after.size() == 128 {
             self.full += 1;
             self.refilled += usize::from(self.freed > 0);
         }
     }
 }
 
-/// A visit by key lines: most lines are edits that suit the plan, the rest are malformed or odd.
-fn visit(seed: u64, lines: usize, seen: &mut Seen) -> Result<(), String> {
-    let mut pair = Pair::new(&fresh(128).0, Fault::None);
-    let mut generator = Generator::new(seed);
-    for _ in 0..lines {
-        let plan = plan_of(&pair.second);
-        let line = match generator.call(&plan) {
-            Call::Edit(command) => key_text(command),
-            Call::KeyLine(line) => line,
-            _ => generator.key_line(&plan),
-        };
-        let clear = line.starts_with(b"H*3");
-        let outcome =
-            pair.call(&Call::KeyLine(line)).map_err(|what| format!("seed {seed}: {what:?}"))?;
-        seen.note(outcome.refusal, &outcome.numbers, clear, &pair.second);
+/// Makes so many calls on a pair of tables.
+fn run(mut pair: Pair, calls: usize, seen: &mut Seen, mut next: impl FnMut(&Table) -> Call) {
+    for _ in 0..calls {
+        let before = pair.second.clone();
+        let call = next(&before);
+        let outcome = pair.call(&call).unwrap();
+        seen.note(&call, &outcome, &before, &pair.second);
     }
-    Ok(())
 }
 
-/// A history of all calls on a table.
-fn history(seed: u64, start: &Table, calls: usize, seen: &mut Seen) -> Result<(), String> {
-    let mut pair = Pair::new(start, Fault::None);
+/// A visit by key lines.
+fn visit(seed: u64, lines: usize, start: &Table, seen: &mut Seen) {
     let mut generator = Generator::new(seed);
-    for _ in 0..calls {
-        let call = generator.call(&plan_of(&pair.second));
-        let used = pair.second.used;
-        let outcome = pair.call(&call).map_err(|what| format!("seed {seed}: {what:?}"))?;
-        if outcome.refusal == 0 && matches!(call, Call::Squeeze { .. }) {
-            seen.squeezed += 1;
-            seen.renumbered += usize::from(pair.second.used != used);
-        }
-        if outcome.refusal == 0 && matches!(call, Call::Trial { .. }) {
-            seen.endings[outcome.numbers[0]] += 1;
-        }
-        let clear = matches!(call, Call::Edit(reference::calls::Command::Clear { .. }));
-        seen.note(outcome.refusal, &outcome.numbers, clear, &pair.second);
-    }
-    Ok(())
+    run(Pair::new(start, Fault::None), lines, seen, |table| {
+        Call::KeyLine(next_line(&mut generator, &plan_of(table)))
+    });
+}
+
+/// A history of all calls.
+fn history(seed: u64, pair: Pair, calls: usize, seen: &mut Seen) {
+    let mut generator = Generator::new(seed);
+    run(pair, calls, seen, |table| generator.call(&plan_of(table)));
 }
 
 #[test]
 fn key_lines_agree() {
     let mut seen = Seen::default();
     for seed in 1000..1012 {
-        visit(seed, 1500, &mut seen).unwrap();
+        visit(seed, 1500, &fresh_for_cabin_0(128), &mut seen);
     }
     assert!(
         seen.full > 100 && seen.refilled > 100,
@@ -91,25 +111,38 @@ fn key_lines_agree() {
     for refusal in [0, 3, 4, 5, 6, 7, 8, 9] {
         assert!(seen.refusals[refusal] > 0, "refusal {refusal} came up");
     }
+    assert_eq!(seen.held_lines, [0, 0], "with cabin 0 alone, 8 comes first");
+    for seed in 1012..1052 {
+        visit(seed, 150, &Random(seed).sound_table(), &mut seen);
+    }
+    assert!(seen.held_lines.iter().all(|&lines| lines > 100), "{:?}", seen.held_lines);
 }
 
 #[test]
 fn histories_agree() {
     let mut seen = Seen::default();
     for seed in 0..12 {
-        visit(seed, 1500, &mut seen).unwrap();
+        visit(seed, 1500, &fresh_for_cabin_0(128), &mut seen);
     }
     for seed in 100..140 {
         let capacity = [1, 2, 3, 4, 5, 8, 16, 64, 127, 128][seed as usize % 10];
-        history(seed, &fresh(capacity).0, 500, &mut seen).unwrap();
+        history(seed, Pair::new(&fresh_for_cabin_0(capacity), Fault::None), 500, &mut seen);
     }
     for seed in 200..280 {
-        let start = Random(seed).sound_table();
-        history(seed, &start, 150, &mut seen).unwrap();
+        history(seed, Pair::new(&Random(seed).sound_table(), Fault::None), 150, &mut seen);
     }
+    for seed in 300..390 {
+        let (pair, begun) = Pair::begin(&start(seed), Fault::None);
+        seen.begun[usize::from(begun.unwrap().refusal)] += 1;
+        history(seed, pair, 250, &mut seen);
+    }
+    println!("{seen:?}");
     assert!(seen.squeezed > 300 && seen.renumbered > 100, "squeezes gave new numbers");
     assert!(seen.endings.iter().all(|&ended| ended > 300), "trials ended {:?}", seen.endings);
-    for refusal in [0, 2, 3, 4, 5, 6, 7, 8, 9, 10, 11, 13] {
-        assert!(seen.refusals[refusal] > 0, "refusal {refusal} came up");
+    for (refusal, &calls) in seen.refusals.iter().enumerate() {
+        assert_eq!(calls > 100, !matches!(refusal, 1 | 12), "{calls} with refusal {refusal}");
+        assert_eq!(seen.begun[refusal] > 0, matches!(refusal, 0 | 2 | 12 | 16));
     }
+    assert!(seen.bad_lists > 100 && seen.too_small > 100 && seen.unfit_lists > 100);
+    assert!(seen.adds.iter().all(|&adds| adds > 300) && seen.no_cabin > 100);
 }

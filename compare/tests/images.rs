@@ -1,21 +1,29 @@
-//! Images: written, loaded, damaged a byte at a time, cut, extended, with their records in any order; into buffers one byte short, exact and longer.
+//! Images of both editions: written, loaded, damaged a byte at a time, cut, extended, with their records in any order and of both editions; into
+//! buffers one byte short, exact and longer.
 
 use compare::{kept, Pair};
-use reference::calls::fresh;
+use reference::cabins::{list, one_cabin};
+use reference::calls::fresh_for_cabin_0;
 use reference::faults::Fault;
 use reference::generate::Random;
 use reference::history::{Call, Start, UNTOUCHED};
-use reference::image::{fields, HEADER, RECORD};
-use reference::plan::plan_of;
+use reference::image::{fields, in_edition_1, in_edition_2, records, HEADER, RECORD};
+use reference::plan::{plan_of, Plan};
 use reference::sound::sound;
 use reference::table::Table;
 
-/// Loads an image in both programs. Gives the table, or nothing where it was refused.
+/// Loads an image in both programs. Gives the table, or nothing where it was refused. The plan is the one that the image says.
 fn loaded(bytes: &[u8]) -> Option<Table> {
     let (pair, compared) = Pair::begin(&Start::Load { image: bytes.to_vec() }, Fault::None);
     let outcome = compared.unwrap();
     assert_eq!(outcome.numbers, [0, 0]);
-    (outcome.refusal == 0).then(|| kept(&pair.proved.table))
+    let table = kept(&pair.proved.lent);
+    if outcome.refusal != 0 {
+        assert!(outcome.refusal == 12 && table == fresh_for_cabin_0(1));
+        return None;
+    }
+    assert!(plan_of(&table) == Plan::of_image(bytes), "the table has another plan than the image");
+    Some(table)
 }
 
 /// The image that both programs write, with the buffer one byte short, exact and longer.
@@ -31,112 +39,192 @@ fn image_of(table: &Table) -> Vec<u8> {
     }
     let outcome = pair.call(&Call::Write { buffer: needed }).unwrap();
     assert_eq!((outcome.refusal, outcome.numbers), (0, vec![needed, 0]));
-    assert!(kept(&pair.proved.table) == *table, "writing changed the table");
+    assert!(kept(&pair.proved.lent) == *table, "writing changed the table");
     outcome.lent
 }
 
 /// Made-up tables of all sizes, with strengths that no history from a fresh table gives.
 fn tables(seeds: std::ops::Range<u64>) -> impl Iterator<Item = Table> {
-    let ends = [1, 2, 4, 128].into_iter().map(|capacity| fresh(capacity).0);
+    let ends = [1, 2, 4, 128].into_iter().map(fresh_for_cabin_0);
     ends.chain(seeds.map(|seed| Random(seed).sound_table()))
+}
+
+/// The table that an image of edition 1 makes of this one: all steps are cabin 0's.
+fn for_cabin_0(table: &Table) -> Table {
+    Table { cabins: [0; 128], quotas: one_cabin(table.capacity), ..table.clone() }
+}
+
+/// The image that both programs write, and the same in edition 1, each with the table that it is to load as.
+fn both_editions(table: &Table) -> [(Vec<u8>, Table); 2] {
+    let image = image_of(table);
+    [(in_edition_1(&image), for_cabin_0(table)), (image, table.clone())]
 }
 
 #[test]
 fn images_written_and_loaded() {
     for table in tables(0..300) {
-        let image = image_of(&table);
-        assert!(loaded(&image) == Some(table), "the image loads as another table");
+        for (image, expected) in both_editions(&table) {
+            assert!(loaded(&image) == Some(expected), "the image loads as another table");
+        }
     }
 }
 
-/// Records in any order load as one table, which both programs write with the records in ascending step number.
+/// Records in any order load as one table, which both programs write with the records in ascending step number, and in edition 2.
 #[test]
 fn records_in_any_order() {
     let mut random = Random(7);
     let mut moved = 0;
-    for table in tables(300..500) {
-        let image = image_of(&table);
-        let (header, steps) = image.split_at(HEADER);
-        let mut records: Vec<&[u8]> = steps.chunks(RECORD).collect();
-        assert!(records.is_sorted_by_key(|record| fields::<3>(record)[2]), "not ascending");
-        records.reverse();
+    for (image, table) in tables(300..500).flat_map(|table| both_editions(&table)) {
+        let (header, mut steps) = (records(&image)[0], records(&image)[1..].to_vec());
+        assert!(steps.is_sorted_by_key(|record| fields::<3>(record)[2]), "not ascending");
+        steps.reverse();
         for _ in 0..3 {
-            let other = [header, &records.concat()].concat();
+            let other = [header, &steps.concat()].concat();
             let again = loaded(&other).expect("the order of records matters");
             assert!(again == table, "the order of records makes another table");
-            assert!(image_of(&again) == image, "an image is not sorted by loading and writing it");
+            assert!(Some(image_of(&again)) == in_edition_2(&image), "not sorted by writing");
             moved += usize::from(other != image);
-            random.shuffle(&mut records);
+            random.shuffle(&mut steps);
         }
     }
-    assert!(moved > 400, "{moved} orders other than the written one");
+    assert!(moved > 800, "{moved} orders other than the written one");
 }
 
-/// One table, one image: tables that differ in a strength alone have different images, though one plan.
+/// One table, one image: tables that differ in a strength alone have different images, though one plan. So do tables that differ in a cabin, a
+/// guarantee or a limit alone.
 #[test]
 fn images_tell_tables_apart() {
-    let mut pairs = 0;
+    let (mut strengths, mut cabins, mut quotas) = (0, 0, 0);
     for table in tables(580..640) {
         let image = image_of(&table);
-        for place in (0..table.bits.len()).filter(|&place| table.targets[place] != 0) {
+        // 1 where the change makes another sound table
+        let apart = |change: &dyn Fn(&mut Table)| {
             let mut other = table.clone();
-            other.bits[place] ^= 1;
-            other.counts = other.counted();
-            if sound(&other) {
-                assert!(plan_of(&other) == plan_of(&table));
-                assert!(image_of(&other) != image, "two tables, one image");
-                pairs += 1;
-            }
+            change(&mut other);
+            let is_other = other != table && sound(&other);
+            assert!(!is_other || image_of(&other) != image, "two tables, one image");
+            usize::from(is_other)
+        };
+        for place in (0..table.bits.len()).filter(|&place| table.targets[place] != 0) {
+            strengths += apart(&|other| {
+                other.bits[place] ^= 1;
+                other.counts = other.counted();
+                assert!(plan_of(other) == plan_of(&table));
+            });
+        }
+        for (step, cabin) in (0..128).flat_map(|step| [0, 1, 7].map(|cabin| (step, cabin))) {
+            cabins += apart(&|other| other.cabins[step] = cabin);
+        }
+        for (at, value) in (0..16).flat_map(|at| [0, 1, 9, u16::MAX].map(|value| (at, value))) {
+            quotas += apart(&|other| other.quotas[at] = value);
         }
     }
-    assert!(pairs > 100, "{pairs} pairs");
+    assert!(strengths > 100 && cabins > 1000 && quotas > 1000, "{strengths} {cabins} {quotas}");
 }
 
 /// Every byte of an image takes several wrong values; some of the results are accepted.
 #[test]
 fn images_damaged() {
-    let (mut accepted, mut refused) = (0, 0);
+    // refused and accepted, by edition
+    let mut found = [[0; 2]; 2];
     for table in tables(500..560) {
-        let mut image = image_of(&table);
-        for at in 0..image.len() {
-            let was = image[at];
-            for now in [
-                was ^ 1,
-                was ^ 2,
-                was ^ 16,
-                was.wrapping_add(1),
-                was.wrapping_sub(1),
-                0,
-                127,
-                128,
-                255,
-            ] {
-                image[at] = now;
-                *if loaded(&image).is_some() { &mut accepted } else { &mut refused } += 1;
+        for (edition, (mut image, _)) in both_editions(&table).into_iter().enumerate() {
+            for at in 0..image.len() {
+                let was = image[at];
+                let near = [was ^ 1, was ^ 2, was ^ 16, was.wrapping_add(1), was.wrapping_sub(1)];
+                for now in near.into_iter().chain([0, 127, 128, 255]) {
+                    image[at] = now;
+                    found[edition][usize::from(loaded(&image).is_some())] += 1;
+                }
+                image[at] = was;
             }
-            image[at] = was;
         }
     }
-    assert!(accepted > 100 && refused > 1000, "{accepted} accepted, {refused} refused");
+    assert!(found.iter().all(|[no, yes]| *no > 1000 && *yes > 100), "{found:?}");
+}
+
+/// A field with an odd number in it, a cut, records again, and records of both editions.
+#[test]
+fn images_damaged_at_random() {
+    let mut random = Random(11);
+    let mut accepted = 0;
+    for (mut image, _) in tables(640..1640).flat_map(|table| both_editions(&table)) {
+        for _ in 0..1 + random.below(2) {
+            let mut damaged = image.clone();
+            random.damage_image(&mut damaged);
+            match loaded(&damaged) {
+                Some(_) => {
+                    accepted += 1;
+                    image = damaged;
+                }
+                None => break,
+            }
+        }
+    }
+    assert!(accepted > 100, "{accepted} accepted");
+}
+
+/// One record, the header or any step's, of the other edition than all the rest.
+#[test]
+fn editions_do_not_mix() {
+    let mut random = Random(12);
+    let mut mixed = 0;
+    for table in tables(1640..1700) {
+        let image = image_of(&for_cabin_0(&table));
+        for record in 0..records(&image).len() {
+            assert_eq!(loaded(&random.mixed_image(&image, record)), None, "record {record}");
+            mixed += 1;
+        }
+    }
+    assert!(mixed > 1000, "{mixed}");
+}
+
+/// Capacities in the header that no table has, 0 among them, in both editions, with step 0 and with no step.
+#[test]
+fn bad_capacities() {
+    for (image, _) in both_editions(&fresh_for_cabin_0(1)) {
+        for capacity in [0, 129, 256, 257, 32768, 65535] {
+            let mut bad = image.clone();
+            bad[4..6].copy_from_slice(&u16::to_le_bytes(capacity));
+            assert_eq!(loaded(&bad), None, "{capacity}");
+            bad.truncate(records(&image)[0].len());
+            bad[8] = 0;
+            assert_eq!(loaded(&bad), None, "{capacity}, and no step");
+        }
+    }
+}
+
+/// Lists in the header whose guarantees add up to 0 in 16 bits, or to a little more.
+#[test]
+fn sums_past_16_bits() {
+    let image = image_of(&fresh_for_cabin_0(128));
+    for times in [2, 4, 8] {
+        for more in 0..3 {
+            let mut pairs = vec![[(65536 / times) as u16, 65535]; times];
+            pairs[0][0] += more;
+            let quotas = list(&pairs).map(u16::to_le_bytes);
+            let header = [&image[..10], quotas.as_flattened()].concat();
+            assert_eq!(loaded(&[&header, &image[HEADER..]].concat()), None);
+        }
+    }
 }
 
 #[test]
 fn images_cut_and_extended() {
     let mut random = Random(9);
-    for table in tables(560..580) {
-        let image = image_of(&table);
+    for (image, _) in tables(560..580).flat_map(|table| both_editions(&table)) {
         for length in 0..image.len().min(200) {
             assert_eq!(loaded(&image[..length]), None);
             assert_eq!(loaded(&image[..image.len() - 1 - length]), None);
         }
-        for more in [1, 2, 9, 10, 19, 20, 21, 40, 5000] {
+        for more in [1, 2, 9, 10, 19, 20, 21, 22, 23, 40, 42, 44, 5000] {
             let tail: Vec<u8> = (0..more).map(|_| random.below(256) as u8).collect();
             assert_eq!(loaded(&[&image[..], &tail].concat()), None);
             assert_eq!(loaded(&[&image[..], &vec![0; more]].concat()), None);
         }
-        let last = &image[image.len() - RECORD..];
-        assert_eq!(loaded(&[&image[..], last].concat()), None, "a step twice");
-        assert_eq!(loaded(&[&image[..], &image[..HEADER]].concat()), None, "a second header");
+        let all = records(&image);
+        assert_eq!(loaded(&[&image[..], all[all.len() - 1]].concat()), None, "a step twice");
+        assert_eq!(loaded(&[&image[..], all[0]].concat()), None, "a second header");
     }
     let mut bytes = vec![0; 3000];
     for _ in 0..300 {

@@ -1,10 +1,10 @@
 //! The program `keys` on whole inputs, as the gate built it, beside the second program's: visits that fill the table, make rings, clear and refill,
 //! malformed lines, blank lines, a last line without its byte 10, and no input at all.
 
+use compare::next_line;
 use compare::process::{keys_program, output};
-use reference::calls::fresh;
-use reference::generate::{key_text, Generator, Random};
-use reference::history::Call;
+use reference::calls::fresh_for_cabin_0;
+use reference::generate::{Generator, Random};
 use reference::keys::{answer_lines, key_line};
 use reference::plan::plan_of;
 use std::fs::File;
@@ -48,16 +48,11 @@ fn agrees(input: &[u8]) {
 
 /// The lines of a visit, each ended by byte 10 but perhaps the last.
 fn visit(seed: u64, lines: usize) -> Vec<u8> {
-    let (mut table, _) = fresh(128);
+    let mut table = fresh_for_cabin_0(128);
     let mut generator = Generator::new(seed);
     let mut input = Vec::new();
     for _ in 0..lines {
-        let plan = plan_of(&table);
-        let line = match generator.call(&plan) {
-            Call::Edit(command) => key_text(command),
-            Call::KeyLine(line) => line,
-            _ => generator.key_line(&plan),
-        };
+        let line = next_line(&mut generator, &plan_of(&table));
         key_line(&mut table, &line);
         input.extend(line);
         input.push(10);

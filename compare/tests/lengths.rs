@@ -2,11 +2,11 @@
 //! programs run each call; answers, written bytes and untouched ones are also held to what this file works out by itself.
 
 use compare::{both, ring, rounds, Pair};
-use reference::calls::{fresh, Ending};
+use reference::calls::{fresh_for_cabin_0, Ending};
 use reference::faults::Fault;
 use reference::generate::Random;
 use reference::history::{Call, Outcome, Start, UNTOUCHED};
-use reference::image::{write, HEADER, RECORD};
+use reference::image::{encode, in_edition_1, records};
 use reference::sound::{CONTACT, MESSAGE, WAIT};
 use reference::table::Table;
 
@@ -122,20 +122,13 @@ fn long_traces() {
 
 /// Small tables and large ones.
 fn tables() -> [Table; 4] {
-    [fresh(4).0, ring(&[CONTACT; 5]), ring(&[CONTACT; 127]), Random(3).sound_table()]
-}
-
-/// The image of a table, by the second program, into a buffer that just fits.
-fn image_of(table: &Table) -> Vec<u8> {
-    let mut image = vec![0; HEADER + RECORD * usize::from(table.size())];
-    assert_eq!(write(table, &mut image).refusal, 0);
-    image
+    [fresh_for_cabin_0(4), ring(&[CONTACT; 5]), ring(&[CONTACT; 127]), Random(3).sound_table()]
 }
 
 #[test]
 fn long_buffers() {
     for table in tables() {
-        let image = image_of(&table);
+        let image = encode(&table);
         for buffer in LONG.into_iter().chain([65_536 + image.len() - 1, 65_536 + image.len()]) {
             let Outcome { refusal, numbers, lent } = made(&table, Call::Write { buffer });
             assert_eq!((refusal, numbers), (0, vec![image.len(), 0]), "{buffer}");
@@ -150,28 +143,31 @@ fn load_refused(image: Vec<u8>) {
     let (pair, compared) = Pair::begin(&Start::Load { image }, Fault::None);
     let outcome = compared.unwrap();
     assert_eq!((outcome.refusal, outcome.numbers), (12, vec![0, 0]));
-    assert!(pair.second == fresh(1).0);
+    assert!(pair.second == fresh_for_cabin_0(1));
 }
 
 /// Bytes that are no image, and accepted images with more behind them, so that what is left of their length in 16 bits is that of the image.
 #[test]
 fn long_images() {
     for length in LONG {
-        for byte in [0, 1, 10, UNTOUCHED] {
+        for byte in [0, 1, 10, 42, UNTOUCHED] {
             load_refused(vec![byte; length]);
         }
     }
-    for table in tables() {
-        let image = image_of(&table);
+    let images = tables().map(|table| encode(&table));
+    for image in images.iter().map(|image| in_edition_1(image)).chain(images.clone()) {
+        let (header, record) = (records(&image)[0].len(), records(&image)[1].len());
         let start = Start::Load { image: image.clone() };
         assert_eq!(Pair::begin(&start, Fault::None).1.unwrap().refusal, 0);
-        for more in LONG.into_iter().chain([65_520, 65_540, 2 * 65_536, 5 * 65_536]) {
+        // whole records, near 16 bits and in as many bytes as leave nothing in them
+        let whole = [65_535 / record, 65_535 / record + 1, 65_536 / 2].map(|n| n * record);
+        for more in LONG.into_iter().chain([2 * 65_536]).chain(whole) {
             load_refused([&image[..], &vec![0; more]].concat());
             // records again and again, with the count that the header has and with the count that is right in 16 bits
-            let records = image[HEADER..].iter().copied().cycle().take(more);
+            let records = image[header..].iter().copied().cycle().take(more);
             let mut long: Vec<u8> = image.iter().copied().chain(records).collect();
             load_refused(long.clone());
-            let count = ((long.len() - HEADER) / RECORD) as u16;
+            let count = ((long.len() - header) / record) as u16;
             long[8..10].copy_from_slice(&count.to_le_bytes());
             load_refused(long);
         }

@@ -6,12 +6,13 @@ use plan::change::{checked, Change};
 use plan::check::first_fault;
 use plan::diff::{diff, Verdict};
 use plan::view::View;
-use reference::calls::{add, clear, fresh, Command};
+use reference::calls::{add, clear, fresh_for_cabin_0, Command};
 use reference::generate::{Generator, Random};
-use reference::image::{load, write, HEADER, RECORD};
+use reference::image::{encode, in_edition_1, load, records};
 use reference::keys::{decode, key_line};
 use reference::plan::plan_of;
 use reference::sound::sound;
+use reference::squeeze::squeeze;
 use reference::table::{mark, members, place, Set, Table};
 use std::collections::{BTreeMap, BTreeSet};
 
@@ -75,7 +76,8 @@ fn verdict(a: &Table, b: &Table) -> Verdict {
     }
 }
 
-/// A sound table beside others: itself, with the bits of a step and of all links to it turned round, after a clearing, and squeezed.
+/// A sound table beside others: itself, with the bits of a step and of all links to it turned round, with another list or another cabin, after a
+/// clearing, and squeezed.
 #[test]
 fn differences() {
     let mut seen = BTreeMap::new();
@@ -92,7 +94,14 @@ fn differences() {
             }
         }
         turned.counts = turned.counted();
-        let mut others = vec![table.clone(), turned, Random(seed + 1).sound_table()];
+        let quotas = random.fitting_list(table.capacity, &table.charges());
+        let mut charged = table.clone();
+        charged.cabins[step] = random.below(8) as u16;
+        let mut squeezed = table.clone();
+        assert_eq!(squeeze(&mut squeezed, table.capacity, table.quotas).refusal, 0);
+        let mut others = vec![table.clone(), turned, Random(seed + 1).sound_table(), squeezed];
+        others.push(Table { quotas, ..table.clone() });
+        others.extend(sound(&charged).then_some(charged));
         for held in view(&table).links().take(20) {
             let mut after = table.clone();
             assert_eq!(clear(&mut after, held.step, held.exit.number()).refusal, 0);
@@ -148,7 +157,7 @@ fn strong_chains() {
 fn key_lines() {
     let mut seen = [0; 4];
     for seed in 9400..9410 {
-        let (mut table, _) = fresh(128);
+        let mut table = fresh_for_cabin_0(128);
         let mut generator = Generator::new(seed);
         for _ in 0..400 {
             let line = generator.key_line(&plan_of(&table));
@@ -182,13 +191,6 @@ fn key_lines() {
     assert!(seen.iter().all(|&times| times > 100), "{seen:?}");
 }
 
-/// The image of a table of the second program.
-fn image(table: &Table) -> Vec<u8> {
-    let mut bytes = vec![0; HEADER + RECORD * usize::from(table.size())];
-    assert_eq!(write(table, &mut bytes).refusal, 0);
-    bytes
-}
-
 /// A rule is broken exactly where the second program refuses the image. Gives the rule.
 fn rule(bytes: &[u8]) -> Option<u8> {
     let fault = first_fault(bytes);
@@ -200,45 +202,56 @@ fn rule(bytes: &[u8]) -> Option<u8> {
     fault.map(|fault| fault.rule)
 }
 
-/// Images with one or a few bytes damaged, cut, extended, and with records twice or left out. All ten rules come up.
-#[test]
-fn broken_rules() {
+/// Images with one or a few bytes damaged, cut, extended, with records twice or left out or of the other edition. Gives the rules that they break.
+fn rules_broken(whole: &[u8], random: &mut Random) -> BTreeSet<u8> {
     let mut rules = BTreeSet::new();
-    for seed in 9500..9540 {
-        let mut random = Random(seed);
-        let table = random.sound_table();
-        let whole = image(&table);
-        assert_eq!(rule(&whole), None);
-        for at in 0..whole.len().min(210) {
-            for value in [0, 1, 2, 3, 4, 16, 31, 32, 128, 255, whole[at] ^ 1, whole[at] ^ 128] {
-                let mut bytes = whole.clone();
-                bytes[at] = value;
-                rules.extend(rule(&bytes));
-            }
-        }
-        for _ in 0..200 {
-            let mut bytes = whole.clone();
-            for _ in 0..1 + random.below(3) {
-                let at = random.below(bytes.len());
-                bytes[at] = random.pick(&[0, 1, 2, 5, 20, 64, 255]);
-            }
-            rules.extend(rule(&bytes));
-        }
-        for length in [0, 1, 9, 10, 11, 29, whole.len() - 1] {
-            rules.extend(rule(&whole[..length]));
-        }
-        rules.extend(rule(&[&whole[..], b"\0"].concat()));
-        for (count, part) in [(1, &whole[HEADER..HEADER + RECORD]), (u16::MAX, &[])] {
-            let mut bytes = [&whole[..], part].concat();
-            let steps = u16::from_le_bytes([bytes[8], bytes[9]]).wrapping_add(count);
-            bytes[8..10].copy_from_slice(&steps.to_le_bytes());
-            if part.is_empty() {
-                bytes.drain(HEADER..HEADER + RECORD);
-            }
+    assert_eq!(rule(whole), None);
+    for at in 0..whole.len().min(210) {
+        for value in [0, 1, 2, 3, 4, 16, 31, 32, 128, 255, whole[at] ^ 1, whole[at] ^ 128] {
+            let mut bytes = whole.to_vec();
+            bytes[at] = value;
             rules.extend(rule(&bytes));
         }
     }
-    assert_eq!(rules, (1..=10).collect());
+    for _ in 0..200 {
+        let mut bytes = whole.to_vec();
+        for _ in 0..1 + random.below(3) {
+            let at = random.below(bytes.len());
+            bytes[at] = random.pick(&[0, 1, 2, 5, 20, 64, 255]);
+        }
+        rules.extend(rule(&bytes));
+        let mut bytes = whole.to_vec();
+        random.damage_image(&mut bytes);
+        rules.extend(rule(&bytes));
+    }
+    let (header, record) = (records(whole)[0].len(), records(whole)[1].len());
+    for length in [0, 1, header - 1, header, header + 1, header + record - 1, whole.len() - 1] {
+        rules.extend(rule(&whole[..length]));
+    }
+    rules.extend(rule(&[whole, b"\0"].concat()));
+    for (count, part) in [(1, &whole[header..header + record]), (u16::MAX, &[])] {
+        let mut bytes = [whole, part].concat();
+        let steps = u16::from_le_bytes([bytes[8], bytes[9]]).wrapping_add(count);
+        bytes[8..10].copy_from_slice(&steps.to_le_bytes());
+        if part.is_empty() {
+            bytes.drain(header..header + record);
+        }
+        rules.extend(rule(&bytes));
+    }
+    rules
+}
+
+/// All rules come up; in edition 1, all but those about cabins.
+#[test]
+fn broken_rules() {
+    let (mut old_rules, mut rules) = (BTreeSet::new(), BTreeSet::new());
+    for seed in 9500..9510 {
+        let mut random = Random(seed);
+        let image = encode(&random.sound_table());
+        old_rules.extend(rules_broken(&in_edition_1(&image), &mut random));
+        rules.extend(rules_broken(&image, &mut random));
+    }
+    assert_eq!((old_rules, rules), ((1..=10).collect(), (1..=14).collect()));
 }
 
 /// A change of an image: bytes put in, or its length.
@@ -282,9 +295,9 @@ impl Damage {
 /// once, the lower rule is told.
 #[test]
 fn rules_of_the_page() {
-    let (mut table, _) = fresh(4);
-    assert_eq!(add(&mut table, 0, 0, 1, 0).first, 1);
-    let whole = image(&table);
+    let mut table = fresh_for_cabin_0(4);
+    assert_eq!(add(&mut table, 0, 0, 1, 0, 0).first, 1);
+    let whole = encode(&table);
     let (_, page) = include_str!("../../docs/IMAGE.md").split_once("### Not accepted").unwrap();
     let rows = page.lines().filter_map(|line| {
         let cells: Vec<&str> = line.split('|').map(str::trim).collect();
@@ -292,7 +305,7 @@ fn rules_of_the_page() {
         Some((Damage::read(change, whole.len()), rule.parse().ok()?, byte.parse().ok()?))
     });
     let rows: Vec<(Damage, u8, usize)> = rows.collect();
-    assert_eq!(rows.len(), 15);
+    assert_eq!(rows.len(), 24);
     for (damage, number, byte) in &rows {
         let mut bytes = whole.clone();
         damage.apply(&mut bytes);

@@ -1,36 +1,29 @@
 //! Squeezes through the interface and on the second program: every capacity on tables with any strengths, and the laws of a squeeze, of which each
-//! call is made by both.
+//! call is made by both. `cabins` has more of the lists.
 
-use compare::both;
+use compare::{as_said, both, Refusals};
 use reference::generate::Random;
 use reference::history::Call;
 use reference::laws;
-use reference::sound::sound;
 
 /// Every capacity up to 8 bits and some above, on sound tables and damaged ones; of each refusal there are many.
 #[test]
 fn every_capacity() {
     let mut random = Random(61);
-    let mut refusals = [0; 14];
+    let mut refusals = Refusals::default();
     for seed in 0..60 {
         let mut table = Random(seed).sound_table();
         for _ in 0..seed % 3 {
             random.damage(&mut table);
         }
         for capacity in (0..=260).chain([32767, 32768, 65408, 65535]) {
-            let outcome = both(&mut table.clone(), &Call::Squeeze { capacity });
-            let expected = match capacity {
-                _ if !sound(&table) => 1,
-                0 | 129.. => 2,
-                _ if capacity < table.size() => 13,
-                _ => 0,
-            };
-            assert_eq!((outcome.refusal, outcome.numbers), (expected, vec![0, 0]), "{capacity}");
-            refusals[usize::from(expected)] += 1;
+            let quotas = random.list(capacity, &table.charges());
+            let refusal = as_said(&table, &Call::Squeeze { capacity, quotas }).refusal;
+            refusals[usize::from(refusal)] += 1;
         }
     }
-    for refusal in [0, 1, 2, 13] {
-        assert!(refusals[refusal] > 500, "{refusals:?}");
+    for refusal in [0, 1, 2, 13, 16] {
+        assert!(refusals[refusal] > 400, "{refusals:?}");
     }
 }
 

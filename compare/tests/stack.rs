@@ -1,21 +1,25 @@
 //! Every call keeps to 16 kB of stack, the caller's table counted. Each is measured by itself, on tables where it has the most to do.
 
 use compare::stack::depth;
-use compare::{lend, ring, rounds};
-use reference::calls::{add, clear, fresh, link};
+use compare::{lend, lend_list, ring, rounds};
+use reference::cabins::{list, one_cabin};
+use reference::calls::{add, clear, fresh, fresh_for_cabin_0, link};
+use reference::image::{encode, in_edition_1};
 use reference::sound::{CONTACT, WAIT};
 use reference::table::Table;
 use std::hint::black_box;
-use telephone::{raw, Exit, Kind};
+use telephone::{raw, sole_quotas, Exit, Kind};
 
 const LIMIT: usize = 16 * 1024;
 const TABLE: usize = size_of::<raw::Table>();
+/// Bytes of the largest image.
+const IMAGE: u16 = telephone::IMAGE_MAX as u16;
 
 /// A table of 128 places with a chain of steps, step i held by exit `exit` of the step before it.
 fn chain(steps: u16, exit: u16) -> Table {
-    let (mut table, _) = fresh(128);
+    let mut table = fresh_for_cabin_0(128);
     for step in 0..steps {
-        assert_eq!(add(&mut table, step, exit, 1, 0).refusal, 0);
+        assert_eq!(add(&mut table, step, exit, 1, 0, 0).refusal, 0);
     }
     table
 }
@@ -29,23 +33,28 @@ fn held(exit: u16) -> Table {
 
 /// A chain of 126 steps above a free place, so that a squeeze moves each of them.
 fn gap(exit: u16) -> Table {
-    let (mut table, _) = fresh(128);
+    let mut table = fresh_for_cabin_0(128);
     let other = (exit + 1) % 4;
-    assert_eq!(add(&mut table, 0, other, 1, 0).first, 1);
+    assert_eq!(add(&mut table, 0, other, 1, 0, 0).first, 1);
     for step in 1..127 {
         let holder = if step == 1 { 0 } else { step };
-        assert_eq!(add(&mut table, holder, exit, 1, 0).first, step + 1);
+        assert_eq!(add(&mut table, holder, exit, 1, 0, 0).first, step + 1);
     }
     assert_eq!(clear(&mut table, 0, other).second, 1);
     table
 }
 
-/// The largest image.
-fn image_of(table: &Table) -> [u8; 2570] {
-    let mut image = [0; 2570];
-    let reply = raw::write_image(&lend(table), &mut image);
-    assert_eq!((reply.refusal, reply.length), (0, 2570));
-    image
+/// A chain of 126 steps of eight cabins in turn. The last free step is reserved for cabin 7; cabin 6 is at its limit.
+fn shared(exit: u16) -> Table {
+    let mut pairs = [[15, 65535]; 8];
+    (pairs[6], pairs[7]) = ([0, 15], [16, 65535]);
+    let (mut table, answer) = fresh(128, list(&pairs));
+    assert_eq!(answer.refusal, 0);
+    for step in 0..126 {
+        let cabin = if step < 120 { step % 8 } else { step - 120 };
+        assert_eq!(add(&mut table, step, exit, 1, 0, cabin).refusal, 0);
+    }
+    table
 }
 
 /// A call by name, and the stack that it takes. It gives a number, which is checked. The table stands outside the stack that is measured; its
@@ -66,10 +75,14 @@ fn taken(
 /// Every call on chains along an exit.
 fn calls(exit: u16) -> Vec<(&'static str, usize)> {
     let (chain, open, held, gap) = (chain(127, exit), chain(126, exit), held(exit), gap(exit));
+    let shared = shared(exit);
     let mut unsound = chain.clone();
     unsound.counts[255] += 1;
-    let image = image_of(&chain);
-    let (mut buffer, mut trace) = ([0; 2570], [0; 127]);
+    let image = encode(&chain);
+    let old_image = in_edition_1(&image);
+    let [least, most, bad] = [127, 128, 129].map(|capacity| lend_list(&one_cabin(capacity)));
+    let own = lend_list(&shared.quotas);
+    let (mut buffer, mut trace) = ([0; IMAGE as usize], [0; 127]);
     let results = [exit as u8; 127];
     let (mut longest, rings) = (vec![0; 65535], [CONTACT, WAIT].map(|kind| ring(&[kind; 127])));
     let rounds = rounds(&[CONTACT; 127], 70_000);
@@ -78,21 +91,33 @@ fn calls(exit: u16) -> Vec<(&'static str, usize)> {
     let clears = format!("H*3000{exit}A").into_bytes();
     vec![
         taken("edition", &chain, telephone::EDITION, |_| raw::edition()),
-        taken("fresh", &chain, 0, |t| raw::fresh(t, 128).refusal),
-        taken("fresh, refused", &chain, 2, |t| raw::fresh(t, 129).refusal),
+        taken("sole quotas", &chain, 127, |t| {
+            raw::sole_quotas(&mut t.quotas, 128);
+            t.quotas[0].limit
+        }),
+        taken("fresh", &chain, 0, |t| raw::fresh(t, 128, &most).refusal),
+        taken("fresh, refused", &chain, 2, |t| raw::fresh(t, 129, &most).refusal),
+        taken("fresh, refused for its list", &chain, 16, |t| raw::fresh(t, 128, &bad).refusal),
         taken("soundness test", &chain, 1, |t| raw::is_sound(t)),
         taken("soundness test that fails", &unsound, 0, |t| raw::is_sound(t)),
         taken("counts", &chain, 128, |t| raw::counts(t).first),
-        taken("image length", &chain, 2570, |t| raw::image_length(t).length),
+        taken("image length", &chain, IMAGE, |t| raw::image_length(t).length),
         taken("read", &chain, 1, |t| raw::read(t, 127).kind),
-        taken("add", &open, 127, |t| raw::add(t, 126, exit, 1, 0).first),
-        taken("add, refused as full", &chain, 8, |t| raw::add(t, 127, exit, 1, 0).refusal),
+        taken("add", &open, 127, |t| raw::add(t, 126, exit, 1, 0, 0).first),
+        taken("add, refused as full", &chain, 8, |t| raw::add(t, 127, exit, 1, 0, 0).refusal),
+        taken("add for cabin 7", &shared, 127, |t| raw::add(t, 126, exit, 1, 0, 7).first),
+        taken("add at a limit", &shared, 14, |t| raw::add(t, 126, exit, 1, 0, 6).refusal),
+        taken("add, steps reserved", &shared, 15, |t| raw::add(t, 126, exit, 1, 0, 0).refusal),
+        taken("add for no cabin", &shared, 16, |t| raw::add(t, 126, exit, 1, 0, 8).refusal),
         taken("link", &chain, 0, |t| raw::link(t, 0, exit, 127, exit).refusal),
         taken("clear, 127 freed", &chain, 127, |t| raw::clear(t, 0, exit).second),
         taken("clear, 127 taken back", &held, 127, |t| raw::clear(t, 0, exit).first),
-        taken("squeeze, 126 moved", &gap, 0, |t| raw::squeeze(t, 127).refusal),
-        taken("squeeze, none moved", &chain, 0, |t| raw::squeeze(t, 128).refusal),
-        taken("squeeze, refused", &chain, 13, |t| raw::squeeze(t, 127).refusal),
+        taken("squeeze, 126 moved", &gap, 0, |t| raw::squeeze(t, 127, &least).refusal),
+        taken("squeeze, none moved", &chain, 0, |t| raw::squeeze(t, 128, &most).refusal),
+        taken("squeeze of eight cabins", &shared, 0, |t| raw::squeeze(t, 128, &own).refusal),
+        taken("squeeze, refused", &chain, 13, |t| raw::squeeze(t, 127, &least).refusal),
+        taken("squeeze, steps unfit", &shared, 13, |t| raw::squeeze(t, 128, &most).refusal),
+        taken("squeeze, bad list", &chain, 16, |t| raw::squeeze(t, 128, &bad).refusal),
         taken("trial", &chain, 0, |t| raw::trial(t, 127, &results, &mut trace).refusal),
         taken("trial, 65535 contacts", &rings[0], 65535, |t| {
             raw::trial(t, 65535, &rounds, &mut longest).moves
@@ -101,8 +126,9 @@ fn calls(exit: u16) -> Vec<(&'static str, usize)> {
             raw::trial(t, 65535, &[], &mut longest).moves
         }),
         taken("trial, refused", &chain, 11, |t| raw::trial(t, 128, &[], &mut trace).refusal),
-        taken("write image", &chain, 2570, |t| raw::write_image(t, &mut buffer).length),
+        taken("write image", &chain, IMAGE, |t| raw::write_image(t, &mut buffer).length),
         taken("load image", &open, 0, |t| raw::load_image(t, &image).refusal),
+        taken("load image of edition 1", &open, 0, |t| raw::load_image(t, &old_image).refusal),
         taken("load image, refused", &open, 12, |t| raw::load_image(t, &image[1..]).refusal),
         taken("key line that adds", &open, 127, |t| raw::key_line(t, &adds).first),
         taken("key line that links", &chain, 0, |t| raw::key_line(t, &links).refusal),
@@ -146,9 +172,9 @@ fn measure_sees_a_deep_stack() {
 #[test]
 fn deepest_call_in_a_small_thread() {
     let visit = || {
-        let mut table = telephone::Table::fresh(128)?;
+        let mut table = telephone::Table::fresh(128, &sole_quotas(128))?;
         for step in 0..127 {
-            table.add(step, Exit::Answered, Kind::Contact(0))?;
+            table.add(step, Exit::Answered, Kind::Contact(0), 0)?;
         }
         table.link(0, Exit::Answered, 0, Exit::Engaged)?;
         table.key_line(b"H*30000A")

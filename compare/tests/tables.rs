@@ -1,7 +1,8 @@
 //! Single calls on chosen tables: the cases of document 01, and every refusal's order on wild tables.
 
-use compare::{lend, Pair};
-use reference::calls::{fresh, Command};
+use compare::{lend, words, Pair, WORDS};
+use reference::cabins::one_cabin;
+use reference::calls::{fresh_for_cabin_0, Command};
 use reference::faults::Fault;
 use reference::generate::{key_text, Random};
 use reference::history::{Call, Start};
@@ -9,8 +10,9 @@ use reference::sound::sound;
 use reference::table::Table;
 use telephone::raw;
 
+/// An add for cabin 0.
 fn add(holder: u16, exit: u16, kind: u16, content: u16) -> Call {
-    Call::Edit(Command::Add { holder, exit, kind, content })
+    Call::Edit(Command::Add { holder, exit, kind, content, cabin: 0 })
 }
 
 fn link(source: u16, source_exit: u16, second: u16, second_exit: u16) -> Call {
@@ -21,9 +23,9 @@ fn clear(step: u16, exit: u16) -> Call {
     Call::Edit(Command::Clear { step, exit })
 }
 
-/// Runs calls on both programs from a fresh table; each has to answer these three numbers.
+/// Runs calls on both programs from a fresh table for cabin 0; each has to answer these three numbers.
 fn case(capacity: u16, calls: &[(Call, [usize; 3])]) -> Table {
-    let mut pair = Pair::new(&fresh(capacity).0, Fault::None);
+    let mut pair = Pair::new(&fresh_for_cabin_0(capacity), Fault::None);
     for (call, [refusal, first, second]) in calls {
         let outcome = pair.call(call).unwrap();
         assert_eq!(usize::from(outcome.refusal), *refusal, "{call:?}");
@@ -40,7 +42,8 @@ fn edition_fits() {
 #[test]
 fn fresh_agrees() {
     for capacity in (0..=300).chain([32767, 32768, 65408, 65535]) {
-        let (_, compared) = Pair::begin(&Start::Fresh { capacity }, Fault::None);
+        let start = Start::Fresh { capacity, quotas: one_cabin(capacity) };
+        let (_, compared) = Pair::begin(&start, Fault::None);
         let accepted = (1..=128).contains(&capacity);
         assert_eq!(compared.unwrap().refusal, if accepted { 0 } else { 2 }, "fresh {capacity}");
     }
@@ -90,8 +93,8 @@ fn examples_of_document_01() {
     case(128, &lines.map(|(line, numbers)| (Call::KeyLine(line.to_vec()), numbers)));
     let long = vec![b'H'; 1 << 20];
     case(128, &[(Call::KeyLine(long), [9, 0, 0]), (Call::KeyLine(Vec::new()), [9, 0, 0])]);
-    case(4, &[(Call::Write { buffer: 29 }, [11, 0, 0]), (Call::Write { buffer: 30 }, [0, 30, 0])]);
-    case(4, &[(Call::ImageLength, [0, 30, 0]), (Call::Edit(Command::Count), [0, 1, 3])]);
+    case(4, &[(Call::Write { buffer: 63 }, [11, 0, 0]), (Call::Write { buffer: 64 }, [0, 64, 0])]);
+    case(4, &[(Call::ImageLength, [0, 64, 0]), (Call::Edit(Command::Count), [0, 1, 3])]);
     case(1, &[(add(0, 0, 1, 0), [8, 0, 0])]);
     case(
         4,
@@ -117,21 +120,23 @@ fn examples_of_document_01() {
 fn every_call(table: &Table, random: &mut Random) {
     let mut calls = vec![
         Call::Read { step: 0 },
-        Call::Write { buffer: 2600 },
+        Call::Write { buffer: 2900 },
         Call::ImageLength,
         Call::Edit(Command::Count),
-        Call::Squeeze { capacity: table.size() },
+        Call::Squeeze { capacity: table.size(), quotas: table.quotas },
         Call::KeyLine(b"H*4A".to_vec()),
     ];
     for _ in 0..3 {
         let mut number = || random.pick(&[0, 0, 1, 1, 2, 3, 4, 7, 127, 128, 300, 65535]);
         let [a, b, c, d] = [number(), number(), number(), number()];
+        let cabin = number() % 10;
+        let quotas = random.list(a, &table.charges());
         calls.extend([
-            add(a, b % 6, c, d),
+            Call::Edit(Command::Add { holder: a, exit: b % 6, kind: c, content: d, cabin }),
             link(a, b % 6, c, d % 6),
             clear(a, b % 6),
             Call::Read { step: a },
-            Call::Squeeze { capacity: a },
+            Call::Squeeze { capacity: a, quotas },
         ]);
         calls.push(Call::KeyLine(key_text(Command::Clear { step: a % 1000, exit: b % 10 })));
         calls.push(Call::Trial {
@@ -163,16 +168,14 @@ fn wild_tables() {
     for byte in 0..=255u8 {
         let word = u16::from_ne_bytes([byte, byte]);
         let mut table = Table::zero();
-        for field in words(&mut table) {
-            *field = word;
-        }
+        words(&mut table).for_each(|field| *field = word);
         assert_eq!(raw::is_sound(&lend(&table)), 0);
         every_call(&table, &mut random);
     }
     for bound in [2, 3, 129, 65536] {
         for _ in 0..60 {
             let mut table = Random(random.number()).sound_table();
-            let from = random.pick(&[0, 2, 130, 514, 1026]);
+            let from = random.pick(&[0, 2, 130, 514, 1026, 1794, 1922]);
             for field in words(&mut table).skip(from) {
                 *field = random.below(bound) as u16;
             }
@@ -182,21 +185,13 @@ fn wild_tables() {
     }
 }
 
-/// Every word of a table, in the order of its memory.
-fn words(table: &mut Table) -> impl Iterator<Item = &mut u16> {
-    let Table { capacity, last, used, kinds, contents, own, targets, bits, counts } = table;
-    let numbers = [capacity, last].into_iter();
-    let steps = used.iter_mut().chain(kinds).chain(contents).chain(own);
-    numbers.chain(steps).chain(targets).chain(bits).chain(counts)
-}
-
 /// One word of a sound table at a time, changed to each of a few numbers: the two soundness tests agree.
 #[test]
 fn soundness_agrees_word_by_word() {
     for seed in 30..34 {
         let table = Random(seed).sound_table();
-        for at in 0..1794 {
-            for value in [0, 1, 2, 127, 128, 65535] {
+        for at in 0..WORDS {
+            for value in [0, 1, 2, 7, 8, 127, 128, 65535] {
                 let mut changed = table.clone();
                 *words(&mut changed).nth(at).unwrap() = value;
                 let found = raw::is_sound(&lend(&changed));

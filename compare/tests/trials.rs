@@ -1,7 +1,7 @@
 //! Trials through the interface and on the second program: W3's example, generated trials on tables with any strengths, and the law of the limit, of
 //! which each call is made by both. `lengths` has rings of all kinds, with each limit.
 
-use compare::{both, ring};
+use compare::{both, ring, Refusals};
 use reference::generate::trials;
 use reference::history::{Call, Outcome};
 use reference::laws;
@@ -17,7 +17,7 @@ fn example_of_document_02() {
 /// Trials on sound tables and damaged ones; of each ending and each refusal there are many, and of each ending many at the limit.
 #[test]
 fn trials_agree() {
-    let (mut endings, mut at_limit, mut refusals) = ([0; 3], [0; 3], [0; 12]);
+    let (mut endings, mut at_limit, mut refusals) = ([0; 3], [0; 3], Refusals::default());
     for (mut table, calls) in trials(0..600) {
         for call in calls {
             let outcome = both(&mut table, &call);

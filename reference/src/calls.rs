@@ -1,13 +1,14 @@
 //! The calls on a table but squeezes, images and key lines; refusals are ordered lists of
 //! conditions. Edits and trials take a `Fault`, so that wrong variants can be run against the right
-//! one. Renders "Calls" and "Reasons for no" of document 01, and W3's trial.
+//! one. Renders "Calls" and "Reasons for no" of document 01, W3's trial, and W5's cabins.
 
 use std::iter::successors;
 
+use crate::cabins::{charge_order, list_order, one_cabin};
 use crate::clearing;
 use crate::faults::Fault;
-use crate::sound::{capacity_fits, fits, sound, CONTACT, WAIT};
-use crate::table::{place, Table, EXITS};
+use crate::sound::{fits, sound, CONTACT, WAIT};
+use crate::table::{place, Quotas, Table, CABINS, EXITS};
 
 /// An answer: the refusal or 0, then two numbers.
 #[derive(Clone, Copy, PartialEq, Eq, Debug, Default)]
@@ -27,6 +28,7 @@ pub struct ReadAnswer {
     pub targets: [u16; 4],
     pub bits: [u16; 4],
     pub counts: [u16; 2],
+    pub cabin: u16,
 }
 
 /// How a trial ends: at an empty exit, at a contact with no result left, or at the limit of moves.
@@ -47,27 +49,49 @@ pub struct TrialAnswer {
     pub moves: u16,
 }
 
-/// What a key line can ask for. Each is a call of its own too.
+/// What a key line can ask for. Each is a call of its own too. In a key line, the cabin is 0.
 #[derive(Clone, Copy, PartialEq, Eq, Debug)]
 pub enum Command {
-    Add { holder: u16, exit: u16, kind: u16, content: u16 },
+    Add { holder: u16, exit: u16, kind: u16, content: u16, cabin: u16 },
     Link { source: u16, source_exit: u16, second: u16, second_exit: u16 },
     Clear { step: u16, exit: u16 },
     Count,
 }
 
-/// A fresh table; of capacity 1 where the capacity is refused.
-pub fn fresh(capacity: u16) -> (Table, Answer) {
-    let accepted = capacity_fits(capacity);
-    let mut table = Table::zero();
-    table.capacity = if accepted { capacity } else { 1 };
-    table.used[0] = 1;
-    (table, bare(if accepted { 0 } else { 2 }))
+/// A fresh table with this list; of capacity 1, for cabin 0, where it is refused.
+pub fn fresh(capacity: u16, quotas: Quotas) -> (Table, Answer) {
+    fresh_with(capacity, quotas, Fault::None)
 }
 
-/// Puts a new step at an empty exit; answers its number.
-pub fn add(table: &mut Table, holder: u16, exit: u16, kind: u16, content: u16) -> Answer {
-    let command = Command::Add { holder, exit, kind, content };
+/// Makes a fresh table, with a fault or without.
+pub fn fresh_with(capacity: u16, quotas: Quotas, fault: Fault) -> (Table, Answer) {
+    let refusal = first_refusal(&list_order(capacity, &quotas, fault));
+    if refusal != 0 {
+        return (fresh_for_cabin_0(1), bare(refusal));
+    }
+    let mut table = Table { capacity, quotas, ..Table::zero() };
+    table.used[0] = 1;
+    (table, bare(0))
+}
+
+/// A fresh table with W5's list for edition 1, as `keys`, F4 and what a refused call hands back
+/// have it. The capacity has to be in range.
+pub fn fresh_for_cabin_0(capacity: u16) -> Table {
+    let (table, answer) = fresh(capacity, one_cabin(capacity));
+    assert_eq!(answer.refusal, 0, "capacity {capacity}");
+    table
+}
+
+/// Puts a new step at an empty exit, charged to a cabin; answers its number.
+pub fn add(
+    table: &mut Table,
+    holder: u16,
+    exit: u16,
+    kind: u16,
+    content: u16,
+    cabin: u16,
+) -> Answer {
+    let command = Command::Add { holder, exit, kind, content, cabin };
     edit(table, command, Fault::None)
 }
 
@@ -112,6 +136,7 @@ pub fn read(table: &Table, step: u16) -> ReadAnswer {
         targets: std::array::from_fn(|exit| table.targets[place(step, exit)]),
         bits: std::array::from_fn(|exit| table.bits[place(step, exit)]),
         counts: [table.counts[step * 2], table.counts[step * 2 + 1]],
+        cabin: table.cabins[step],
     }
 }
 
@@ -204,14 +229,22 @@ fn onward(table: &Table, results: &[u8], at: Position, fault: Fault) -> Result<P
 }
 
 /// Carries out a command, with a fault or without.
-pub fn edit(table: &mut Table, command: Command, fault: Fault) -> Answer {
+pub fn edit(table: &mut Table, mut command: Command, fault: Fault) -> Answer {
+    if let (Command::Add { cabin, .. }, Fault::CabinCut) = (&mut command, fault) {
+        *cabin %= CABINS as u16;
+    }
     let refusal = edit_refusal(table, command, fault);
     if refusal != 0 {
         return bare(refusal);
     }
     let (first, second) = match command {
-        Command::Add { holder, exit, kind, content } => {
-            (accepted_add(table, holder, exit, kind, content), 0)
+        Command::Add { holder, exit, kind, content, cabin } => {
+            let number = accepted_add(table, place(holder.into(), exit.into()), kind, content);
+            table.cabins[usize::from(number)] = match fault {
+                Fault::CabinForgotten => 0,
+                _ => cabin,
+            };
+            (number, 0)
         }
         Command::Link { source, source_exit, second, second_exit } => {
             let from = place(source.into(), source_exit.into());
@@ -246,16 +279,20 @@ fn edit_refusal(table: &Table, command: Command, fault: Fault) -> u16 {
     let empty = |step, exit| (6, table.target(step, exit) == 0);
     let mut order = vec![(1, !sound(table))];
     match command {
-        Command::Add { holder, exit, kind, content } => {
+        Command::Add { holder, exit, kind, content, cabin } => {
             order.extend([
+                (16, usize::from(cabin) >= CABINS),
                 no_step(holder),
                 no_exit(exit),
                 filled(holder, exit),
                 (7, !fits(kind, content)),
                 (8, table.size() == table.capacity),
             ]);
-            if fault == Fault::SwappedRefusals {
-                order.swap(3, 4);
+            order.extend(charge_order(table, cabin, fault));
+            match fault {
+                Fault::SwappedRefusals => order.swap(4, 5),
+                Fault::CabinAfterHolder => order.swap(1, 2),
+                _ => {}
             }
         }
         Command::Link { source, source_exit, second, second_exit } => order.extend([
@@ -274,8 +311,8 @@ fn edit_refusal(table: &Table, command: Command, fault: Fault) -> u16 {
     first_refusal(&order)
 }
 
-/// Puts in a new step with bit 0 and a link to it with bit 0; gives its number.
-fn accepted_add(table: &mut Table, holder: u16, exit: u16, kind: u16, content: u16) -> u16 {
+/// Puts in a new step with bit 0 and a link to it with bit 0, at a place; gives its number.
+fn accepted_add(table: &mut Table, exit: usize, kind: u16, content: u16) -> u16 {
     let number = (table.last + 1..table.capacity)
         .chain(1..=table.last)
         .find(|&number| !table.has(number))
@@ -284,7 +321,7 @@ fn accepted_add(table: &mut Table, holder: u16, exit: u16, kind: u16, content: u
     table.used[step] = 1;
     table.kinds[step] = kind;
     table.contents[step] = content;
-    table.targets[place(holder.into(), exit.into())] = number;
+    table.targets[exit] = number;
     table.last = number;
     table.counts = table.counted();
     number

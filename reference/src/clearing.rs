@@ -1,5 +1,6 @@
 //! The repair after an exit is emptied: doubtful steps found by marking, taken back, freed.
-//! Renders "Clearing an exit" of document 01; nothing is withdrawn and no counter is read.
+//! Renders "Clearing an exit" of document 01, and W5's "until it is freed"; nothing is withdrawn
+//! and no counter is read.
 
 use crate::faults::Fault;
 use crate::table::{after, mark, members, place, Set, Table, EXITS};
@@ -51,6 +52,9 @@ fn free(table: &mut Table, step: usize, fault: Fault) {
     table.contents[step] = 0;
     if fault != Fault::FreedKeepsBit {
         table.own[step] = 0;
+    }
+    if fault != Fault::FreedKeepsCabin {
+        table.cabins[step] = 0;
     }
     table.targets[place(step, 0)..place(step, EXITS)].fill(0);
     table.bits[place(step, 0)..place(step, EXITS)].fill(0);

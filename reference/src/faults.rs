@@ -1,7 +1,7 @@
 //! Deliberate errors, so that wrong variants can be run against the right one.
-//! The first six are other ways to edit and stand in `calls` and `clearing`, the next seven are
-//! other ways to squeeze, and the next eight other ways to make a trial. Each of the rest spoils
-//! what a right call gives, in one part of it.
+//! The first fifteen are other ways to edit and stand in `calls`, `cabins` and `clearing`, the next
+//! two are of lists, two of images, eleven are other ways to squeeze, and eight other ways to make
+//! a trial. Each of the rest spoils what a right call gives, in one part of it.
 
 use crate::calls::{Command, Ending};
 use crate::history::{Call, Outcome, Start};
@@ -25,8 +25,39 @@ pub enum Fault {
     HighestFirst,
     /// A freed step keeps its bit.
     FreedKeepsBit,
+    /// A freed step keeps its cabin.
+    FreedKeepsCabin,
+    /// Add looks at the holder before the cabin.
+    CabinAfterHolder,
+    /// A cabin above 7 is cut to 3 bits.
+    CabinCut,
+    /// An add charges cabin 0, whichever cabin adds.
+    CabinForgotten,
+    /// Add counts step 0 as a charge of cabin 0.
+    AlarmCharged,
+    /// A cabin may go one step past its limit.
+    LimitPassed,
+    /// Add takes a free step that is reserved for other cabins.
+    ReservedTaken,
+    /// Add looks at the reserved steps before the limit.
+    ReservedBeforeLimit,
+    /// A cabin below its guarantee is refused too, where all free steps are guaranteed to some
+    /// cabin.
+    GuaranteeRefused,
+    /// The guarantees of a list are added up in 16 bits.
+    SumIn16Bits,
+    /// A fresh table or a squeeze looks at the list before the range of the capacity.
+    ListBeforeRange,
+    /// An image whose header is of one edition and whose step records are of the other is accepted.
+    EditionsMixed,
+    /// An image of edition 1 is loaded with the limit of cabin 0 and without its guarantee.
+    NoGuaranteeLoaded,
     /// A squeeze looks at the steps in use before the range of the capacity.
     FitBeforeRange,
+    /// A squeeze looks at the steps in use before the list.
+    FitBeforeList,
+    /// A squeeze looks at the steps in use alone, and not at charges and guarantees.
+    FitBySize,
     /// A squeeze numbers all steps but step 0 from the highest down.
     OrderReversed,
     /// A squeeze leaves the targets as they were.
@@ -39,6 +70,10 @@ pub enum Fault {
     RecordsStay,
     /// A squeeze leaves the last number given.
     LastStays,
+    /// A squeeze charges all steps to cabin 0.
+    CabinsLost,
+    /// A squeeze leaves the list of guarantees and limits.
+    ListStays,
     /// A step of this kind, which is not a contact, uses up a line result where one is left.
     UsesUp(u16),
     /// A wait takes the exit of the next line result and leaves it to the next contact.
@@ -157,7 +192,7 @@ impl Sort {
     /// How many numbers a call of this sort answers.
     fn numbers(self) -> usize {
         match self {
-            Sort::Read => 13,
+            Sort::Read => 14,
             Sort::Trial => 3,
             _ => 2,
         }
@@ -227,7 +262,7 @@ pub fn spoil(fault: Fault, sort: Sort, table: &mut Table, outcome: &mut Outcome)
                 _ => outcome.numbers[0],
             };
             match part {
-                Part::Refusal => outcome.refusal = outcome.refusal % 13 + 1,
+                Part::Refusal => outcome.refusal = outcome.refusal % 16 + 1,
                 Part::Number(i) => outcome.numbers[i] += 1,
                 Part::Written if written > 0 => outcome.lent[written - 1] ^= 1,
                 Part::Unwritten if written < outcome.lent.len() => outcome.lent[written] ^= 1,

@@ -1,24 +1,27 @@
-//! Made-up calls, key lines, sound tables and unsound ones, the same for the same seed.
-//! Most calls suit the plan at hand; the rest have odd numbers, wrong keys or short buffers.
+//! Made-up calls, key lines, lists, images, sound tables and unsound ones, the same for the same
+//! seed. Most calls suit the plan at hand; the rest have odd numbers, wrong keys, short buffers, or
+//! lists that are bad or do not fit.
 //! Serves the tests of "A history is a list" of document 01.
 
+use std::array::from_fn;
 use std::ops::Range;
 
+use crate::cabins::one_cabin;
 use crate::calls::Command;
-use crate::history::Call;
-use crate::image::{HEADER, RECORD};
+use crate::history::{Call, Start};
+use crate::image::{encode, in_edition_1, in_edition_2, records, HEADER, RECORD};
 use crate::plan::{plan_of, Plan, PlanStep};
 use crate::sound::{CONTACT, MESSAGE, WAIT};
-use crate::table::{place, Table, EXITS, PLACES};
+use crate::table::{members, place, Charges, Quotas, Table, CABINS, EXITS, PLACES};
 
 /// Numbers at and beyond the ends of ranges, and numbers that would wrap to small ones.
-const ODD: [u16; 18] =
-    [0, 1, 2, 3, 4, 5, 15, 16, 99, 100, 127, 128, 255, 256, 257, 600, 601, 65535];
+const ODD: [u16; 21] =
+    [0, 1, 2, 3, 4, 5, 7, 8, 15, 16, 99, 100, 127, 128, 255, 256, 257, 600, 601, 32768, 65535];
 
 /// Phases of a history: fill, make rings, clear, mix. Each lists add, link, clear, squeeze, trial
 /// and other calls by a letter, as often as it has them.
 const PHASES: [&[u8]; 4] =
-    [b"aaaaaaaaaaaallcsttoo", b"aalllllllllccsttoo", b"allcccccccccsttoo", b"aaalllcccstttoooo"];
+    [b"aaaaaaaaaaaallcssttoo", b"aalllllllllccsttoo", b"allcccccccccsttoo", b"aaalllcccstttoooo"];
 
 /// Splitmix64.
 pub struct Random(pub u64);
@@ -61,9 +64,9 @@ impl Random {
         (kind, self.pick(&[low, between, high]))
     }
 
-    /// Puts an odd number in place of this one, now and then.
-    fn maybe_odd(&mut self, number: &mut u16) {
-        if self.once_in(24) {
+    /// Puts an odd number in place of this one, once in so many times.
+    fn maybe_odd(&mut self, number: &mut u16, times: usize) {
+        if self.once_in(times) {
             *number = self.pick(&ODD);
         }
     }
@@ -81,6 +84,92 @@ impl Random {
         let more = needed + self.below(8) as u16;
         let odd = self.pick(&ODD);
         self.pick(&[needed, needed - 1, more, plan.capacity, 128, 128, 0, 129, odd])
+    }
+
+    /// So many places, handed out to one cabin, two, or all.
+    fn shares(&mut self, places: usize) -> Charges {
+        let mut cabins: [usize; CABINS] = from_fn(|cabin| cabin);
+        self.shuffle(&mut cabins);
+        let some = self.pick(&[1, 2, CABINS]);
+        let mut shares = [0; CABINS];
+        for _ in 0..places {
+            shares[self.pick(&cabins[..some])] += 1;
+        }
+        shares
+    }
+
+    /// A list that a table of this capacity, which is in range, can have with these charges, or
+    /// with none where they are too many. Of the places over, none are guaranteed, some or all; a
+    /// limit is what is needed, a little more, or the largest number.
+    pub fn fitting_list(&mut self, capacity: u16, charges: &Charges) -> Quotas {
+        let places = usize::from(capacity) - 1;
+        let charged = usize::from(charges.iter().sum::<u16>());
+        if charged > places {
+            return self.fitting_list(capacity, &[0; CABINS]);
+        }
+        let some = self.below(places - charged + 1);
+        let reserved = self.pick(&[0, some, places - charged]);
+        let unmet = self.shares(reserved);
+        let mut quotas = [0; 2 * CABINS];
+        for (cabin, pair) in quotas.chunks_mut(2).enumerate() {
+            let needed = charges[cabin] + unmet[cabin];
+            let met = self.below(usize::from(needed) + 1) as u16;
+            let more = needed + self.below(8) as u16;
+            pair[0] = if unmet[cabin] > 0 { needed } else { met };
+            pair[1] = self.pick(&[needed, more, u16::MAX]);
+        }
+        quotas
+    }
+
+    /// A list that no table of this capacity can have: a guarantee is above its limit, or there is
+    /// one place too few, or the guarantees add up to 0 in 16 bits.
+    fn bad_list(&mut self, capacity: u16) -> Quotas {
+        let mut quotas = self.fitting_list(capacity, &[0; CABINS]);
+        let shares = self.shares(capacity.into());
+        let times = self.pick(&[2, 4, CABINS]);
+        match self.below(3) {
+            0 => {
+                let cabin = self.below(CABINS);
+                let limit = self.below(capacity.into()) as u16;
+                (quotas[2 * cabin], quotas[2 * cabin + 1]) = (limit + 1, limit);
+            }
+            1 => quotas = from_fn(|i| shares[i / 2]),
+            _ => {
+                quotas = [0; 2 * CABINS];
+                quotas[..2 * times].fill((65536 / times) as u16);
+                quotas.rotate_right(2 * self.below(CABINS));
+            }
+        }
+        quotas
+    }
+
+    /// A list for a table of this capacity, brought into range, with these charges. Most can be had
+    /// with them; of the rest, some are bad, and some good ones do not fit the charges.
+    pub fn list(&mut self, capacity: u16, charges: &Charges) -> Quotas {
+        let capacity = capacity.clamp(1, PLACES as u16);
+        match self.below(12) {
+            0 => one_cabin(capacity),
+            1 => {
+                let share = (capacity - 1) / CABINS as u16;
+                let limit = self.pick(&[share, capacity - 1, u16::MAX]);
+                from_fn(|i| [share, limit][i % 2])
+            }
+            2 => self.fitting_list(capacity, &[0; CABINS]),
+            3 | 4 => self.bad_list(capacity),
+            _ => self.fitting_list(capacity, charges),
+        }
+    }
+
+    /// A cabin to add for: mostly one that may have a step more.
+    fn cabin(&mut self, plan: &Plan) -> u16 {
+        let any = self.once_in(4);
+        let cabins: Vec<u16> =
+            (0..CABINS as u16).filter(|&cabin| any || plan.room(cabin).is_ok()).collect();
+        if cabins.is_empty() {
+            0
+        } else {
+            self.pick(&cabins)
+        }
     }
 
     /// Drops all but the answered exits, where there are any, every second time: messages and waits
@@ -109,13 +198,14 @@ impl Random {
             [] => (0, 0),
             _ => self.pick(&places),
         };
-        self.maybe_odd(&mut step);
-        self.maybe_odd(&mut exit);
+        self.maybe_odd(&mut step, 24);
+        self.maybe_odd(&mut exit, 24);
         (step, exit)
     }
 
-    /// So many line results, and the moves that a trial makes with them if nothing stops it, or some
-    /// number if it goes on for ever. A contact mostly gets the number of an exit that is filled.
+    /// So many line results, and the moves that a trial makes with them if nothing stops it, or
+    /// some number if it goes on for ever. A contact mostly gets the number of an exit that is
+    /// filled.
     pub fn results(&mut self, plan: &Plan, length: usize) -> (Vec<u8>, usize) {
         let (mut results, mut moves, mut step) = (Vec::new(), 0, 0);
         let most = self.below(600);
@@ -151,7 +241,7 @@ impl Random {
         let (small, less) = (self.below(6), self.below(moves + 1));
         let limits = [moves, moves, moves.saturating_sub(1), moves + 1, moves + 300, less, small];
         let mut limit = self.pick(&limits) as u16;
-        self.maybe_odd(&mut limit);
+        self.maybe_odd(&mut limit, 24);
         if length > 0 && self.once_in(8) {
             results[self.below(length)] = 4 + self.pick(&[0, 1, 4, 251]);
         }
@@ -160,8 +250,8 @@ impl Random {
         Call::Trial { limit, results, trace }
     }
 
-    /// A sound table with any strengths. Its steps come in some order; each has a strong link
-    /// from an earlier one, and a link to itself or an earlier one is weak.
+    /// A sound table with any strengths, cabins and list. Its steps come in some order; each has a
+    /// strong link from an earlier one, and a link to itself or an earlier one is weak.
     pub fn sound_table(&mut self) -> Table {
         let mut table = Table::zero();
         table.capacity = 1 + self.below(PLACES) as u16;
@@ -197,16 +287,73 @@ impl Random {
             }
         }
         table.counts = table.counted();
+        self.charge(&mut table);
         table
     }
 
-    /// Puts an odd number into one field of a table. Places low in the arrays come up more often.
+    /// Charges the steps of a table to cabins, and gives it a list that they keep to; every fourth
+    /// time those of an image of edition 1.
+    fn charge(&mut self, table: &mut Table) {
+        if self.once_in(4) {
+            return for_cabin_0(table);
+        }
+        let mut steps: Vec<usize> = members(table.in_use() & !1).collect();
+        self.shuffle(&mut steps);
+        let charges = self.shares(steps.len());
+        let mut steps = steps.into_iter();
+        for (cabin, charge) in (0..).zip(charges) {
+            steps.by_ref().take(charge.into()).for_each(|step| table.cabins[step] = cabin);
+        }
+        table.quotas = self.fitting_list(table.capacity, &charges);
+    }
+
+    /// Puts an image of edition 2 together from both editions: this record, where 0 is the header,
+    /// is of one of them, and all others are of the other.
+    pub fn mixed_image(&mut self, image: &[u8], record: usize) -> Vec<u8> {
+        let old = in_edition_1(image);
+        let mut editions = [records(image), records(&old)];
+        self.shuffle(&mut editions);
+        let [mut mixed, other] = editions;
+        mixed[record] = other[record];
+        mixed.concat()
+    }
+
+    /// Damages an accepted image of either edition: mixes it with the other, cuts it, adds bytes,
+    /// or puts a number into a field: mostly a length, a kind, the capacity, one of the list, a
+    /// step's number or the last one of its record, which is the cabin in edition 2.
+    pub fn damage_image(&mut self, image: &mut Vec<u8>) {
+        let all = records(image);
+        let (count, header, record) = (all.len(), all[0].len(), all[1].len());
+        let step = header + record * self.below(count - 1);
+        let field = self.below(header / 2) * 2;
+        let any = self.below(image.len() / 2) * 2;
+        match self.below(8) {
+            0 => {
+                let new = in_edition_2(image).expect("an accepted image");
+                let record = self.below(count);
+                *image = self.mixed_image(&new, record);
+            }
+            1 => image.truncate(any + self.below(2)),
+            2 => image.extend_from_within(self.pick(&[0, header, any])..),
+            _ => {
+                let places = [0, 2, 4, field, step, step + 2, step + 4, step + record - 2, any];
+                let at = self.pick(&places);
+                let values = [&ODD[..], &[10, 20, 22, 42]].concat();
+                image[at..at + 2].copy_from_slice(&self.pick(&values).to_le_bytes());
+            }
+        }
+    }
+
+    /// Puts an odd number into one field of a table, or one that is next to its own. Places low in
+    /// the arrays come up more often.
     pub fn damage(&mut self, table: &mut Table) {
-        let value = self.pick(&ODD);
+        let odd = self.pick(&ODD);
+        let change = self.pick(&[None, None, Some(1), Some(u16::MAX)]);
         let near = self.pick(&[1, 4, PLACES]);
         let step = self.below(near);
         let exit = place(step, self.below(EXITS));
-        let field = match self.below(9) {
+        let quota = self.below(2 * CABINS);
+        let field = match self.below(11) {
             0 => &mut table.capacity,
             1 => &mut table.last,
             2 => &mut table.used[step],
@@ -215,10 +362,46 @@ impl Random {
             5 => &mut table.own[step],
             6 => &mut table.targets[exit],
             7 => &mut table.bits[exit],
+            8 => &mut table.cabins[step],
+            9 => &mut table.quotas[quota],
             _ => &mut table.counts[exit / 2],
         };
-        *field = value;
+        *field = change.map_or(odd, |change| field.wrapping_add(change));
     }
+}
+
+/// The first call of the history with this seed: a fresh table, sometimes refused; an image of
+/// edition 2 or of edition 1; a damaged one; or one with the header of one edition and the steps of
+/// the other.
+pub fn start(seed: u64) -> Start {
+    let mut random = Random(!seed);
+    let mut table = random.sound_table();
+    let image = match seed % 18 {
+        0..=5 => {
+            let capacity = random.pick(&[128, 128, 1, 2, 3, 4, 5, 8, 12, 24, 60, 0, 129]);
+            let quotas = random.list(capacity, &[0; CABINS]);
+            return Start::Fresh { capacity, quotas };
+        }
+        6..=9 => encode(&table),
+        10..=13 => in_edition_1(&encode(&table)),
+        14 => {
+            let new = encode(&table);
+            let mut image = if random.once_in(2) { in_edition_1(&new) } else { new };
+            random.damage_image(&mut image);
+            image
+        }
+        _ => {
+            for_cabin_0(&mut table);
+            random.mixed_image(&encode(&table), 0)
+        }
+    };
+    Start::Load { image }
+}
+
+/// Charges all steps of a table to cabin 0, with W5's list for edition 1.
+fn for_cabin_0(table: &mut Table) {
+    table.cabins = [0; PLACES];
+    table.quotas = one_cabin(table.capacity);
 }
 
 /// Makes up the calls of one history.
@@ -241,7 +424,11 @@ impl Generator {
         }
         self.left -= 1;
         match self.random.pick(self.phase) {
-            b's' => Call::Squeeze { capacity: self.random.capacity(plan) },
+            b's' => {
+                let capacity = self.random.capacity(plan);
+                let quotas = self.random.list(capacity, &plan.charges());
+                Call::Squeeze { capacity, quotas }
+            }
             b't' => self.random.trial(plan),
             b'o' => self.other(plan),
             letter => Call::Edit(self.command(plan, letter)),
@@ -283,11 +470,16 @@ impl Generator {
         let random = &mut self.random;
         match letter {
             b'a' => {
-                let (holder, exit) = random.place(plan, false);
+                // now and then, much is wrong at once
+                let wrong = random.once_in(16);
+                let times = if wrong { 2 } else { 24 };
+                let (mut holder, exit) = random.place(plan, wrong);
                 let (mut kind, mut content) = random.kind_and_content();
-                random.maybe_odd(&mut kind);
-                random.maybe_odd(&mut content);
-                Command::Add { holder, exit, kind, content }
+                let mut cabin = random.cabin(plan);
+                for number in [&mut holder, &mut kind, &mut content, &mut cabin] {
+                    random.maybe_odd(number, times);
+                }
+                Command::Add { holder, exit, kind, content, cabin }
             }
             b'l' => {
                 let (source, source_exit) = random.place(plan, true);
@@ -318,10 +510,11 @@ pub fn trials(seeds: Range<u64>) -> impl Iterator<Item = (Table, Vec<Call>)> {
     })
 }
 
-/// The key line of a command. A number too wide for its digits makes the line malformed.
+/// The key line of a command; of an add, that for cabin 0. A number too wide for its digits makes
+/// the line malformed.
 pub fn key_text(command: Command) -> Vec<u8> {
     let text = match command {
-        Command::Add { holder, exit, kind, content } => {
+        Command::Add { holder, exit, kind, content, cabin: _ } => {
             format!("H*1{holder:03}{exit}{kind}{content:03}A")
         }
         Command::Link { source, source_exit, second, second_exit } => {

@@ -1,20 +1,20 @@
 //! The calls of a history as values, run on a table, and the comparison with the plain plan.
-//! Renders "A history is a list", W2's squeeze in it, W3's trial, and demand 3's list of what has
-//! to agree.
+//! Renders "A history is a list", W2's squeeze in it, W3's trial, W5's cabins and lists, and demand
+//! 3's list of what has to agree.
 
-use crate::calls::{edit, fresh, read, trial_with, Answer, Command};
+use crate::calls::{edit, fresh_with, read, trial_with, Answer, Command};
 use crate::faults::{cut, spoil, Fault, Length, Sort};
-use crate::image::{length, load, write};
-use crate::keys::key_line_with;
+use crate::image::{length, load_with, write};
+use crate::keys::{decode, key_line_with};
 use crate::squeeze::squeeze_with;
-use crate::table::Table;
+use crate::table::{Quotas, Table};
 
 /// A call of a history. A lent trace or buffer stands in it as its length. A count that is no key
 /// line, and an image's length, are calls that the interface adds to document 01's.
 #[derive(Clone, PartialEq, Eq, Debug)]
 pub enum Call {
     Edit(Command),
-    Squeeze { capacity: u16 },
+    Squeeze { capacity: u16, quotas: Quotas },
     Read { step: u16 },
     Trial { limit: u16, results: Vec<u8>, trace: usize },
     Write { buffer: usize },
@@ -25,8 +25,19 @@ pub enum Call {
 /// The first call of a history, from which it has its table.
 #[derive(Clone, PartialEq, Eq, Debug)]
 pub enum Start {
-    Fresh { capacity: u16 },
+    Fresh { capacity: u16, quotas: Quotas },
     Load { image: Vec<u8> },
+}
+
+impl Call {
+    /// The command, given as a call or as a key line.
+    pub fn command(&self) -> Option<Command> {
+        match self {
+            Call::Edit(command) => Some(*command),
+            Call::KeyLine(line) => decode(line),
+            _ => None,
+        }
+    }
 }
 
 /// All that a caller is given: the refusal, the other numbers, the lent bytes.
@@ -43,8 +54,8 @@ pub const UNTOUCHED: u8 = 0xEE;
 /// Runs the first call, with a fault or without.
 pub fn begin(start: &Start, fault: Fault) -> (Table, Outcome) {
     let (mut table, answer) = match start {
-        Start::Fresh { capacity } => fresh(*capacity),
-        Start::Load { image } => load(&image[..cut(fault, Length::Image, image.len())]),
+        Start::Fresh { capacity, quotas } => fresh_with(*capacity, *quotas, fault),
+        Start::Load { image } => load_with(&image[..cut(fault, Length::Image, image.len())], fault),
     };
     let mut outcome = plain(answer, Vec::new());
     spoil(fault, Sort::of_start(start), &mut table, &mut outcome);
@@ -55,7 +66,9 @@ pub fn begin(start: &Start, fault: Fault) -> (Table, Outcome) {
 pub fn run(table: &mut Table, call: &Call, fault: Fault) -> Outcome {
     let mut outcome = match call {
         Call::Edit(command) => plain(edit(table, *command, fault), Vec::new()),
-        Call::Squeeze { capacity } => plain(squeeze_with(table, *capacity, fault), Vec::new()),
+        Call::Squeeze { capacity, quotas } => {
+            plain(squeeze_with(table, *capacity, *quotas, fault), Vec::new())
+        }
         Call::KeyLine(line) => {
             let line = &line[..cut(fault, Length::Line, line.len())];
             plain(key_line_with(table, line, fault), Vec::new())
@@ -80,7 +93,8 @@ pub fn run(table: &mut Table, call: &Call, fault: Fault) -> Outcome {
         Call::Read { step } => {
             let answer = read(table, *step);
             let single = [answer.kind, answer.content, answer.own];
-            let fields = [&single[..], &answer.targets, &answer.bits, &answer.counts];
+            let cabin = [answer.cabin];
+            let fields = [&single[..], &answer.targets, &answer.bits, &answer.counts, &cabin];
             Outcome {
                 refusal: answer.refusal,
                 numbers: fields.concat().into_iter().map(usize::from).collect(),

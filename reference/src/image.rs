@@ -1,15 +1,22 @@
 //! Writing and loading images. All records but the first have one length, so an image is cut
-//! into equal parts and no record's length is followed.
-//! Renders "Image" of document 01 and W1's order of writing, which is ascending.
+//! into equal parts and no record's length is followed. An image of edition 1 is put into edition 2
+//! before it is read.
+//! Renders "Image" of document 01, W1's order of writing, which is ascending, and W5's editions.
 
-use crate::calls::{bare, first_refusal, fresh, Answer};
+use crate::cabins::one_cabin;
+use crate::calls::{bare, first_refusal, fresh_for_cabin_0, Answer};
+use crate::faults::Fault;
 use crate::sound::sound;
 use crate::table::{members, place, Table, EXITS, PLACES};
 
 /// Bytes of the first record.
-pub const HEADER: usize = 10;
+pub const HEADER: usize = 42;
 /// Bytes of a step record.
-pub const RECORD: usize = 20;
+pub const RECORD: usize = 22;
+/// Bytes of the first record in edition 1.
+pub const OLD_HEADER: usize = 10;
+/// Bytes of a step record in edition 1.
+pub const OLD_RECORD: usize = 20;
 
 /// The length of a table's image.
 pub fn length(table: &Table) -> Answer {
@@ -33,10 +40,37 @@ pub fn write(table: &Table, buffer: &mut [u8]) -> Answer {
 
 /// The table of an image; a fresh one of capacity 1 where the image is refused.
 pub fn load(bytes: &[u8]) -> (Table, Answer) {
-    match decode(bytes) {
+    load_with(bytes, Fault::None)
+}
+
+/// Loads an image, with a fault or without.
+pub fn load_with(bytes: &[u8], fault: Fault) -> (Table, Answer) {
+    match raised(bytes, fault).and_then(|image| decode(&image)) {
         Some(table) => (table, bare(0)),
-        None => (fresh(1).0, bare(12)),
+        None => (fresh_for_cabin_0(1), bare(12)),
     }
+}
+
+/// An image of either edition in edition 2; nothing for some bytes that are not accepted.
+pub fn in_edition_2(image: &[u8]) -> Option<Vec<u8>> {
+    raised(image, Fault::None)
+}
+
+/// An image of edition 2 in edition 1, without its list and its cabins.
+pub fn in_edition_1(image: &[u8]) -> Vec<u8> {
+    let (header, steps) = image.split_at(HEADER);
+    let mut old = [&[OLD_HEADER as u8, 0, 1, 0], &header[4..OLD_HEADER]].concat();
+    for step in steps.chunks(RECORD) {
+        old.extend([OLD_RECORD as u8, 0, 2, 0].iter().chain(&step[4..OLD_RECORD]));
+    }
+    old
+}
+
+/// The records of an accepted image of either edition, the header first.
+pub fn records(image: &[u8]) -> Vec<&[u8]> {
+    let (header, record) = if is_old(image) { (OLD_HEADER, OLD_RECORD) } else { (HEADER, RECORD) };
+    let (header, steps) = image.split_at(header);
+    [header].into_iter().chain(steps.chunks(record)).collect()
 }
 
 /// The two-byte fields at the start of some bytes.
@@ -44,24 +78,71 @@ pub fn fields<const N: usize>(bytes: &[u8]) -> [u16; N] {
     std::array::from_fn(|i| u16::from_le_bytes([bytes[2 * i], bytes[2 * i + 1]]))
 }
 
+/// Little-endian bytes.
+fn bytes(fields: impl IntoIterator<Item = u16>) -> Vec<u8> {
+    fields.into_iter().flat_map(u16::to_le_bytes).collect()
+}
+
 /// The bytes of a table's image. On a table that is not sound they mean nothing.
-fn encode(table: &Table) -> Vec<u8> {
-    let mut all = vec![HEADER as u16, 1, table.capacity, table.last, table.size()];
+pub fn encode(table: &Table) -> Vec<u8> {
+    let mut all = vec![HEADER as u16, 3, table.capacity, table.last, table.size()];
+    all.extend(table.quotas);
     for step in members(table.in_use()) {
         let exits = place(step, 0)..place(step, EXITS);
         let bits = table.bits[exits.clone()].iter().chain([&table.own[step]]);
         let sum = bits.enumerate().fold(0, |sum, (i, &bit)| sum | (bit & 1) << i);
         let (kind, content) = (table.kinds[step], table.contents[step]);
-        all.extend([RECORD as u16, 2, step as u16, kind, content, sum]);
+        all.extend([RECORD as u16, 4, step as u16, kind, content, sum]);
         all.extend(&table.targets[exits]);
+        all.push(table.cabins[step]);
     }
-    all.into_iter().flat_map(u16::to_le_bytes).collect()
+    bytes(all)
 }
 
-/// The table of an accepted image.
-fn decode(bytes: &[u8]) -> Option<Table> {
-    let (header, rest) = bytes.split_at_checked(HEADER)?;
-    let [10, 1, capacity, last, count] = fields(header) else {
+/// Whether bytes begin with the length and the kind of edition 1's first record.
+fn is_old(image: &[u8]) -> bool {
+    image.starts_with(&[OLD_HEADER as u8, 0, 1, 0])
+}
+
+/// Bytes that begin as an image of edition 1, put into edition 2 with W5's list and cabin 0;
+/// nothing where the capacity is 0 or a step record is not of edition 1. Other bytes stay as they
+/// are.
+fn raised(image: &[u8], fault: Fault) -> Option<Vec<u8>> {
+    let old = is_old(image);
+    let (header, steps) = image.split_at_checked(if old { OLD_HEADER } else { HEADER })?;
+    let old_steps = match fault {
+        Fault::EditionsMixed => steps.starts_with(&[OLD_RECORD as u8, 0, 2, 0]),
+        _ => old,
+    };
+    let mut raised = header.to_vec();
+    if old {
+        let [_, _, capacity, last, count] = fields(header);
+        if capacity == 0 {
+            return None;
+        }
+        let mut list = one_cabin(capacity);
+        if fault == Fault::NoGuaranteeLoaded {
+            list[0] = 0;
+        }
+        raised = bytes([HEADER as u16, 3, capacity, last, count].into_iter().chain(list));
+    }
+    if old_steps {
+        for step in steps.chunks(OLD_RECORD) {
+            let [20, 0, 2, 0, rest @ ..] = <[u8; OLD_RECORD]>::try_from(step).ok()? else {
+                return None;
+            };
+            raised.extend([RECORD as u8, 0, 4, 0].into_iter().chain(rest).chain([0, 0]));
+        }
+    } else {
+        raised.extend(steps);
+    }
+    Some(raised)
+}
+
+/// The table of an accepted image of edition 2.
+fn decode(image: &[u8]) -> Option<Table> {
+    let (header, rest) = image.split_at_checked(HEADER)?;
+    let [42, 3, capacity, last, count, quotas @ ..] = fields::<21>(header) else {
         return None;
     };
     let records = rest.chunks_exact(RECORD);
@@ -69,9 +150,9 @@ fn decode(bytes: &[u8]) -> Option<Table> {
         return None;
     }
     let mut table = Table::zero();
-    (table.capacity, table.last) = (capacity, last);
+    (table.capacity, table.last, table.quotas) = (capacity, last, quotas);
     for record in records {
-        let [20, 2, number, kind, content, bits, targets @ ..] = fields::<10>(record) else {
+        let [22, 4, number, kind, content, bits, targets @ .., cabin] = fields::<11>(record) else {
             return None;
         };
         let step = usize::from(number);
@@ -82,6 +163,7 @@ fn decode(bytes: &[u8]) -> Option<Table> {
         table.kinds[step] = kind;
         table.contents[step] = content;
         table.own[step] = bits >> EXITS;
+        table.cabins[step] = cabin;
         for (exit, target) in targets.into_iter().enumerate() {
             table.targets[place(step, exit)] = target;
             table.bits[place(step, exit)] = bits >> exit & 1;

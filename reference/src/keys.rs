@@ -1,9 +1,9 @@
 //! Key lines, and the program `keys` over any input and output.
-//! Renders "Keys" of document 01.
+//! Renders "Keys" of document 01; the steps are added for cabin 0, as W5 says.
 
 use std::io::{self, ErrorKind, Read, Write};
 
-use crate::calls::{bare, edit, fresh, Answer, Command};
+use crate::calls::{bare, edit, fresh_for_cabin_0, Answer, Command};
 use crate::faults::Fault;
 use crate::sound::sound;
 use crate::table::Table;
@@ -30,7 +30,7 @@ pub fn decode(line: &[u8]) -> Option<Command> {
     Some(match which {
         b'1' => {
             let [holder, exit, kind, content] = numbers(digits, [3, 1, 1, 3])?;
-            Command::Add { holder, exit, kind, content }
+            Command::Add { holder, exit, kind, content, cabin: 0 }
         }
         b'2' => {
             let [source, source_exit, second, second_exit] = numbers(digits, [3, 1, 3, 1])?;
@@ -63,7 +63,7 @@ fn numbers<const N: usize>(mut digits: &[u8], widths: [usize; N]) -> Option<[u16
 /// The program `keys`: answers each line of the input, from a fresh table of capacity 128.
 /// Of a line longer than any key line only the start is kept; it gets the same answer, 9 0 0.
 pub fn answer_lines(mut input: impl Read, mut output: impl Write) -> io::Result<()> {
-    let (mut table, _) = fresh(128);
+    let mut table = fresh_for_cabin_0(128);
     let mut finish = |line: &mut Vec<u8>, output: &mut dyn Write| {
         let answer = key_line(&mut table, line);
         line.clear();

@@ -1,31 +1,34 @@
-//! What a squeeze has to keep, and what the limit of a trial does, checked on generated tables with
-//! any strengths. It is stated of any program that makes calls, so that it can be asked of this one
-//! and of the one it is held to. Renders W2 and W3 of document 02. Each law gives how often it met
-//! the case that it is about.
+//! What a squeeze has to keep, what the limit of a trial does, and what cabins are promised,
+//! checked on generated tables with any strengths, and histories. It is stated of any program that
+//! makes calls, so that it can be asked of this one and of the one it is held to. Renders W2, W3
+//! and W5 of document 02. Each law gives how often it met the case that it is about.
 
+use std::collections::BTreeMap;
 use std::ops::Range;
 
+use crate::cabins::pairs;
 use crate::calls::{Command, Ending};
-use crate::generate::Random;
-use crate::history::{Call, Outcome};
+use crate::faults::Fault;
+use crate::generate::{start, Generator, Random};
+use crate::history::{begin, Call, Outcome};
 use crate::plan::plan_of;
-use crate::sound::sound;
-use crate::table::{members, Table, EXITS, PLACES};
+use crate::sound::{sound, CONTACT};
+use crate::table::{members, Quotas, Table, CABINS, EXITS, PLACES};
 
 /// Makes a call on a table.
 pub type Program<'a> = &'a dyn Fn(&mut Table, &Call) -> Outcome;
 
 /// The steps in their order get the numbers from 0 upward, with all their fields, and targets
-/// follow. The table is sound, and its plain plan is the renumbered one. Gives the steps that got
-/// another number.
+/// follow. The table is sound and has the capacity and the list given, and its plain plan is the
+/// renumbered one. Gives the steps that got another number.
 pub fn steps_travel(program: Program, seeds: Range<u64>) -> usize {
     let mut moved = 0;
-    for (table, capacity) in tables(seeds) {
-        let new = squeezed(program, &table, capacity);
+    for (table, capacity, quotas) in tables(seeds) {
+        let new = squeezed(program, &table, capacity, quotas);
         assert!(sound(&new));
-        assert_eq!((new.capacity, new.last), (capacity, table.size() - 1));
+        assert_eq!((new.capacity, new.quotas, new.last), (capacity, quotas, table.size() - 1));
         let mut plan = plan_of(&table);
-        assert_eq!(plan.draw(&Call::Squeeze { capacity }), Ok([Some(0), Some(0)]));
+        assert_eq!(plan.draw(&Call::Squeeze { capacity, quotas }), Ok([Some(0), Some(0)]));
         assert_eq!(plan_of(&new), plan);
         for step in members(table.in_use()) {
             let number = renumbered(&table, step);
@@ -40,14 +43,18 @@ pub fn steps_travel(program: Program, seeds: Range<u64>) -> usize {
     moved
 }
 
-/// Squeezing twice is squeezing once, whatever the first capacity. Gives the tables that the first
-/// squeeze renumbered.
+/// Squeezing twice is squeezing once, whatever the first capacity and list. Gives the tables that
+/// the first squeeze renumbered.
 pub fn twice_is_once(program: Program, seeds: Range<u64>) -> usize {
     let mut renumbered = 0;
-    for (table, capacity) in tables(seeds) {
-        let once = squeezed(program, &table, capacity);
+    for (table, capacity, quotas) in tables(seeds) {
+        let once = squeezed(program, &table, capacity, quotas);
+        let mut random = Random(capacity.into());
         for last in [table.size(), capacity, PLACES as u16] {
-            assert_eq!(squeezed(program, &once, last), squeezed(program, &table, last));
+            let list = random.fitting_list(last, &table.charges());
+            let [twice, at_once] =
+                [&once, &table].map(|table| squeezed(program, table, last, list));
+            assert_eq!(twice, at_once);
         }
         renumbered += usize::from(once.used != table.used);
     }
@@ -58,8 +65,8 @@ pub fn twice_is_once(program: Program, seeds: Range<u64>) -> usize {
 /// Gives the trials in which one of these is another number.
 pub fn trials_end_alike(program: Program, seeds: Range<u64>) -> usize {
     let mut other = 0;
-    for (table, capacity) in tables(seeds) {
-        let new = squeezed(program, &table, capacity);
+    for (table, capacity, quotas) in tables(seeds) {
+        let new = squeezed(program, &table, capacity, quotas);
         let plan = plan_of(&table);
         let mut random = Random(capacity.into());
         for _ in 0..12 {
@@ -82,7 +89,7 @@ pub fn trials_end_alike(program: Program, seeds: Range<u64>) -> usize {
 /// and went on under a larger limit.
 pub fn larger_limits_go_on(program: Program, seeds: Range<u64>) -> usize {
     let mut went_on = 0;
-    for (table, _) in tables(seeds) {
+    for (table, ..) in tables(seeds) {
         let mut random = Random(table.size().into());
         for length in 0..12 {
             let (results, moves) = random.results(&plan_of(&table), length);
@@ -112,8 +119,8 @@ pub fn larger_limits_go_on(program: Program, seeds: Range<u64>) -> usize {
 /// the clearings that took two steps or more back, in which the order matters.
 pub fn clearings_count_alike(program: Program, seeds: Range<u64>) -> usize {
     let mut taken_back = 0;
-    for (table, capacity) in tables(seeds) {
-        let squeezed = |table: &Table| squeezed(program, table, capacity);
+    for (table, capacity, quotas) in tables(seeds) {
+        let squeezed = |table: &Table| squeezed(program, table, capacity, quotas);
         let cleared = |table: &Table, step, exit| {
             let mut cleared = table.clone();
             let step = step as u16;
@@ -134,14 +141,102 @@ pub fn clearings_count_alike(program: Program, seeds: Range<u64>) -> usize {
     taken_back
 }
 
-/// Generated tables, each with a capacity that it fits: no place more than it needs, or some.
-fn tables(seeds: Range<u64>) -> impl Iterator<Item = (Table, u16)> {
+/// A cabin below its guarantee may add, whatever the others add or keep. When each of the others
+/// has added until it was refused, the cabin is given all steps up to its guarantee. Gives those
+/// steps.
+pub fn guarantees_are_kept(program: Program, seeds: Range<u64>) -> usize {
+    let mut given = 0;
+    for (table, ..) in tables(seeds) {
+        for (cabin, [guarantee, _]) in pairs(&table.quotas).into_iter().enumerate() {
+            let unmet = guarantee.saturating_sub(table.charges()[cabin]);
+            if unmet == 0 {
+                continue;
+            }
+            let mut table = table.clone();
+            for other in (0..CABINS).filter(|&other| other != cabin) {
+                let mut refusals = (0..PLACES).map(|_| add(program, &mut table, other));
+                let refusal = refusals.find(|&refusal| refusal != 0);
+                assert!(matches!(refusal, Some(14 | 15)), "{refusal:?}");
+            }
+            for _ in 0..unmet {
+                assert_eq!(add(program, &mut table, cabin), 0);
+            }
+            given += usize::from(unmet);
+        }
+    }
+    given
+}
+
+/// The steps in use less 1 are the cabins' charges, counted from the first table and the answers to
+/// adds and clearings since; each step keeps the cabin that added it until it is freed; and no add
+/// below a guarantee gets 8, 14 or 15. Gives the freed steps of other cabins than 0.
+pub fn charges_are_counted(program: Program, seeds: Range<u64>) -> usize {
+    let cabins = |table: &Table| -> BTreeMap<usize, u16> {
+        members(table.in_use() & !1).map(|step| (step, table.cabins[step])).collect()
+    };
+    let mut freed = 0;
+    for seed in seeds {
+        let (mut table, _) = begin(&start(seed), Fault::None);
+        let mut generator = Generator::new(seed);
+        let mut charged = cabins(&table);
+        let mut count = charged.len();
+        for _ in 0..400 {
+            let call = generator.call(&plan_of(&table));
+            let outcome = program(&mut table, &call);
+            let accepted = outcome.refusal == 0;
+            match call.command() {
+                Some(Command::Add { cabin, .. }) if accepted => {
+                    count += 1;
+                    charged.insert(outcome.numbers[0], cabin);
+                }
+                Some(Command::Add { cabin, .. }) if matches!(outcome.refusal, 8 | 14 | 15) => {
+                    let charge = charged.values().filter(|&&of| of == cabin).count();
+                    assert!(charge >= usize::from(table.quotas[2 * usize::from(cabin)]));
+                }
+                Some(Command::Clear { .. }) if accepted => {
+                    count -= outcome.numbers[1];
+                    charged.retain(|&step, cabin| {
+                        freed += usize::from(table.used[step] == 0 && *cabin != 0);
+                        table.used[step] == 1
+                    });
+                }
+                None if accepted && matches!(call, Call::Squeeze { .. }) => {
+                    charged = (1..).zip(charged.into_values()).collect();
+                }
+                _ => {}
+            }
+            let said = program(&mut table, &Call::Edit(Command::Count)).numbers[0];
+            assert_eq!((said - 1, charged.len()), (count, count), "{call:?}");
+            assert_eq!(cabins(&table), charged, "{call:?}");
+        }
+    }
+    freed
+}
+
+/// Adds a contact for a cabin at the first empty exit; gives the refusal.
+fn add(program: Program, table: &mut Table, cabin: usize) -> u16 {
+    let free = |place: &usize| table.used[place / EXITS] == 1 && table.targets[*place] == 0;
+    let place = (0..PLACES * EXITS).find(free).expect("an empty exit");
+    let command = Command::Add {
+        holder: (place / EXITS) as u16,
+        exit: (place % EXITS) as u16,
+        kind: CONTACT,
+        content: 0,
+        cabin: cabin as u16,
+    };
+    program(table, &Call::Edit(command)).refusal
+}
+
+/// Generated tables, each with a capacity that it fits, no place more than it needs, or some, and
+/// with a list.
+fn tables(seeds: Range<u64>) -> impl Iterator<Item = (Table, u16, Quotas)> {
     seeds.map(|seed| {
         let mut random = Random(seed);
         let table = random.sound_table();
         let more = random.below(PLACES + 1 - usize::from(table.size()));
         let capacity = table.size() + random.pick(&[0, more]) as u16;
-        (table, capacity)
+        let quotas = random.fitting_list(capacity, &table.charges());
+        (table, capacity, quotas)
     })
 }
 
@@ -151,9 +246,9 @@ fn renumbered(table: &Table, step: usize) -> usize {
 }
 
 /// A table after a squeeze, which has to be accepted.
-fn squeezed(program: Program, table: &Table, capacity: u16) -> Table {
+fn squeezed(program: Program, table: &Table, capacity: u16, quotas: Quotas) -> Table {
     let mut table = table.clone();
-    let outcome = program(&mut table, &Call::Squeeze { capacity });
+    let outcome = program(&mut table, &Call::Squeeze { capacity, quotas });
     assert_eq!((outcome.refusal, outcome.numbers), (0, vec![0, 0]));
     table
 }

@@ -1,10 +1,11 @@
 //! The call plan table of document 01, written a second time to compare with the product.
 //! Reach is marked afresh and counters are recounted from the links; no search works on counters.
-//! `table`, `sound`, `calls`, `clearing`, `squeeze`, `image` and `keys` keep a table; `plan` draws
-//! the plain plan; `history` runs calls given as values; `generate` makes up calls, key lines and
-//! tables; `faults` has deliberate errors; `laws` has what every squeeze has to keep and what the
-//! limit of a trial does.
+//! `table`, `sound`, `cabins`, `calls`, `clearing`, `squeeze`, `image` and `keys` keep a table;
+//! `plan` draws the plain plan; `history` runs calls given as values; `generate` makes up calls,
+//! key lines, tables, lists and images; `faults` has deliberate errors; `laws` has what every
+//! squeeze has to keep, what the limit of a trial does, and what cabins are promised.
 
+pub mod cabins;
 pub mod calls;
 pub mod clearing;
 pub mod faults;

@@ -1,16 +1,23 @@
 //! The plain plan, drawn from the calls' arguments alone, and the plain plan of a table.
-//! It has no bits and counters; after a clearing, what step 0 reaches is marked.
-//! Renders "The plain plan of a table" of document 01, W2's squeeze of it, and W3's refusal of a
-//! trial.
+//! It has no bits and counters; after a clearing, what step 0 reaches is marked. Charges and unmet
+//! guarantees are counted as W5 says them.
+//! Renders "The plain plan of a table" of document 01, W2's squeeze of it, W3's refusal of a trial,
+//! and W5's cabins.
 
 use std::collections::{BTreeMap, BTreeSet};
+use std::iter::zip;
 
+use crate::cabins::{list_fits, one_cabin, pairs};
 use crate::calls::Command;
-use crate::history::Call;
-use crate::image::{fields, HEADER, RECORD};
+use crate::history::{Call, Start};
+use crate::image::{fields, in_edition_2, HEADER, RECORD};
 use crate::keys::decode;
 use crate::sound::{capacity_fits, fits};
-use crate::table::{members, place, Table};
+use crate::table::{members, place, Charges, Quotas, Table, CABINS};
+
+/// What the plan says of a call: the refusal, or the two numbers answered where the plan knows
+/// them.
+pub type Said = Result<[Option<u16>; 2], u16>;
 
 /// A step of the plan; target 0 is an empty exit.
 #[derive(Clone, PartialEq, Eq, Debug, Default)]
@@ -18,13 +25,16 @@ pub struct PlanStep {
     pub kind: u16,
     pub content: u16,
     pub targets: [u16; 4],
+    pub cabin: u16,
 }
 
-/// A plain plan: capacity, last number given, and the steps in use by number.
+/// A plain plan: capacity, last number given, guarantees and limits, and the steps in use by
+/// number.
 #[derive(Clone, PartialEq, Eq, Debug)]
 pub struct Plan {
     pub capacity: u16,
     pub last: u16,
+    pub quotas: Quotas,
     pub steps: BTreeMap<u16, PlanStep>,
 }
 
@@ -35,47 +45,69 @@ pub fn plan_of(table: &Table) -> Plan {
             kind: table.kinds[step],
             content: table.contents[step],
             targets: std::array::from_fn(|exit| table.targets[place(step, exit)]),
+            cabin: table.cabins[step],
         };
         (step as u16, plan_step)
     };
     Plan {
         capacity: table.capacity,
         last: table.last,
+        quotas: table.quotas,
         steps: members(table.in_use()).map(step).collect(),
     }
 }
 
 impl Plan {
-    /// The plan of a fresh table; of capacity 1 where the capacity is refused.
-    pub fn fresh(capacity: u16) -> Plan {
-        Plan {
-            capacity: if capacity_fits(capacity) { capacity } else { 1 },
-            last: 0,
-            steps: BTreeMap::from([(0, PlanStep::default())]),
+    /// The plan of a fresh table, or its refusal.
+    pub fn fresh(capacity: u16, quotas: Quotas) -> Result<Plan, u16> {
+        refuse_list(capacity, &quotas)?;
+        let steps = BTreeMap::from([(0, PlanStep::default())]);
+        Ok(Plan { capacity, last: 0, quotas, steps })
+    }
+
+    /// The plan of a fresh table with W5's list for edition 1. The capacity has to be in range.
+    pub fn fresh_for_cabin_0(capacity: u16) -> Plan {
+        Plan::fresh(capacity, one_cabin(capacity)).expect("a capacity in range")
+    }
+
+    /// The plan that the records of an accepted image of either edition say.
+    pub fn of_image(image: &[u8]) -> Plan {
+        let image = in_edition_2(image).expect("an accepted image");
+        let [_, _, capacity, last, _, quotas @ ..] = fields::<21>(&image);
+        let step = |record: &[u8]| {
+            let [_, _, number, kind, content, _, targets @ .., cabin] = fields::<11>(record);
+            (number, PlanStep { kind, content, targets, cabin })
+        };
+        Plan { capacity, last, quotas, steps: image[HEADER..].chunks(RECORD).map(step).collect() }
+    }
+
+    /// Draws the first call of a history. Whether an image is accepted has to be told, since the
+    /// plan does not know strengths.
+    pub fn begin(start: &Start, accepted: bool) -> (Plan, Said) {
+        let drawn = match start {
+            Start::Fresh { capacity, quotas } => Plan::fresh(*capacity, *quotas),
+            Start::Load { image } if accepted => Ok(Plan::of_image(image)),
+            Start::Load { .. } => Err(12),
+        };
+        match drawn {
+            Ok(plan) => (plan, Ok([Some(0), Some(0)])),
+            Err(refusal) => (Plan::fresh_for_cabin_0(1), Err(refusal)),
         }
     }
 
-    /// The plan that the records of an accepted image say.
-    pub fn of_image(image: &[u8]) -> Plan {
-        let [_, _, capacity, last, _] = fields(image);
-        let step = |record: &[u8]| {
-            let [_, _, number, kind, content, _, targets @ ..] = fields::<10>(record);
-            (number, PlanStep { kind, content, targets })
-        };
-        Plan { capacity, last, steps: image[HEADER..].chunks(RECORD).map(step).collect() }
-    }
-
-    /// Draws a call into the plan. Gives the refusal, or the two numbers answered where the plan
-    /// knows them: it does not know the steps made doubtful, nor what a read or a trial answers.
-    pub fn draw(&mut self, call: &Call) -> Result<[Option<u16>; 2], u16> {
+    /// Draws a call into the plan, which does not know the steps made doubtful, nor what a read or
+    /// a trial answers.
+    pub fn draw(&mut self, call: &Call) -> Said {
         match call {
             Call::Edit(command) => self.draw_command(*command),
             Call::KeyLine(line) => self.draw_command(decode(line).ok_or(9u16)?),
-            Call::Squeeze { capacity } => {
-                refuse_if(!capacity_fits(*capacity), 2)?;
+            Call::Squeeze { capacity, quotas } => {
+                refuse_list(*capacity, quotas)?;
                 refuse_if(usize::from(*capacity) < self.steps.len(), 13)?;
+                let new = Plan { capacity: *capacity, quotas: *quotas, ..self.clone() };
+                refuse_if(!new.keeps_to_list(), 13)?;
+                *self = new;
                 self.renumber();
-                self.capacity = *capacity;
                 Ok([Some(0), Some(0)])
             }
             Call::Read { step } => self.step(*step).map(|_| [None, None]),
@@ -92,14 +124,16 @@ impl Plan {
         }
     }
 
-    fn draw_command(&mut self, command: Command) -> Result<[Option<u16>; 2], u16> {
+    fn draw_command(&mut self, command: Command) -> Said {
         match command {
-            Command::Add { holder, exit, kind, content } => {
+            Command::Add { holder, exit, kind, content, cabin } => {
+                refuse_if(usize::from(cabin) >= CABINS, 16)?;
                 refuse_if(*self.exit(holder, exit)? != 0, 5)?;
                 refuse_if(!fits(kind, content), 7)?;
                 let number = self.next_number().ok_or(8u16)?;
+                self.room(cabin)?;
                 *self.exit(holder, exit)? = number;
-                let step = PlanStep { kind, content, ..Default::default() };
+                let step = PlanStep { kind, content, cabin, ..Default::default() };
                 self.steps.insert(number, step);
                 self.last = number;
                 Ok([Some(number), Some(0)])
@@ -121,10 +155,7 @@ impl Plan {
                 self.steps.retain(|number, _| reached.contains(number));
                 Ok([None, Some((before - self.steps.len()) as u16)])
             }
-            Command::Count => {
-                let size = self.steps.len() as u16;
-                Ok([Some(size), Some(self.capacity - size)])
-            }
+            Command::Count => Ok([Some(self.steps.len() as u16), Some(self.free())]),
         }
     }
 
@@ -137,6 +168,43 @@ impl Plan {
             .map(|step| PlanStep { targets: step.targets.map(|target| numbers[&target]), ..step });
         self.steps = (0..).zip(steps).collect();
         self.last = self.steps.len() as u16 - 1;
+    }
+
+    /// Refuses one step more of this cabin, 0 to 7: by 14 where its charge is its limit; by 15
+    /// where it goes beyond its guarantee and no free step remains over the unmet guarantees, which
+    /// then are those of the other cabins.
+    pub fn room(&self, cabin: u16) -> Result<(), u16> {
+        let cabin = usize::from(cabin);
+        let ([guarantee, limit], charge) = (pairs(&self.quotas)[cabin], self.charges()[cabin]);
+        refuse_if(charge == limit, 14)?;
+        refuse_if(charge >= guarantee && u32::from(self.free()) <= self.unmet(), 15)
+    }
+
+    /// Whether charges are within limits and the free steps are not fewer than the unmet
+    /// guarantees.
+    fn keeps_to_list(&self) -> bool {
+        zip(pairs(&self.quotas), self.charges()).all(|([_, limit], charge)| charge <= limit)
+            && u32::from(self.free()) >= self.unmet()
+    }
+
+    /// The unmet guarantees of all cabins together.
+    fn unmet(&self) -> u32 {
+        zip(pairs(&self.quotas), self.charges())
+            .map(|([guarantee, _], charge)| u32::from(guarantee.saturating_sub(charge)))
+            .sum()
+    }
+
+    /// The charges, counted step by step.
+    pub fn charges(&self) -> Charges {
+        let mut charges = [0; CABINS];
+        for (_, step) in self.steps.range(1..) {
+            charges[usize::from(step.cabin)] += 1;
+        }
+        charges
+    }
+
+    fn free(&self) -> u16 {
+        self.capacity - self.steps.len() as u16
     }
 
     fn image_length(&self) -> usize {
@@ -174,6 +242,12 @@ impl Plan {
         }
         reached
     }
+}
+
+/// Refuses a capacity or a list.
+fn refuse_list(capacity: u16, quotas: &Quotas) -> Result<(), u16> {
+    refuse_if(!capacity_fits(capacity), 2)?;
+    refuse_if(!list_fits(capacity, quotas), 16)
 }
 
 fn refuse_if(condition: bool, refusal: u16) -> Result<(), u16> {

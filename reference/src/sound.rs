@@ -1,7 +1,9 @@
 //! The soundness test, total on any values. Each part below is one item of the list.
-//! Renders the list "A table is sound when" of document 01, and the kinds and their contents.
+//! Renders the list "A table is sound when" of document 01, the kinds and their contents, and what
+//! W5 of document 02 adds to the list.
 
-use crate::table::{after, mark, members, place, Table, EXITS, PLACES};
+use crate::cabins::charges_fit;
+use crate::table::{after, mark, members, place, Table, CABINS, EXITS, PLACES};
 
 /// The kinds of step.
 pub const ALARM: u16 = 0;
@@ -16,6 +18,7 @@ pub fn sound(table: &Table) -> bool {
         && (0..PLACES).all(|step| fields_right(table, step))
         && table.counts == table.counted()
         && strengths_right(table)
+        && cabins_right(table)
 }
 
 /// Whether a table may have this capacity.
@@ -60,7 +63,7 @@ fn fields_right(table: &Table, step: usize) -> bool {
                 _ => table.has(target) && bit <= 1,
             })
     } else {
-        let single = [table.kinds[step], table.contents[step], table.own[step]];
+        let single = [table.kinds[step], table.contents[step], table.own[step], table.cabins[step]];
         let counts = &table.counts[step * 2..step * 2 + 2];
         [&single, targets, bits, counts].iter().all(|fields| fields.iter().all(|&field| field == 0))
     }
@@ -72,4 +75,11 @@ fn strengths_right(table: &Table) -> bool {
     let strong = table.strong_links();
     let ends = (0..table.size()).fold(table.in_use(), |ends, _| after(ends, &strong));
     ends == 0 && mark(1, &strong) == table.in_use()
+}
+
+/// The cabins are 0 to 7, and 0 at step 0; the list is good, and the steps are within it.
+fn cabins_right(table: &Table) -> bool {
+    table.cabins[0] == 0
+        && table.cabins.iter().all(|&cabin| usize::from(cabin) < CABINS)
+        && charges_fit(table.capacity, &table.quotas, &table.charges())
 }

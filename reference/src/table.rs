@@ -1,6 +1,6 @@
 //! The fields of a table, and what can be read from them without assuming it sound.
 //! Sets of steps are marked along links, and counters are counted from all links.
-//! Renders "The table" of document 01.
+//! Renders "The table" of document 01, and the fields that W5 of document 02 adds.
 
 use std::array::from_fn;
 
@@ -8,6 +8,13 @@ use std::array::from_fn;
 pub const PLACES: usize = 128;
 /// Exits of a step.
 pub const EXITS: usize = 4;
+/// Cabins that add steps.
+pub const CABINS: usize = 8;
+
+/// A list of guarantees and limits: those of cabin c at c * 2 and c * 2 + 1.
+pub type Quotas = [u16; 2 * CABINS];
+/// For each cabin, the number of its steps.
+pub type Charges = [u16; CABINS];
 
 /// A set of steps: bit i stands for step i.
 pub type Set = u128;
@@ -33,6 +40,9 @@ pub struct Table {
     pub bits: [u16; 512],
     /// Counter b of step i at i * 2 + b.
     pub counts: [u16; 256],
+    /// The cabin that added each step; 0 for step 0 and for a free one.
+    pub cabins: [u16; 128],
+    pub quotas: Quotas,
 }
 
 impl Table {
@@ -48,6 +58,8 @@ impl Table {
             targets: [0; 512],
             bits: [0; 512],
             counts: [0; 256],
+            cabins: [0; 128],
+            quotas: [0; 2 * CABINS],
         }
     }
 
@@ -79,6 +91,16 @@ impl Table {
         } else {
             0
         }
+    }
+
+    /// The charges: the steps in use but 0 are sorted by their cabins, so that each cabin's stand
+    /// in a row. Cabins above 7 are charged nowhere.
+    pub fn charges(&self) -> Charges {
+        let mut sorted: Vec<u16> =
+            members(self.in_use() & !1).map(|step| self.cabins[step]).collect();
+        sorted.sort();
+        let start = |cabin: usize| sorted.partition_point(|&of| usize::from(of) < cabin);
+        from_fn(|cabin| (start(cabin + 1) - start(cabin)) as u16)
     }
 
     /// The links of either strength.

@@ -1,13 +1,13 @@
-//! Document 01's examples P1 to P10, with bits and counters, and further edits.
+//! Document 01's examples P1 to P10, with bits and counters, and further edits, all for cabin 0.
 //! Small cases: self links, two exits to one step, which step is taken first, numbers going round.
 
-use reference::calls::{add, clear, fresh, link, read, Answer, ReadAnswer};
+use reference::calls::{add, clear, fresh_for_cabin_0, link, read, Answer, ReadAnswer};
 use reference::image::{load, write};
 use reference::sound::sound;
 use reference::table::Table;
 
 fn f4() -> Table {
-    fresh(4).0
+    fresh_for_cabin_0(4)
 }
 
 fn yes(first: u16, second: u16) -> Answer {
@@ -28,8 +28,8 @@ fn counts(table: &Table, step: u16) -> [u16; 2] {
 fn p1_to_p7() {
     let mut t = f4();
     // P1, P2
-    assert_eq!(add(&mut t, 0, 0, 1, 0), yes(1, 0));
-    assert_eq!(add(&mut t, 1, 2, 1, 1), yes(2, 0));
+    assert_eq!(add(&mut t, 0, 0, 1, 0, 0), yes(1, 0));
+    assert_eq!(add(&mut t, 1, 2, 1, 1, 0), yes(2, 0));
     assert!(is_strong(&t, 0, 0) && is_strong(&t, 1, 2));
     // P3
     assert_eq!(link(&mut t, 0, 0, 2, 2), yes(0, 0));
@@ -65,15 +65,15 @@ fn p1_to_p7() {
     assert_eq!(clear(&mut t, 0, 1), yes(2, 2));
     assert_eq!(t, Table { last: 2, ..f4() });
     // P7
-    assert_eq!(add(&mut t, 0, 0, 3, 600), yes(3, 0));
-    assert_eq!(add(&mut t, 3, 0, 2, 15), yes(1, 0));
+    assert_eq!(add(&mut t, 0, 0, 3, 600, 0), yes(3, 0));
+    assert_eq!(add(&mut t, 3, 0, 2, 15, 0), yes(1, 0));
     assert!(sound(&t));
 }
 
 #[test]
 fn p8_a_self_link_does_not_hold_its_step() {
     let mut t = f4();
-    add(&mut t, 0, 0, 1, 0);
+    add(&mut t, 0, 0, 1, 0, 0);
     assert_eq!(link(&mut t, 0, 0, 1, 0), yes(0, 0));
     assert_eq!(clear(&mut t, 0, 0), yes(1, 1));
     assert_eq!(t, Table { last: 1, ..f4() });
@@ -82,7 +82,7 @@ fn p8_a_self_link_does_not_hold_its_step() {
 #[test]
 fn p9_two_exits_lead_to_one_step() {
     let mut t = f4();
-    add(&mut t, 0, 0, 1, 0);
+    add(&mut t, 0, 0, 1, 0, 0);
     link(&mut t, 0, 0, 0, 1);
     let mut weak_first = t.clone();
     assert_eq!(clear(&mut t, 0, 0), yes(1, 0));
@@ -93,22 +93,29 @@ fn p9_two_exits_lead_to_one_step() {
     assert_eq!(clear(&mut weak_first, 0, 0), yes(1, 1));
 }
 
+/// P10's bytes are of edition 1 and load as F4, which is written in edition 2: guarantee and limit
+/// of cabin 0 are 3.
 #[test]
 fn p10_f4_as_an_image() {
-    let mut image = vec![0x0A, 0, 1, 0, 4, 0, 0, 0, 1, 0, 0x14, 0, 2, 0];
-    image.extend([0; 16]);
-    let mut buffer = [0xEE; 32];
-    assert_eq!(write(&f4(), &mut buffer), yes(30, 0));
-    assert_eq!(buffer[..30], image);
-    assert_eq!(buffer[30..], [0xEE; 2]);
-    assert_eq!(load(&image), (f4(), yes(0, 0)));
+    let mut old = vec![0x0A, 0, 1, 0, 4, 0, 0, 0, 1, 0, 0x14, 0, 2, 0];
+    old.extend([0; 16]);
+    assert_eq!(load(&old), (f4(), yes(0, 0)));
+    let mut new = vec![0x2A, 0, 3, 0, 4, 0, 0, 0, 1, 0, 3, 0, 3, 0];
+    new.extend([0; 28]);
+    new.extend([0x16, 0, 4, 0]);
+    new.extend([0; 18]);
+    let mut buffer = [0xEE; 66];
+    assert_eq!(write(&f4(), &mut buffer), yes(64, 0));
+    assert_eq!(buffer[..64], new);
+    assert_eq!(buffer[64..], [0xEE; 2]);
+    assert_eq!(load(&new), (f4(), yes(0, 0)));
 }
 
 /// A weak self link is strong once its step's bit is flipped, so it is turned.
 #[test]
 fn a_self_link_is_made_weak_after_the_flip() {
     let mut t = f4();
-    add(&mut t, 0, 0, 1, 0);
+    add(&mut t, 0, 0, 1, 0, 0);
     link(&mut t, 0, 0, 1, 0);
     link(&mut t, 0, 0, 0, 1);
     assert_eq!(counts(&t, 1), [1, 2]);
@@ -120,7 +127,7 @@ fn a_self_link_is_made_weak_after_the_flip() {
 #[test]
 fn a_copy_of_a_weak_link_is_weak() {
     let mut t = f4();
-    add(&mut t, 0, 0, 1, 0);
+    add(&mut t, 0, 0, 1, 0, 0);
     link(&mut t, 0, 0, 0, 1);
     link(&mut t, 0, 1, 0, 2);
     assert!(is_strong(&t, 0, 0) && !is_strong(&t, 0, 1) && !is_strong(&t, 0, 2));
@@ -133,8 +140,8 @@ fn a_copy_of_a_weak_link_is_weak() {
 #[test]
 fn the_lowest_doubtful_step_is_taken_first() {
     let mut t = f4();
-    add(&mut t, 0, 0, 1, 0);
-    add(&mut t, 1, 0, 1, 1);
+    add(&mut t, 0, 0, 1, 0, 0);
+    add(&mut t, 1, 0, 1, 1, 0);
     link(&mut t, 1, 0, 0, 1);
     link(&mut t, 0, 0, 0, 2);
     assert_eq!(clear(&mut t, 0, 0), yes(2, 0));
@@ -147,15 +154,15 @@ fn the_lowest_doubtful_step_is_taken_first() {
 /// A step taken back can open the way to a lower one, which is then taken before a higher one.
 #[test]
 fn the_doubtful_steps_are_looked_at_afresh() {
-    let mut t = fresh(5).0;
+    let mut t = fresh_for_cabin_0(5);
     // Strong links 0 to 3, 3 to 4, 3 to 1; weak links 1 to 4, 0 to 3, 0 to 4.
     for _ in 0..2 {
-        add(&mut t, 0, 3, 2, 0);
+        add(&mut t, 0, 3, 2, 0, 0);
         clear(&mut t, 0, 3);
     }
-    assert_eq!(add(&mut t, 0, 0, 1, 0), yes(3, 0));
-    assert_eq!(add(&mut t, 3, 0, 1, 0), yes(4, 0));
-    assert_eq!(add(&mut t, 3, 1, 1, 0), yes(1, 0));
+    assert_eq!(add(&mut t, 0, 0, 1, 0, 0), yes(3, 0));
+    assert_eq!(add(&mut t, 3, 0, 1, 0, 0), yes(4, 0));
+    assert_eq!(add(&mut t, 3, 1, 1, 0, 0), yes(1, 0));
     link(&mut t, 3, 0, 1, 0);
     link(&mut t, 0, 0, 0, 1);
     link(&mut t, 3, 0, 0, 2);
@@ -169,8 +176,8 @@ fn the_doubtful_steps_are_looked_at_afresh() {
 #[test]
 fn links_of_freed_steps_leave_the_counters_of_kept_ones() {
     let mut t = f4();
-    add(&mut t, 0, 0, 1, 0);
-    add(&mut t, 0, 1, 1, 1);
+    add(&mut t, 0, 0, 1, 0, 0);
+    add(&mut t, 0, 1, 1, 1, 0);
     link(&mut t, 0, 0, 2, 0);
     link(&mut t, 0, 0, 2, 1);
     assert_eq!(counts(&t, 1), [1, 2]);
@@ -182,25 +189,25 @@ fn links_of_freed_steps_leave_the_counters_of_kept_ones() {
 fn numbers_go_round_past_the_top() {
     let mut t = f4();
     for exit in 0..3 {
-        assert_eq!(add(&mut t, 0, exit, 1, exit), yes(exit + 1, 0));
+        assert_eq!(add(&mut t, 0, exit, 1, exit, 0), yes(exit + 1, 0));
     }
     assert_eq!(clear(&mut t, 0, 1), yes(1, 1));
-    assert_eq!(add(&mut t, 0, 1, 1, 1), yes(2, 0));
+    assert_eq!(add(&mut t, 0, 1, 1, 1, 0), yes(2, 0));
     clear(&mut t, 0, 2);
     clear(&mut t, 0, 0);
     clear(&mut t, 0, 1);
     assert_eq!(t.last, 2);
-    assert_eq!(add(&mut t, 0, 0, 1, 0), yes(3, 0));
-    assert_eq!(add(&mut t, 0, 1, 1, 0), yes(1, 0));
-    assert_eq!(add(&mut t, 0, 2, 1, 0), yes(2, 0));
+    assert_eq!(add(&mut t, 0, 0, 1, 0, 0), yes(3, 0));
+    assert_eq!(add(&mut t, 0, 1, 1, 0, 0), yes(1, 0));
+    assert_eq!(add(&mut t, 0, 2, 1, 0, 0), yes(2, 0));
 }
 
 /// With 128 steps, 386 links can lead to one of them.
 #[test]
 fn counters_pass_255() {
-    let mut t = fresh(128).0;
+    let mut t = fresh_for_cabin_0(128);
     for step in 1..128 {
-        assert_eq!(add(&mut t, step - 1, 0, 2, 0), yes(step, 0));
+        assert_eq!(add(&mut t, step - 1, 0, 2, 0, 0), yes(step, 0));
     }
     link(&mut t, 0, 0, 127, 0);
     for step in 0..128 {
@@ -214,5 +221,5 @@ fn counters_pass_255() {
         assert_eq!(clear(&mut t, 0, exit), yes(0, 0));
     }
     assert_eq!(clear(&mut t, 0, 3), yes(127, 127));
-    assert_eq!(t, Table { last: 127, ..fresh(128).0 });
+    assert_eq!(t, Table { last: 127, ..fresh_for_cabin_0(128) });
 }

@@ -3,43 +3,15 @@
 
 mod common;
 
-use std::collections::BTreeSet;
-
 use common::image_of;
-use reference::calls::{fresh, Command};
+use reference::calls::Command;
 use reference::faults::{Fault, Sort};
-use reference::generate::{Generator, Random};
-use reference::history::{agrees, run, Call, Outcome};
+use reference::generate::{start, Generator};
+use reference::history::{agrees, begin, run, Call, Start};
 use reference::image::load;
-use reference::keys::decode;
 use reference::plan::{plan_of, Plan};
 use reference::sound::{sound, ALARM, MESSAGE, WAIT};
 use reference::table::{after, place, Table};
-
-/// A table to start from and its plan: fresh, refused or loaded, by the seed.
-fn start(seed: u64) -> (Table, Plan) {
-    let capacities = [128, 1, 2, 3, 4, 5, 8, 12, 24, 60, 0, 129];
-    match capacities.get(seed as usize % 18) {
-        Some(&capacity) => (fresh(capacity).0, Plan::fresh(capacity)),
-        None => {
-            let image = image_of(&Random(seed).sound_table());
-            (load(&image).0, Plan::of_image(&image))
-        }
-    }
-}
-
-/// The step and exit that a call clears, by itself or as a key line.
-fn cleared(call: &Call) -> Option<(u16, u16)> {
-    let command = match call {
-        Call::Edit(command) => *command,
-        Call::KeyLine(line) => decode(line)?,
-        _ => return None,
-    };
-    match command {
-        Command::Clear { step, exit } => Some((step, exit)),
-        _ => None,
-    }
-}
 
 /// The steps in use that end no strong chain from step 0 once an exit is emptied. Ends of chains
 /// are found by the number of links.
@@ -58,7 +30,16 @@ fn without_strong_chain(table: &Table, step: u16, exit: u16) -> u32 {
 /// What the histories have come across, so that a generator that avoids the hard cases is noticed.
 #[derive(Default, Debug)]
 struct Seen {
-    refusals: BTreeSet<u16>,
+    /// First calls by their refusal, and all other calls.
+    begun: [u32; 17],
+    refusals: [u32; 17],
+    /// Squeezes refused by 16, and by 13 for their list alone.
+    bad_lists: u32,
+    unfit_lists: u32,
+    /// Accepted adds by their cabin.
+    adds: [u32; 8],
+    /// Accepted adds below the guarantee while some other cabin is held back.
+    guaranteed: u32,
     all_freed: u32,
     some_freed: u32,
     all_kept: u32,
@@ -69,6 +50,17 @@ struct Seen {
     endings: [u32; 3],
     bad_results: u32,
     short_traces: u32,
+}
+
+/// Runs the first call on table and plan and compares all that has to agree.
+fn first(start: &Start, seen: &mut Seen) -> (Table, Plan) {
+    let (table, outcome) = begin(start, Fault::None);
+    let (plan, said) = Plan::begin(start, outcome.refusal == 0);
+    assert!(agrees(&outcome, said), "{start:?}: {outcome:?}, plan: {said:?}");
+    assert_eq!(plan_of(&table), plan, "{start:?}");
+    assert!(sound(&table), "{start:?}");
+    seen.begun[usize::from(outcome.refusal)] += 1;
+    (table, plan)
 }
 
 /// Runs one call on table and plan and compares all that has to agree.
@@ -82,7 +74,7 @@ fn check(table: &mut Table, plan: &mut Plan, call: &Call, seen: &mut Seen) {
     assert_eq!(load(&image_of(table)).0, *table, "{call:?}");
     if said.is_err() {
         assert_eq!(*table, before, "{call:?}");
-    } else if let Some((step, exit)) = cleared(call) {
+    } else if let Some(Command::Clear { step, exit }) = call.command() {
         let (doubtful, freed) = (outcome.numbers[0] as u32, outcome.numbers[1] as u32);
         assert_eq!(doubtful, without_strong_chain(&before, step, exit));
         assert_eq!(freed, u32::from(before.size() - table.size()));
@@ -90,9 +82,19 @@ fn check(table: &mut Table, plan: &mut Plan, call: &Call, seen: &mut Seen) {
         seen.all_freed += u32::from(freed > 0 && freed == doubtful);
         seen.some_freed += u32::from(freed > 0 && freed < doubtful);
         seen.all_kept += u32::from(freed == 0 && doubtful > 0);
+    } else if let Some(Command::Add { cabin, .. }) = call.command() {
+        let cabin = usize::from(cabin);
+        let held_back = (0..8).any(|other| plan_of(&before).room(other) == Err(15));
+        seen.adds[cabin] += 1;
+        seen.guaranteed +=
+            u32::from(held_back && before.charges()[cabin] < before.quotas[2 * cabin]);
     } else if matches!(call, Call::Squeeze { .. }) {
         seen.squeezed += 1;
         seen.renumbered += u32::from(table.used != before.used);
+    }
+    if let Call::Squeeze { capacity, .. } = call {
+        seen.bad_lists += u32::from(outcome.refusal == 16);
+        seen.unfit_lists += u32::from(outcome.refusal == 13 && *capacity >= before.size());
     }
     if matches!(call, Call::Trial { .. }) {
         match outcome.refusal {
@@ -101,7 +103,7 @@ fn check(table: &mut Table, plan: &mut Plan, call: &Call, seen: &mut Seen) {
             _ => seen.short_traces += 1,
         }
     }
-    seen.refusals.insert(outcome.refusal);
+    seen.refusals[usize::from(outcome.refusal)] += 1;
     seen.full_128 += u32::from(table.size() == 128);
 }
 
@@ -109,34 +111,43 @@ fn check(table: &mut Table, plan: &mut Plan, call: &Call, seen: &mut Seen) {
 fn histories_agree_with_the_plan() {
     let mut seen = Seen::default();
     for seed in 0..144 {
-        let (mut table, mut plan) = start(seed);
-        assert_eq!(plan_of(&table), plan);
+        let (mut table, mut plan) = first(&start(seed), &mut seen);
         let mut generator = Generator::new(seed);
         for _ in 0..500 {
             let call = generator.call(&plan);
             check(&mut table, &mut plan, &call, &mut seen);
         }
     }
-    assert_eq!(seen.refusals, BTreeSet::from([0, 2, 3, 4, 5, 6, 7, 8, 9, 10, 11, 13]));
+    println!("{seen:?}");
+    for (refusal, &calls) in seen.refusals.iter().enumerate() {
+        let met = if matches!(refusal, 1 | 12) { calls == 0 } else { calls > 200 };
+        assert!(met, "refusal {refusal} came up {calls} times");
+        assert_eq!(seen.begun[refusal] > 0, matches!(refusal, 0 | 2 | 12 | 16));
+    }
+    assert!(seen.bad_lists > 200 && seen.unfit_lists > 200 && seen.guaranteed > 200);
+    assert!(seen.adds.iter().all(|&adds| adds > 200));
     assert!(seen.all_freed > 100 && seen.some_freed > 100 && seen.all_kept > 100);
     assert!(seen.full_128 > 100 && seen.squeezed > 1000 && seen.renumbered > 500);
-    println!("{seen:?}");
     assert!(seen.endings.iter().all(|&ended| ended > 1000));
     assert!(seen.bad_results > 500 && seen.short_traces > 500);
 }
 
-/// The first call after which a variant differs from the right one, in the table or the outcome.
-fn first_difference(seed: u64, calls: usize, fault: Fault) -> Option<usize> {
-    let (mut right, mut plan) = start(seed);
-    let mut wrong = right.clone();
+/// Whether a variant differs from the right one, in the table or an outcome, after the first call
+/// or one of so many others.
+fn differs(seed: u64, calls: usize, fault: Fault) -> bool {
+    let start = start(seed);
+    let [(mut right, outcome), (mut wrong, other)] =
+        [Fault::None, fault].map(|fault| begin(&start, fault));
+    let (mut plan, _) = Plan::begin(&start, outcome.refusal == 0);
     let mut generator = Generator::new(seed);
-    (0..calls).find(|_| {
-        let call = generator.call(&plan);
-        let outcomes: [Outcome; 2] =
-            [run(&mut right, &call, Fault::None), run(&mut wrong, &call, fault)];
-        let _ = plan.draw(&call);
-        outcomes[0] != outcomes[1] || right != wrong
-    })
+    (right != wrong || outcome != other)
+        || (0..calls).any(|_| {
+            let call = generator.call(&plan);
+            let outcome = run(&mut right, &call, Fault::None);
+            let other = run(&mut wrong, &call, fault);
+            let _ = plan.draw(&call);
+            outcome != other || right != wrong
+        })
 }
 
 #[test]
@@ -148,13 +159,30 @@ fn every_fault_is_found() {
         Fault::SwappedRefusals,
         Fault::HighestFirst,
         Fault::FreedKeepsBit,
+        Fault::FreedKeepsCabin,
+        Fault::CabinAfterHolder,
+        Fault::CabinCut,
+        Fault::CabinForgotten,
+        Fault::AlarmCharged,
+        Fault::LimitPassed,
+        Fault::ReservedTaken,
+        Fault::ReservedBeforeLimit,
+        Fault::GuaranteeRefused,
+        Fault::SumIn16Bits,
+        Fault::ListBeforeRange,
+        Fault::EditionsMixed,
+        Fault::NoGuaranteeLoaded,
         Fault::FitBeforeRange,
+        Fault::FitBeforeList,
+        Fault::FitBySize,
         Fault::OrderReversed,
         Fault::TargetsStay,
         Fault::OwnBitsStay,
         Fault::CountersStay,
         Fault::RecordsStay,
         Fault::LastStays,
+        Fault::CabinsLost,
+        Fault::ListStays,
         Fault::UsesUp(ALARM),
         Fault::UsesUp(MESSAGE),
         Fault::UsesUp(WAIT),
@@ -175,24 +203,24 @@ fn every_fault_is_found() {
         Fault::MovesInAByte,
     ];
     for fault in faults {
-        let found = (0..54).filter_map(|seed| first_difference(seed, 200, fault)).count();
+        let found = (0..54).filter(|&seed| differs(seed, 200, fault)).count();
+        println!("{fault:?} is found by {found} histories of 54");
         assert!(found >= 9, "{fault:?} is found by {found} histories of 54");
     }
-    assert_eq!((0..54).find_map(|seed| first_difference(seed, 200, Fault::None)), None);
+    assert!(!(0..54).any(|seed| differs(seed, 200, Fault::None)));
 }
 
 /// What is wrong in one part of one sort of call is found too, but where no history has such a
-/// call: in a first call, and in a count or an image's length that is refused.
+/// call: a count or an image's length that is refused.
 #[test]
 fn every_spoiled_part_is_found() {
     for fault in Fault::spoiled() {
         let Fault::Spoiled { sort, refused, .. } = fault else { unreachable!() };
         let met = match sort {
-            Sort::Fresh | Sort::Load => false,
             Sort::Count | Sort::ImageLength => !refused,
             _ => true,
         };
-        let found = (0..54).any(|seed| first_difference(seed, 200, fault).is_some());
+        let found = (0..54).any(|seed| differs(seed, 200, fault));
         assert_eq!(found, met, "{fault:?}");
     }
 }

@@ -4,7 +4,8 @@
 use std::io::Write;
 use std::process::{Command, Stdio};
 
-use reference::calls::{fresh, Answer};
+use reference::cabins::list;
+use reference::calls::{add, fresh, fresh_for_cabin_0, Answer};
 use reference::generate::Generator;
 use reference::history::Call;
 use reference::keys::{answer_lines, decode, key_line};
@@ -118,7 +119,7 @@ fn nothing_else_is_a_key_line() {
 
 #[test]
 fn a_full_telephone() {
-    let (mut table, _) = fresh(128);
+    let mut table = fresh_for_cabin_0(128);
     for step in 0..127 {
         let line = format!("H*1{step:03}03600A");
         let answer = key_line(&mut table, line.as_bytes());
@@ -130,12 +131,28 @@ fn a_full_telephone() {
     assert_eq!(key_line(&mut table, b"H*4A"), Answer { refusal: 0, first: 1, second: 127 });
 }
 
+/// A key line adds for cabin 0, on any table. In `keys` 8 comes before 14 and 15; with other lists
+/// they show.
+#[test]
+fn key_lines_add_for_cabin_0() {
+    let (mut table, _) = fresh(6, list(&[[0, 2], [3, 3], [0, 9]]));
+    let lines: [&[u8]; 3] = [b"H*100001000A", b"H*100011000A", b"H*100021000A"];
+    assert_eq!(lines.map(|line| key_line(&mut table, line).refusal), [0, 0, 14]);
+    assert_eq!(table.cabins[..3], [0, 0, 0]);
+    let (mut table, _) = fresh(6, list(&[[0, 2], [3, 3], [0, 9]]));
+    for exit in 0..2 {
+        assert_eq!(add(&mut table, 0, exit, 1, 0, 2).refusal, 0);
+    }
+    assert_eq!(key_line(&mut table, b"H*100021000A").refusal, 15);
+    assert_eq!(table.cabins[..4], [0, 2, 2, 0]);
+}
+
 #[test]
 fn generated_lines() {
     for seed in 0..4 {
         let mut generator = Generator::new(seed);
-        let (mut table, _) = fresh(128);
-        let mut plan = Plan::fresh(128);
+        let mut table = fresh_for_cabin_0(128);
+        let mut plan = Plan::fresh_for_cabin_0(128);
         let (mut input, mut expected) = (Vec::new(), String::new());
         for _ in 0..800 {
             let line = generator.key_line(&plan);

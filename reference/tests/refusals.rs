@@ -1,8 +1,10 @@
-//! Each row of "Reasons for no" with its example, W2's 13, W3's 11, each call's order of refusals,
-//! and numbers that would wrap. A refused call changes neither table nor buffer.
+//! Each row of "Reasons for no" with its example, W2's 13, W3's 11, W5's 14 to 16, each call's
+//! order of refusals, and numbers that would wrap. A refused call changes neither table nor buffer.
 
+use reference::cabins::{list, one_cabin};
 use reference::calls::{
-    add, clear, counts, fresh, link, read, trial, Answer, ReadAnswer, TrialAnswer,
+    add, clear, counts, fresh, fresh_for_cabin_0, link, read, trial, Answer, ReadAnswer,
+    TrialAnswer,
 };
 use reference::image::{length, load, write};
 use reference::keys::key_line;
@@ -10,7 +12,7 @@ use reference::squeeze::squeeze;
 use reference::table::Table;
 
 fn f4() -> Table {
-    fresh(4).0
+    fresh_for_cabin_0(4)
 }
 
 fn no(refusal: u16) -> Answer {
@@ -48,8 +50,8 @@ fn read_refuses(refusal: u16, table: &Table, step: u16) {
 
 /// A table of capacity 2 that is full: step 0's exit 0 leads to step 1.
 fn full() -> Table {
-    let mut table = fresh(2).0;
-    add(&mut table, 0, 0, 1, 0);
+    let mut table = fresh_for_cabin_0(2);
+    add(&mut table, 0, 0, 1, 0, 0);
     table
 }
 
@@ -58,10 +60,10 @@ fn examples_of_the_table() {
     let mut unsound = f4();
     unsound.used[0] = 0;
     // 1, which all calls on a table give, before any other
-    refuses(1, &unsound, |t| add(t, 9, 9, 9, 9));
+    refuses(1, &unsound, |t| add(t, 9, 9, 9, 9, 9));
     refuses(1, &unsound, |t| link(t, 9, 9, 9, 9));
     refuses(1, &unsound, |t| clear(t, 9, 9));
-    refuses(1, &unsound, |t| squeeze(t, 0));
+    refuses(1, &unsound, |t| squeeze(t, 0, [1; 16]));
     refuses(1, &unsound, |t| key_line(t, b"H*5A"));
     refuses(1, &unsound, |t| key_line(t, b"H*4A"));
     assert_eq!((counts(&unsound), length(&unsound)), (no(1), no(1)));
@@ -69,65 +71,91 @@ fn examples_of_the_table() {
     trial_refuses(1, &unsound, 1, &[4], 0);
     write_refuses(1, &unsound, 0);
     // 2
-    assert_eq!(fresh(129), (fresh(1).0, no(2)));
+    assert_eq!(fresh(129, one_cabin(129)), (fresh_for_cabin_0(1), no(2)));
     // 3
     read_refuses(3, &f4(), 1);
     // 4
     refuses(4, &f4(), |t| clear(t, 0, 4));
     // 5
     let mut added = f4();
-    assert_eq!(add(&mut added, 0, 0, 1, 0).refusal, 0);
-    refuses(5, &added, |t| add(t, 0, 0, 1, 0));
+    assert_eq!(add(&mut added, 0, 0, 1, 0, 0).refusal, 0);
+    refuses(5, &added, |t| add(t, 0, 0, 1, 0, 0));
     // 6
     refuses(6, &f4(), |t| clear(t, 0, 0));
     // 7
-    refuses(7, &f4(), |t| add(t, 0, 0, 3, 0));
+    refuses(7, &f4(), |t| add(t, 0, 0, 3, 0, 0));
     // 8
-    refuses(8, &fresh(1).0, |t| add(t, 0, 0, 1, 0));
+    refuses(8, &fresh_for_cabin_0(1), |t| add(t, 0, 0, 1, 0, 0));
     // 9
     refuses(9, &f4(), |t| key_line(t, b"H*5A"));
     // 10
     trial_refuses(10, &f4(), 2, &[0, 4], 2);
     // 11
     write_refuses(11, &f4(), 29);
+    write_refuses(11, &f4(), 63);
     trial_refuses(11, &f4(), 2, &[0, 0], 1);
     // 12
-    assert_eq!(load(&[]), (fresh(1).0, no(12)));
+    assert_eq!(load(&[]), (fresh_for_cabin_0(1), no(12)));
     // 13
-    refuses(13, &added, |t| squeeze(t, 1));
+    refuses(13, &added, |t| squeeze(t, 1, one_cabin(1)));
+    // 14: cabin 0 may have one step, and has it
+    let mut limited = fresh(4, list(&[[0, 1]])).0;
+    assert_eq!(add(&mut limited, 0, 0, 1, 0, 0).refusal, 0);
+    refuses(14, &limited, |t| add(t, 0, 1, 1, 0, 0));
+    // 15: the three free places are guaranteed to cabin 1
+    refuses(15, &fresh(4, list(&[[0, 9], [3, 3]])).0, |t| add(t, 0, 0, 1, 0, 0));
+    // 16: a cabin, and a list at a fresh table and at a squeeze
+    refuses(16, &f4(), |t| add(t, 0, 0, 1, 0, 8));
+    assert_eq!(fresh(4, one_cabin(5)), (fresh_for_cabin_0(1), no(16)));
+    refuses(16, &f4(), |t| squeeze(t, 4, one_cabin(5)));
 }
 
 #[test]
 fn capacities() {
     for capacity in [1, 2, 127, 128] {
-        let (table, answer) = fresh(capacity);
+        let (table, answer) = fresh(capacity, one_cabin(capacity));
         assert_eq!((table.capacity, answer), (capacity, no(0)));
     }
     for capacity in [0, 129, 256, 257, 65535] {
-        assert_eq!(fresh(capacity), (fresh(1).0, no(2)));
-        refuses(2, &full(), |t| squeeze(t, capacity));
+        for quotas in [one_cabin(capacity), one_cabin(128), [0; 16], [1; 16]] {
+            assert_eq!(fresh(capacity, quotas), (fresh_for_cabin_0(1), no(2)));
+            refuses(2, &full(), |t| squeeze(t, capacity, quotas));
+        }
     }
 }
 
 #[test]
 fn kinds_and_contents() {
     for (kind, content) in [(1, 0), (1, 99), (2, 0), (2, 15), (3, 1), (3, 600)] {
-        assert_eq!(add(&mut f4(), 0, 0, kind, content).refusal, 0);
+        assert_eq!(add(&mut f4(), 0, 0, kind, content, 0).refusal, 0);
     }
     let wrong = [(1, 100), (2, 16), (3, 0), (3, 601), (0, 0), (4, 1), (257, 0), (65535, 1)];
     for (kind, content) in wrong.into_iter().chain([1, 2, 3].map(|kind| (kind, 65535))) {
-        refuses(7, &f4(), |t| add(t, 0, 0, kind, content));
+        refuses(7, &f4(), |t| add(t, 0, 0, kind, content, 0));
     }
 }
 
 #[test]
 fn the_order_of_add() {
     let table = full();
-    refuses(3, &table, |t| add(t, 2, 4, 0, 0));
-    refuses(4, &table, |t| add(t, 0, 4, 0, 0));
-    refuses(5, &table, |t| add(t, 0, 0, 0, 0));
-    refuses(7, &table, |t| add(t, 0, 1, 0, 0));
-    refuses(8, &table, |t| add(t, 0, 1, 1, 0));
+    refuses(16, &table, |t| add(t, 2, 4, 0, 0, 8));
+    refuses(3, &table, |t| add(t, 2, 4, 0, 0, 0));
+    refuses(4, &table, |t| add(t, 0, 4, 0, 0, 0));
+    refuses(5, &table, |t| add(t, 0, 0, 0, 0, 0));
+    refuses(7, &table, |t| add(t, 0, 1, 0, 0, 0));
+    refuses(8, &table, |t| add(t, 0, 1, 1, 0, 0));
+    // Steps 1 and 2 are cabin 0's, which may have no more; the free place is guaranteed to cabin 1.
+    let (mut table, _) = fresh(4, list(&[[2, 2], [1, 1], [0, 1]]));
+    assert_eq!([0, 1].map(|exit| add(&mut table, 0, exit, 1, 0, 0).refusal), [0, 0]);
+    refuses(16, &table, |t| add(t, 4, 4, 0, 0, 8));
+    refuses(3, &table, |t| add(t, 4, 4, 0, 0, 0));
+    refuses(7, &table, |t| add(t, 0, 2, 0, 0, 0));
+    refuses(14, &table, |t| add(t, 0, 2, 1, 0, 0));
+    refuses(15, &table, |t| add(t, 0, 2, 1, 0, 2));
+    assert_eq!(add(&mut table, 0, 2, 1, 0, 1).first, 3);
+    for cabin in 0..8 {
+        refuses(8, &table, |t| add(t, 0, 3, 1, 0, cabin));
+    }
 }
 
 #[test]
@@ -148,10 +176,14 @@ fn the_orders_of_the_other_calls() {
     refuses(3, &table, |t| clear(t, 2, 4));
     refuses(4, &table, |t| clear(t, 0, 4));
     refuses(6, &table, |t| clear(t, 0, 1));
-    // Capacity 0 is also below the steps in use.
-    refuses(2, &table, |t| squeeze(t, 0));
-    refuses(13, &table, |t| squeeze(t, 1));
-    assert_eq!(squeeze(&mut table.clone(), 2), no(0));
+    // Capacity 0 is also below the steps in use, and so is 1, for which the second list is bad too.
+    refuses(2, &table, |t| squeeze(t, 0, one_cabin(2)));
+    refuses(16, &table, |t| squeeze(t, 1, one_cabin(2)));
+    refuses(13, &table, |t| squeeze(t, 1, one_cabin(1)));
+    // Step 1 fits a capacity of 2, but not a limit of 0, nor with a place guaranteed to cabin 1.
+    refuses(13, &table, |t| squeeze(t, 2, [0; 16]));
+    refuses(13, &table, |t| squeeze(t, 2, list(&[[0, 1], [1, 1]])));
+    assert_eq!(squeeze(&mut table.clone(), 2, one_cabin(2)), no(0));
     // A result above 3 counts even where no contact uses it up, and before the trace.
     trial_refuses(10, &table, 0, &[1, 1, 4], 0);
     trial_refuses(10, &table, 9, &[1, 4], 0);
@@ -164,9 +196,9 @@ fn the_orders_of_the_other_calls() {
     trial_refuses(11, &table, 3, &[], 2);
     trial_refuses(11, &table, 65535, &[1; 100], 255);
     // Needed is the length of this image, and no more.
-    write_refuses(11, &table, 49);
+    write_refuses(11, &table, 85);
     write_refuses(11, &table, 0);
-    assert_eq!(write(&table, &mut [0; 50]), Answer { refusal: 0, first: 50, second: 0 });
+    assert_eq!(write(&table, &mut [0; 86]), Answer { refusal: 0, first: 86, second: 0 });
 }
 
 #[test]
@@ -195,16 +227,17 @@ fn key_lines_give_the_refusals_of_their_calls() {
 fn numbers_do_not_wrap() {
     let table = full();
     for large in [256, 257, 65535] {
-        refuses(3, &table, |t| add(t, large, 1, 1, 0));
+        refuses(3, &table, |t| add(t, large, 1, 1, 0, 0));
         refuses(3, &table, |t| link(t, large, 0, 0, 1));
         refuses(3, &table, |t| link(t, 0, 0, large, 1));
         refuses(3, &table, |t| clear(t, large, 0));
         read_refuses(3, &table, large);
-        refuses(4, &table, |t| add(t, 0, large, 1, 0));
+        refuses(4, &table, |t| add(t, 0, large, 1, 0, 0));
         refuses(4, &table, |t| link(t, 0, large, 0, 1));
         refuses(4, &table, |t| link(t, 0, 0, 0, large));
         refuses(4, &table, |t| clear(t, 0, large));
-        refuses(7, &table, |t| add(t, 0, 1, large, 0));
+        refuses(7, &table, |t| add(t, 0, 1, large, 0, 0));
+        refuses(16, &table, |t| add(t, 0, 1, 1, 0, large));
     }
 }
 

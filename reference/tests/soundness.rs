@@ -1,31 +1,40 @@
-//! The soundness test: each item of document 01's list broken alone, any values in the fields,
-//! and its graph half against marking from each step alone.
+//! The soundness test: each item of document 01's list, and of W5's, broken alone, any values in
+//! the fields, its graph half against marking from each step alone, and its cabins against W5's
+//! words.
 
-use reference::calls::{add, fresh, link, Command};
+use reference::cabins::{list, one_cabin, pairs};
+use reference::calls::{add, fresh, fresh_for_cabin_0, link, Command};
 use reference::faults::Fault;
 use reference::generate::Random;
 use reference::history::{agrees, run, Call};
 use reference::sound::sound;
 use reference::table::{mark, members, Table};
 
-/// Step 0 leads to 1, 1 to 2, both strong; 2 leads weakly to 1 and 0 weakly to 2.
+/// Step 0 leads to 1, 1 to 2, both strong; 2 leads weakly to 1 and 0 weakly to 2. Step 1 is cabin
+/// 0's and step 2 cabin 1's; the free step is guaranteed to cabin 1.
 fn ring() -> Table {
-    let mut table = fresh(4).0;
-    add(&mut table, 0, 0, 1, 0);
-    add(&mut table, 1, 2, 1, 1);
+    let (mut table, _) = fresh(4, list(&[[1, 2], [2, 2], [0, 65535]]));
+    add(&mut table, 0, 0, 1, 0, 0);
+    add(&mut table, 1, 2, 1, 1, 1);
     link(&mut table, 0, 0, 2, 2);
     link(&mut table, 1, 2, 0, 1);
     table
 }
 
 #[test]
-fn the_layout_is_3588_bytes() {
-    assert_eq!(std::mem::size_of::<Table>(), 3588);
+fn the_layout_is_3876_bytes() {
+    assert_eq!(std::mem::size_of::<Table>(), 3876);
 }
 
 #[test]
 fn sound_tables() {
-    assert!(sound(&fresh(1).0) && sound(&fresh(128).0) && sound(&ring()));
+    assert!(sound(&fresh_for_cabin_0(1)) && sound(&fresh_for_cabin_0(128)) && sound(&ring()));
+    // Limits have no bound of their own, and both steps may be one cabin's.
+    let mut table = ring();
+    table.quotas.iter_mut().skip(1).step_by(2).for_each(|limit| *limit = 65535);
+    assert!(sound(&table));
+    table.cabins[1] = 1;
+    assert!(sound(&table));
     // The bit of step 0 is free, and so is the last number given, in use or not.
     let mut table = ring();
     table.own[0] = 1;
@@ -42,7 +51,7 @@ type Change = fn(&mut Table);
 /// on purpose are exact.
 #[test]
 fn each_item_of_the_list() {
-    let changes: [(&str, Change); 41] = [
+    let changes: [(&str, Change); 58] = [
         ("capacity 0", |t| t.capacity = 0),
         ("capacity 129", |t| t.capacity = 129),
         ("capacity 65535", |t| t.capacity = 65535),
@@ -96,7 +105,26 @@ fn each_item_of_the_list() {
             t.counts = t.counted();
         }),
         ("a step with no links", |t| {
-            (t.used[3], t.kinds[3]) = (1, 1);
+            (t.used[3], t.kinds[3], t.cabins[3]) = (1, 1, 1);
+        }),
+        ("cabin 8", |t| t.cabins[1] = 8),
+        ("cabin 65535", |t| t.cabins[1] = 65535),
+        ("cabin of step 0", |t| t.cabins[0] = 1),
+        ("cabin of a free step", |t| t.cabins[3] = 1),
+        ("cabin above the capacity", |t| t.cabins[127] = 1),
+        ("a step of a cabin with limit 0", |t| t.cabins[1] = 7),
+        ("one free step, two guaranteed to cabin 1", |t| t.cabins[2] = 0),
+        ("a charge above the limit", |t| (t.quotas[0], t.quotas[1]) = (0, 0)),
+        ("a charge of cabin 1 above the limit", |t| (t.quotas[2], t.quotas[3]) = (0, 0)),
+        ("guarantee above the limit", |t| (t.capacity, t.quotas[0]) = (8, 3)),
+        ("guarantee of cabin 7 above the limit", |t| (t.capacity, t.quotas[14]) = (8, 1)),
+        ("one guarantee too many", |t| (t.quotas[2], t.quotas[3]) = (3, 3)),
+        ("one guarantee too many, of cabin 7", |t| (t.quotas[14], t.quotas[15]) = (1, 1)),
+        ("a capacity of one guarantee less", |t| t.capacity = 3),
+        ("guarantee 65535", |t| t.quotas[4] = 65535),
+        ("guarantees that add up to 3 in 16 bits", |t| t.quotas[4..8].fill(32768)),
+        ("others that do", |t| {
+            (t.quotas[4], t.quotas[6], t.quotas[7]) = (65535, 1, 1);
         }),
     ];
     for (name, change) in changes {
@@ -109,13 +137,13 @@ fn each_item_of_the_list() {
 /// All calls but fresh and load, each accepted on some sound table.
 fn calls() -> Vec<Call> {
     vec![
-        Call::Edit(Command::Add { holder: 0, exit: 3, kind: 1, content: 0 }),
+        Call::Edit(Command::Add { holder: 0, exit: 3, kind: 1, content: 0, cabin: 0 }),
         Call::Edit(Command::Link { source: 0, source_exit: 0, second: 0, second_exit: 2 }),
         Call::Edit(Command::Clear { step: 0, exit: 0 }),
-        Call::Squeeze { capacity: 128 },
+        Call::Squeeze { capacity: 128, quotas: one_cabin(128) },
         Call::Read { step: 0 },
         Call::Trial { limit: 4, results: vec![0, 1, 2, 3], trace: 4 },
-        Call::Write { buffer: 2570 },
+        Call::Write { buffer: 2858 },
         Call::KeyLine(b"H*4A".to_vec()),
     ]
 }
@@ -166,6 +194,8 @@ fn any_values() {
         table.targets.fill_with(&mut any);
         table.bits.fill_with(&mut any);
         table.counts.fill_with(&mut any);
+        table.cabins.fill_with(&mut any);
+        table.quotas.fill_with(&mut any);
         answers_by_soundness(&table);
     }
 }
@@ -196,4 +226,47 @@ fn strengths_against_marks() {
         right += u32::from(sound(&table));
     }
     assert!((300..900).contains(&right), "{right}");
+}
+
+/// W5's clauses, as they are written and with wide numbers, on a table that keeps document 01's.
+fn as_w5_says(table: &Table) -> bool {
+    let wide = |number: u16| u64::from(number);
+    let in_use = || members(table.in_use()).filter(|&step| step != 0);
+    let charge = |cabin: u64| in_use().filter(|&step| wide(table.cabins[step]) == cabin).count();
+    let cabins: Vec<[u64; 3]> = (0..)
+        .zip(pairs(&table.quotas))
+        .map(|(cabin, [guarantee, limit])| [wide(guarantee), wide(limit), charge(cabin) as u64])
+        .collect();
+    let places = wide(table.capacity) - 1;
+    let free = wide(table.capacity) - wide(table.size());
+    cabins.iter().all(|[guarantee, limit, _]| guarantee <= limit)
+        && cabins.iter().map(|[guarantee, ..]| guarantee).sum::<u64>() <= places
+        && table.cabins[0] == 0
+        && (0..128).all(|step| table.has(step as u16) || table.cabins[step] == 0)
+        && in_use().all(|step| table.cabins[step] <= 7)
+        && cabins.iter().all(|[_, limit, charge]| charge <= limit)
+        && free
+            >= cabins.iter().map(|[guarantee, _, charge]| guarantee.saturating_sub(*charge)).sum()
+}
+
+#[test]
+fn cabins_against_the_words() {
+    let mut random = Random(6);
+    let mut right = 0;
+    for _ in 0..4000 {
+        let mut table = random.sound_table();
+        assert!(as_w5_says(&table));
+        match random.below(3) {
+            0 => table.quotas = random.list(table.capacity, &[0; 8]),
+            1 => table.cabins[random.below(128)] = random.pick(&[0, 1, 2, 3, 4, 5, 6, 7, 8]),
+            _ => {
+                let change = random.pick(&[1, 2, 32768, 65535]);
+                let quota = &mut table.quotas[random.below(16)];
+                *quota = quota.wrapping_add(change);
+            }
+        }
+        assert_eq!(sound(&table), as_w5_says(&table));
+        right += u32::from(sound(&table));
+    }
+    assert!((1000..3000).contains(&right), "{right}");
 }

@@ -1,7 +1,7 @@
 //! W3's sentences on examples with the numbers written out, the largest limit, and its law on
 //! generated tables. `refusals` has the refused trials.
 
-use reference::calls::{add, fresh, link, trial, Ending, TrialAnswer};
+use reference::calls::{add, fresh_for_cabin_0, link, trial, Ending, TrialAnswer};
 use reference::faults::Fault;
 use reference::history::{run, UNTOUCHED};
 use reference::laws;
@@ -11,14 +11,14 @@ use reference::table::Table;
 /// A ring of steps 1 upward with these kinds, which step 0 enters at 1. Contacts lead on by exit 2,
 /// the others by the answered exit.
 fn ring(kinds: &[u16]) -> Table {
-    let mut t = fresh(8).0;
+    let mut t = fresh_for_cabin_0(8);
     let exit = |step: u16| match step {
         0 => 0,
         _ if kinds[usize::from(step) - 1] == CONTACT => 2,
         _ => 0,
     };
     for (step, &kind) in (0..).zip(kinds) {
-        assert_eq!(add(&mut t, step, exit(step), kind, 1).first, step + 1);
+        assert_eq!(add(&mut t, step, exit(step), kind, 1, 0).first, step + 1);
     }
     let last = kinds.len() as u16;
     assert_eq!(link(&mut t, 0, 0, last, exit(last)).refusal, 0);
@@ -48,7 +48,7 @@ fn the_example_of_document_02() {
 /// An empty exit ends a trial open before the limit stops it.
 #[test]
 fn limit_0() {
-    let f4 = fresh(4).0;
+    let f4 = fresh_for_cabin_0(4);
     for results in [&[][..], &[0], &[3, 3]] {
         assert_eq!(made(&f4, 0, results), (Ending::Open, 0, vec![]));
         for kind in [CONTACT, MESSAGE, WAIT] {
@@ -61,10 +61,10 @@ fn limit_0() {
 /// The first result belongs to the first contact.
 #[test]
 fn step_0_uses_up_no_result() {
-    let mut t = fresh(4).0;
-    add(&mut t, 0, 0, CONTACT, 0);
-    add(&mut t, 0, 3, CONTACT, 0);
-    add(&mut t, 1, 3, CONTACT, 0);
+    let mut t = fresh_for_cabin_0(4);
+    add(&mut t, 0, 0, CONTACT, 0, 0);
+    add(&mut t, 0, 3, CONTACT, 0, 0);
+    add(&mut t, 1, 3, CONTACT, 0, 0);
     assert_eq!(made(&t, 9, &[3]), (Ending::Spent, 3, vec![1, 3]));
     assert_eq!(made(&t, 9, &[2]), (Ending::Open, 1, vec![1]));
     assert_eq!(made(&t, 9, &[]), (Ending::Spent, 1, vec![1]));
@@ -80,8 +80,8 @@ fn only_contacts_use_up_results() {
         assert_eq!(made(&t, 99, &[2, 2]), (Ending::Spent, 1, vec![1, 2, 3, 4, 1]));
         assert_eq!(made(&t, 99, &[2, 1, 2]), (Ending::Open, 4, vec![1, 2, 3, 4]));
         // exits of a message or a wait that are not the answered one are never taken
-        let mut t = fresh(4).0;
-        add(&mut t, 0, 0, kind, 1);
+        let mut t = fresh_for_cabin_0(4);
+        add(&mut t, 0, 0, kind, 1, 0);
         for exit in 1..4 {
             link(&mut t, 0, 0, 1, exit);
         }
@@ -98,8 +98,8 @@ fn spent_comes_before_open_and_stopped() {
     assert_eq!(made(&t, 1, &[]), (Ending::Spent, 1, vec![1]));
     assert_eq!(made(&t, 3, &[2, 2]), (Ending::Spent, 1, vec![1, 2, 1]));
     assert_eq!(made(&t, 2, &[2, 2]), (Ending::Stopped, 2, vec![1, 2]));
-    let mut t = fresh(4).0;
-    add(&mut t, 0, 0, CONTACT, 0);
+    let mut t = fresh_for_cabin_0(4);
+    add(&mut t, 0, 0, CONTACT, 0, 0);
     for limit in [1, 2] {
         assert_eq!(made(&t, limit, &[]), (Ending::Spent, 1, vec![1]));
         assert_eq!(made(&t, limit, &[0]), (Ending::Open, 1, vec![1]));
@@ -109,9 +109,9 @@ fn spent_comes_before_open_and_stopped() {
 #[test]
 fn open_comes_before_stopped() {
     for kind in [MESSAGE, WAIT] {
-        let mut t = fresh(4).0;
-        add(&mut t, 0, 0, kind, 1);
-        add(&mut t, 1, 0, kind, 1);
+        let mut t = fresh_for_cabin_0(4);
+        add(&mut t, 0, 0, kind, 1, 0);
+        add(&mut t, 1, 0, kind, 1, 0);
         for limit in [2, 3, 65535] {
             assert_eq!(made(&t, limit, &[3]), (Ending::Open, 2, vec![1, 2]));
         }

@@ -2,11 +2,12 @@
 --   test-sound sound-test     the test and the statement of soundness are one
 --   demand-1                  every call, refused or not
 --   demand-3 history-*        every history
+--   guarantee-kept charges-counted   every history: what a cabin below its guarantee may add, and what the cabins are charged (W5)
 --   demand-2-*                every accepted call
---   written-equal loaded-equal   one table, one image (W1)
+--   written-equal loaded-equal   one table, one image (W1); demand-2-old-*, an image of edition 1 (W5)
 --   squeeze-*                 an accepted squeeze, and what its table does (W2)
 --   trial-demand trial-only trial-longer   an accepted trial, and one with a larger limit (W3)
---   examples-shown ..         P1 to P10, each refusal of each call, key lines byte by byte, a table for each clause of soundness
+--   examples-shown ..         P1 to P9, P10's bytes loaded, each refusal of each call, key lines byte by byte, a table for each clause of soundness
 --   keys-demand keys-blocks   the program `keys`
 --   words-table table-words   the table in memory
 --   plan-*                    each exported function meets its contract, which is the equation with its definition (crates/telephone/src/lib.rt)
@@ -16,22 +17,26 @@ use mathlib.Core.List.{List, _∷_, _++_, flatten, List·Memᴰ}
 use Prim.Native.Nat.{ℕ, _≤_, _<_}
 use lib.ListN.{length}
 use Rattle.table.specs.Table.{Table, places, counters, inUse, counterOf, linksTo, stepsInUse, StrongChain}
+use Rattle.table.specs.declared.Answer.the-variants.{Given}
+use Rattle.table.specs.Cabins.{soleQuotas}
 use Rattle.table.specs.Sound.{Sound, sound, Shape}
 use Rattle.table.specs.Calls.{addRefusal, addCall, linkRefusal, linkCall}
 use Rattle.table.specs.Clear.{clearRefusal, clearCall}
 use Rattle.table.specs.Squeeze.{newNumber, squeezeRefusal, squeezeCall, ClearsAlike}
 use Rattle.table.specs.Plan.{planOf}
 use Rattle.table.proofs.Sound as Soundness
-use Rattle.image.specs.Image.{imageLength, writeCall, accepted, loadCall, Bytes}
+use Rattle.image.specs.Image.{edition1, edition2, image, editionIn, imageLength, writeCall, accepted, loadCall, Bytes}
+use Rattle.image.proofs.Laws as Images
 use Rattle.keyline.specs.Keys.{spokenCounts}
 use Rattle.history.specs.History.{First, Call, tableAfter, heardBy, planAfter, drawnBy, firstRefusal, planFirstRefusal, firstTable, firstPlan}
 use Rattle.history.specs.Acts.{Act}
-use Rattle.history.specs.Demands.{Demand1, Demand3, AddDemand, LinkDemand, ClearDemand, CountDemand, SqueezeDemand, TwiceDemand, WriteDemand, EqualDemand, LoadDemand, SameTableDemand}
+use Rattle.history.specs.Demands.{Demand1, Demand3, GuaranteeDemand, ChargesDemand, AddDemand, LinkDemand, ClearDemand, CountDemand, SqueezeDemand, TwiceDemand, WriteDemand, EqualDemand, LoadDemand, OldDemand, SameTableDemand}
 use Rattle.table.specs.Trial.{TrialOutcome, trialRefusal, trialCall, TrialDemand, SameTrial, LongerDemand, underNumbers}
 use Rattle.history.proofs.Demand1 as Refusals
 use Rattle.history.proofs.Demand2
 use Rattle.table.proofs.Trials
 use Rattle.history.proofs.Demand3 as Histories
+use Rattle.history.proofs.Accounts
 use Rattle.examples.specs.Examples.{Run, Entry, Shown, tableLeft, examples, refusals, tableF4, firstStrong, secondStrong, Twins, keyLines, Decodes, unsound, failAsSaid}
 use Rattle.examples.proofs.Examples as Cases
 use Rattle.words.specs.Words.{words, tableOf, wordsOf}
@@ -40,6 +45,8 @@ use Rattle.session.specs.Session.{blocksOutput, firstState, keysOutput}
 use Rattle.session.proofs.Output as Blocks
 use Rattle.claims.specs.Keys.{KeysDemand}
 use Rattle.claims.proofs.Keys
+use Rattle.telephone.proofs.plan_sole_quotas.Statement as sole-quotas-contract
+use Rattle.telephone.proofs.plan_sole_quotas.Met as sole-quotas-met
 use Rattle.telephone.proofs.plan_fresh.Statement as fresh-contract
 use Rattle.telephone.proofs.plan_fresh.Met as fresh-met
 use Rattle.telephone.proofs.plan_add.Statement as add-contract
@@ -110,9 +117,17 @@ module _ (f : First) (cs : List Call) where
   pub history-counts : (i b : ℕ) → i < places → b < counters → counterOf left i b ≡ linksTo left i b
   history-counts = Histories.history-counts f cs
 
+-- W5: "a cabin below its guarantee is never told "full", whatever the others add or keep"
+pub guarantee-kept : (f : First) (cs : List Call) → GuaranteeDemand f cs
+guarantee-kept = Accounts.guarantee-demand
+
+-- W5: "Steps in use less 1 equal the cabins' charges, counted from the first table and the adds and frees since."
+pub charges-counted : (f : First) (cs : List Call) → ChargesDemand f cs
+charges-counted = Accounts.charges-demand
+
 -- Demand 2: an accepted add, link and clear on a sound table, and the spoken counts.
-pub demand-2-add : (t : Table) → Sound t → (holder e kind content : ℕ) → addRefusal t holder e kind content ≡ 0 →
-    AddDemand t holder e kind content (addCall t holder e kind content)
+pub demand-2-add : (t : Table) → Sound t → (holder e kind content cabin : ℕ) → addRefusal t holder e kind content cabin ≡ 0 →
+    AddDemand t holder e kind content cabin (addCall t holder e kind content cabin)
 demand-2-add = Demand2.add-demand
 
 pub demand-2-link : (t : Table) → Sound t → (source e second f : ℕ) → linkRefusal t source e second f ≡ 0 →
@@ -129,35 +144,45 @@ demand-2-counts = Demand2.count-demand
 pub demand-2-written : (t : Table) → Sound t → (buffer : List ℕ) → imageLength t ≤ length buffer → WriteDemand t buffer (writeCall t buffer)
 demand-2-written = Demand2.write-demand
 
--- "and an accepted image is written with the same records.", in ascending step number (W1), and no other image has them so
-pub demand-2-loaded : (bs : List ℕ) → Bytes bs → accepted bs ≡ true → (buffer : List ℕ) → length bs ≤ length buffer →
+-- "and an accepted image is written with the same records.", in ascending step number (W1), and no other image has them so; of edition 2, which is written
+pub demand-2-loaded : (bs : List ℕ) → Bytes bs → accepted bs ≡ true → editionIn bs ≡ edition2 → (buffer : List ℕ) → length bs ≤ length buffer →
     LoadDemand bs (writeCall (loadCall bs .table) buffer)
 demand-2-loaded = Demand2.load-demand
+
+-- W5: an accepted image of edition 1 loads with all steps charged to cabin 0 and its list
+pub demand-2-old : (bs : List ℕ) → Bytes bs → accepted bs ≡ true → editionIn bs ≡ edition1 → OldDemand bs (loadCall bs)
+demand-2-old = Demand2.old-demand
+
+-- W5: and each sound table with that list has such an image
+pub demand-2-old-image : (t : Table) → Sound t → t .quotas ≡ soleQuotas (t .capacity) → loadCall (image edition1 t) ≡ record { answer = Given 0 0; table = t }
+demand-2-old-image = Images.load-sole
 
 -- W1: "Two sound tables are equal exactly when their written images are", in buffers that have the room
 pub written-equal : (t u : Table) → Sound t → Sound u → (a b : List ℕ) → imageLength t ≤ length a → imageLength u ≤ length b →
     EqualDemand t u (writeCall t a) (writeCall u b)
 written-equal = Demand2.equal-demand
 
--- and two accepted images load as one table exactly if they have the same records, in whatever order
-pub loaded-equal : (bs cs : List ℕ) → Bytes bs → Bytes cs → accepted bs ≡ true → accepted cs ≡ true → SameTableDemand bs cs (loadCall bs) (loadCall cs)
+-- and two accepted images of one edition load as one table exactly if they have the same records, in whatever order
+pub loaded-equal : (bs cs : List ℕ) → Bytes bs → Bytes cs → accepted bs ≡ true → accepted cs ≡ true → editionIn bs ≡ editionIn cs →
+    SameTableDemand bs cs (loadCall bs) (loadCall cs)
 loaded-equal = Demand2.same-table-demand
 
 -- W2: an accepted squeeze of a sound table, and a second one
-pub squeeze-demand : (t : Table) → Sound t → (c : ℕ) → squeezeRefusal t c ≡ 0 → SqueezeDemand t c (squeezeCall t c)
+pub squeeze-demand : (t : Table) → Sound t → (c : ℕ) (q : List ℕ) → squeezeRefusal t c q ≡ 0 → SqueezeDemand t c q (squeezeCall t c q)
 squeeze-demand = Demand2.squeeze-demand
 
-pub squeeze-twice : (t : Table) → Sound t → (c : ℕ) → squeezeRefusal t c ≡ 0 → (d : ℕ) → TwiceDemand t d (squeezeCall (squeezeCall t c .table) d)
+pub squeeze-twice : (t : Table) → Sound t → (c : ℕ) (q : List ℕ) → squeezeRefusal t c q ≡ 0 → (d : ℕ) (l : List ℕ) →
+    TwiceDemand t d l (squeezeCall (squeezeCall t c q .table) d l)
 squeeze-twice = Demand2.twice-demand
 
 -- "Trials of the old and the squeezed table end alike, under the renumbering": whatever the limit, the results and the trace, refused ones too
-pub squeeze-trials : (t : Table) → Sound t → (c : ℕ) → squeezeRefusal t c ≡ 0 → (limit : ℕ) (results trace : List ℕ) →
-    trialCall (squeezeCall t c .table) limit results trace ≡ underNumbers (newNumber t) (trialCall t limit results trace)
+pub squeeze-trials : (t : Table) → Sound t → (c : ℕ) (q : List ℕ) → squeezeRefusal t c q ≡ 0 → (limit : ℕ) (results trace : List ℕ) →
+    trialCall (squeezeCall t c q .table) limit results trace ≡ underNumbers (newNumber t) (trialCall t limit results trace)
 squeeze-trials = Demand2.squeezed-trial
 
 -- and so do clearings: the same two counts, and the same steps stay
-pub squeeze-clears : (t : Table) → Sound t → (c : ℕ) → squeezeRefusal t c ≡ 0 → (i e : ℕ) → inUse t i ≡ true →
-    ClearsAlike t (clearCall t i e) (clearCall (squeezeCall t c .table) (newNumber t i) e)
+pub squeeze-clears : (t : Table) → Sound t → (c : ℕ) (q : List ℕ) → squeezeRefusal t c q ≡ 0 → (i e : ℕ) → inUse t i ≡ true →
+    ClearsAlike t (clearCall t i e) (clearCall (squeezeCall t c q .table) (newNumber t i) e)
 squeeze-clears = Demand2.squeezed-clear
 
 -- W3: a trial that is not refused: its moves, how it ends, and what it writes.
@@ -206,6 +231,9 @@ table-words = Memory.table-words
 
 -- Each exported function is its definition.
 module _ {M : Type 1} where
+  pub plan-sole-quotas : sole-quotas-contract.statement M
+  plan-sole-quotas = sole-quotas-met.met
+
   pub plan-fresh : fresh-contract.statement M
   plan-fresh = fresh-met.met
 

@@ -12,7 +12,9 @@ use Rattle.table.specs.declared.Answer.{Answer}
 use Rattle.table.specs.declared.Answer.the-variants.{Given, Refused}
 use Rattle.table.specs.Table.{Table, places}
 use Rattle.table.specs.Answer.{Outcome, first, unless, refusalOf, firstOf, secondOf}
-use Rattle.table.specs.Calls.{freshTable, freshCall, addCall, linkCall}
+use Rattle.finite.specs.Below.{all, total}
+use Rattle.table.specs.Cabins.{guaranteeOf, limitOf, quotasFit, listFits, soleQuotas}
+use Rattle.table.specs.Calls.{freshCall, addCall, linkCall}
 use Rattle.table.specs.Sound.{capacityFits}
 use Rattle.table.specs.Clear.{clearCall}
 use Rattle.table.specs.Plan.{freshPlan}
@@ -23,7 +25,7 @@ use Rattle.keyline.specs.declared.Decoded.the-variants.{Line, Nothing}
 use Rattle.keyline.specs.Keys.{decode, callDigit, spokenCounts, perform, performLine, keyCall}
 use Rattle.history.specs.History.{Heard, fresh, keyLine, heardAs, callOf, run, ran, heardBy, drawnBy, firstTable, firstPlan}
 use Rattle.history.proofs.Demand3.{demand-3}
-use Rattle.session.specs.Session.{linesOf, threeNumbers, printed, answers, keysOutput}
+use Rattle.session.specs.Session.{keysTable, linesOf, threeNumbers, printed, answers, keysOutput}
 use Rattle.claims.specs.Keys.{drawnLine, drawnLines, KeysDemand}
 
 -- what an answer of the call has beside what is heard of it: the first number of a clearing, and nothing else
@@ -94,17 +96,23 @@ unfolding answers drawnLines firsts heardBy run ran
 answers-drawn t [] = refl
 answers-drawn t (l ∷ ls) = ap₂ _++_ (line-drawn t l) (answers-drawn (keyCall t l .table) ls)
 
+-- the list of quotas that `keys` begins with is a good one
+lists : Bool
+unfolding listFits quotasFit guaranteeOf limitOf soleQuotas all total
+lists = true
+
 pub keys-demand : (bs : List ℕ) → KeysDemand bs
 unfolding keysOutput
 keys-demand bs =
-    let d = demand-3 (fresh places) (map keyLine (linesOf bs)) in
-    let t : firstTable (fresh places) ≡ freshTable places = (unfold firstTable freshCall unless first capacityFits in refl) in
-    let p : firstPlan (fresh places) ≡ freshPlan places = (unfold firstPlan capacityFits in refl) in
+    let list = soleQuotas places in
+    let d = demand-3 (fresh places list) (map keyLine (linesOf bs)) in
+    let t : firstTable (fresh places list) ≡ keysTable = (unfold firstTable freshCall unless first capacityFits keysTable lists in refl) in
+    let p : firstPlan (fresh places list) ≡ freshPlan places list = (unfold firstPlan capacityFits lists in refl) in
     record {
-      doubts = firsts (freshTable places) (linesOf bs);
-      lines = firsts-size (freshTable places) (linesOf bs);
+      doubts = firsts keysTable (linesOf bs);
+      lines = firsts-size keysTable (linesOf bs);
       printed =
-          answers-drawn (freshTable places) (linesOf bs) ∙
-          ap (λ (hs : List Heard). drawnLines (linesOf bs) hs (firsts (freshTable places) (linesOf bs)))
+          answers-drawn keysTable (linesOf bs) ∙
+          ap (λ (hs : List Heard). drawnLines (linesOf bs) hs (firsts keysTable (linesOf bs)))
           (ap (λ (u : Table). heardBy u (map keyLine (linesOf bs))) (sym t) ∙ d .heard ∙ ap (λ q. drawnBy q (map keyLine (linesOf bs))) p);
     }

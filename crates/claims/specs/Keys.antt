@@ -9,6 +9,7 @@ use Prim.Native.Nat.{ℕ, _+_}
 use lib.ListN.{length}
 use lib.Dec.{eqb}
 use Rattle.table.specs.Table.{places}
+use Rattle.table.specs.Cabins.{soleQuotas}
 use Rattle.table.specs.Plan.{freshPlan}
 use Rattle.keyline.specs.Keys.{decode}
 use Rattle.history.specs.History.{Heard, keyLine, callOf, drawnBy}
@@ -32,4 +33,4 @@ drawnLines (l ∷ ls) (h ∷ hs) [] = []
 pub record KeysDemand (bs : List ℕ) : Type 0 where
   pub doubts : List ℕ
   pub lines : length doubts ≡ length (linesOf bs)
-  pub printed : keysOutput bs ≡ drawnLines (linesOf bs) (drawnBy (freshPlan places) (map keyLine (linesOf bs))) doubts
+  pub printed : keysOutput bs ≡ drawnLines (linesOf bs) (drawnBy (freshPlan places (soleQuotas places)) (map keyLine (linesOf bs))) doubts

@@ -1,45 +1,64 @@
-// The calls fresh, read, add and link on a lent table (document 01, "Calls"), and what the other calls ask of a step and its exit.
+// The calls fresh, read, add and link on a lent table (document 01, "Calls"; document 02, W5), and what the other calls ask of a step and its exit.
 ghost use mathlib.Core.Path.{_≡_};
 ghost use mathlib.Core.Bool.{not};
 ghost use Prim.Native.Nat.{_≤_, _<_};
 ghost use Rattle.table.specs.Table.{places, inUse, stepsInUse};
-ghost use Rattle.table.specs.Calls.{freshTable, freshCall, after, numberGiven, addRefusal, addCall, linkRefusal, linkCall, fieldsOf, noFields, readRefusal, readCall};
+ghost use Rattle.table.specs.Sound.{Sound};
+ghost use Rattle.table.specs.Calls.{freshTable, refusedTable, freshCall, after, numberGiven, addRefusal, addCall, linkRefusal, linkCall, fieldsOf, noFields, readRefusal, readCall};
 ghost use Rattle.words.specs.Words.{tableOf, wordsOf};
-ghost use Rattle.edits.specs.Parts.{exitRefusal};
+ghost use Rattle.edits.specs.Parts.{exitRefusal, stepRefusal};
 use table::Answer;
 use table::Fields;
 use table::Reading;
+use words::BAD_CABINS;
 use words::BAD_CAPACITY;
 use words::BAD_EXIT;
 use words::BAD_KIND;
+use words::CABINS;
 use words::COUNTERS;
 use words::EXIT_EMPTY;
 use words::EXIT_FILLED;
 use words::EXITS;
 use words::FULL;
 use words::NOT_IN_USE;
+use words::NOT_SOUND;
 use words::PLACES;
+use words::QUOTAS;
 use words::WORDS;
 use words::wide;
 
-// A table of that capacity with step 0 alone in use, all bits 0 and last number 0.
-pub fn fresh_table(t: &mut [u16; WORDS], capacity: u16)
-    ensures { λ r. ⌜ now (t .exit) ≡ wordsOf (freshTable capacity) ⌝ }
+// A table of that capacity with step 0 alone in use, all bits 0, last number 0 and these quotas.
+pub fn fresh_table(t: &mut [u16; WORDS], capacity: u16, quotas: &[u16; QUOTAS])
+    ensures { λ r. ⌜ now (t .exit) ≡ wordsOf (freshTable capacity (now (quotas .entry))) ⌝ }
 {
     words::erase(t, capacity, 0);
-    words::put_step(t, 0, 1, 0, 0, 0);
+    words::put_quotas(t, quotas);
+    words::put_step(t, 0, 1, 0, 0, 0, 0);
 }
 
-// Fresh: a table of the capacity asked for, or refusal 2 and one of capacity 1.
-pub fn fresh(t: &mut [u16; WORDS], capacity: u16) -> Answer
-    ensures answer { λ r. ⌜ r ≡ freshCall capacity .answer ⌝ }
-    ensures table { λ r. ⌜ now (t .exit) ≡ wordsOf (freshCall capacity .table) ⌝ }
+// What a refused fresh or load leaves: a fresh table of capacity 1.
+pub fn refused_table(t: &mut [u16; WORDS])
+    ensures { λ r. ⌜ now (t .exit) ≡ wordsOf refusedTable ⌝ }
 {
+    let quotas = cabins::sole_quotas(1);
+    fresh_table(t, 1, &quotas);
+}
+
+// Fresh: a table of the capacity and with the quotas asked for, or refusal 2 or 16 and a table of capacity 1.
+pub fn fresh(t: &mut [u16; WORDS], capacity: u16, quotas: &[u16; QUOTAS]) -> Answer
+    ensures answer { λ r. ⌜ r ≡ freshCall capacity (now (quotas .entry)) .answer ⌝ }
+    ensures table { λ r. ⌜ now (t .exit) ≡ wordsOf (freshCall capacity (now (quotas .entry)) .table) ⌝ }
+{
+    words::listed(quotas);
     if !soundness::capacity_fits(capacity) {
-        fresh_table(t, 1);
+        refused_table(t);
         return Answer::Refused(BAD_CAPACITY);
     }
-    fresh_table(t, capacity);
+    if !cabins::quotas_fit(capacity, quotas) {
+        refused_table(t);
+        return Answer::Refused(BAD_CABINS);
+    }
+    fresh_table(t, capacity, quotas);
     Answer::Given(0, 0)
 }
 
@@ -89,6 +108,7 @@ pub fn fields_of(t: &[u16; WORDS], i: usize) -> Fields
         words::bit_at(t, i, 3),
     ];
     let counts = [words::counter_at(t, i, 0), words::counter_at(t, i, 1)];
+    let cabin = words::cabin_at(t, i);
     Fields {
         kind,
         content,
@@ -96,6 +116,7 @@ pub fn fields_of(t: &[u16; WORDS], i: usize) -> Fields
         targets,
         bits,
         counts,
+        cabin,
     }
 }
 
@@ -110,6 +131,7 @@ pub fn no_fields() -> Fields
         targets: [0u16; EXITS],
         bits: [0u16; EXITS],
         counts: [0u16; COUNTERS],
+        cabin: 0,
     }
 }
 
@@ -189,14 +211,11 @@ fn number_given(t: &[u16; WORDS]) -> u16
     n
 }
 
-// The refusal of add, in its order, or 0.
-fn add_refusal(t: &[u16; WORDS], holder: u16, exit: u16, kind: u16, content: u16) -> u16
-    ensures { λ r. ⌜ r ≡ addRefusal (tableOf (now (t .entry))) holder exit kind content ⌝ }
+// What add asks of the holder, its exit, the kind and the room on a sound table, in its order: the refusal, or 0.
+fn step_refusal(t: &[u16; WORDS], holder: u16, exit: u16, kind: u16, content: u16) -> u16
+    requires { ⌜ Sound (tableOf (now t)) ⌝ }
+    ensures { λ r. ⌜ r ≡ stepRefusal (tableOf (now (t .entry))) holder exit kind content ⌝ }
 {
-    let refusal = soundness::table_refusal(t);
-    if refusal != 0 {
-        return refusal;
-    }
     let refusal = exit_refusal(t, holder, exit);
     if refusal != 0 {
         return refusal;
@@ -213,18 +232,46 @@ fn add_refusal(t: &[u16; WORDS], holder: u16, exit: u16, kind: u16, content: u16
     0
 }
 
-// Add: a new step with bit 0 and empty exits, and a link to it with bit 0 in the holder's exit. The answer is its number.
-pub fn add(t: &mut [u16; WORDS], holder: u16, exit: u16, kind: u16, content: u16) -> Answer
-    ensures answer { λ r. ⌜ r ≡ addCall (tableOf (now (t .entry))) holder exit kind content .answer ⌝ }
-    ensures table { λ r. ⌜ now (t .exit) ≡ wordsOf (addCall (tableOf (now (t .entry))) holder exit kind content .table) ⌝ }
+// The refusal of add, in its order, or 0. The charges are those that the soundness test counted.
+fn add_refusal(t: &[u16; WORDS], holder: u16, exit: u16, kind: u16, content: u16, cabin: u16) -> u16
+    ensures { λ r. ⌜ r ≡ addRefusal (tableOf (now (t .entry))) holder exit kind content cabin ⌝ }
+{
+    let found = soundness::check(t);
+    if !found.sound {
+        return NOT_SOUND;
+    }
+    let c = wide(cabin);
+    if CABINS <= c {
+        return BAD_CABINS;
+    }
+    let refusal = step_refusal(t, holder, exit, kind, content);
+    if refusal != 0 {
+        return refusal;
+    }
+    let quotas = cabins::quotas_of(t);
+    let charges = found.charges;
+    cabins::share_refusal(words::capacity(t), &quotas, &charges, c)
+}
+
+// Add: a new step of the cabin, with bit 0 and empty exits, and a link to it with bit 0 in the holder's exit. The answer is its number.
+pub fn add(
+    t: &mut [u16; WORDS],
+    holder: u16,
+    exit: u16,
+    kind: u16,
+    content: u16,
+    cabin: u16,
+) -> Answer
+    ensures answer { λ r. ⌜ r ≡ addCall (tableOf (now (t .entry))) holder exit kind content cabin .answer ⌝ }
+    ensures table { λ r. ⌜ now (t .exit) ≡ wordsOf (addCall (tableOf (now (t .entry))) holder exit kind content cabin .table) ⌝ }
 {
     words::sized(t);
-    let refusal = add_refusal(t, holder, exit, kind, content);
+    let refusal = add_refusal(t, holder, exit, kind, content, cabin);
     if refusal != 0 {
         return Answer::Refused(refusal);
     }
     let n = number_given(t);
-    words::take_step(t, n, kind, content);
+    words::take_step(t, n, kind, content, cabin);
     words::relink(t, wide(holder), wide(exit), n, 0);
     Answer::Given(n, 0)
 }

@@ -14,7 +14,7 @@ use borrow.Author.Tests.{eqb-true}
 use Rattle.finite.proofs.Bools.{and-left, and-right, clash, passes-at}
 use Rattle.finite.specs.Below.{lowest, passes}
 use Rattle.table.specs.Table.{Table}
-use Rattle.table.specs.Calls.{freshTable}
+use Rattle.table.specs.Calls.{refusedTable}
 use Rattle.table.specs.Clear.{Repair, wanted, repair}
 use Rattle.history.specs.History.{First, fresh, load, Call, add, link, clear, read, trial, write, keyLine, squeeze, onlyRefusal, heardAs, ran, run, tableAfter, firstTable}
 use Rattle.history.specs.Acts.{Act, begin, call, Done, told, callDone, doneBy, refusedBy}
@@ -43,6 +43,8 @@ table-same t u p =
       targets = same-true (t .targets) (u .targets) (at 6) i;
       bits = same-true (t .bits) (u .bits) (at 7) i;
       counts = same-true (t .counts) (u .counts) (at 8) i;
+      cabins = same-true (t .cabins) (u .cabins) (at 9) i;
+      quotas = same-true (t .quotas) (u .quotas) (at 10) i;
     }
 
 done-same : (d r : Done) → passes (doneTests d r) ≡ true → d ≡ r
@@ -78,7 +80,7 @@ entry-shown t (refuses a n) p = done-same (doneBy t a) (refusedBy n t a) p
 walk-head : (t : Table) (x : Entry) (xs : List Entry) → walk t (x ∷ xs) ≡ true → passed t (doneBy t (actOf x)) x ≡ true
 unfolding walk
 walk-head t (accepts a fs) xs p = and-left (passed t (doneBy t a) (accepts a fs)) (walk (doneBy t a .table) xs) p
-walk-head t (refuses (begin f) n) xs p = and-left (passed t (doneBy t (begin f)) (refuses (begin f) n)) (walk (freshTable 1) xs) p
+walk-head t (refuses (begin f) n) xs p = and-left (passed t (doneBy t (begin f)) (refuses (begin f) n)) (walk refusedTable xs) p
 walk-head t (refuses (call c) n) xs p = and-left (passed t (doneBy t (call c)) (refuses (call c) n)) (walk t xs) p
 
 -- and the walk goes on with the table that it leaves
@@ -88,7 +90,7 @@ walk-tail t (accepts a fs) xs p = and-right (passed t (doneBy t a) (accepts a fs
 walk-tail t (refuses (begin f) n) xs p =
     let e = entry-shown t (refuses (begin f) n) (walk-head t (refuses (begin f) n) xs p) in
     subst (λ (d : Done). walk (d .table) xs ≡ true) (sym e)
-    (and-right (passed t (doneBy t (begin f)) (refuses (begin f) n)) (walk (freshTable 1) xs) p)
+    (and-right (passed t (doneBy t (begin f)) (refuses (begin f) n)) (walk refusedTable xs) p)
 walk-tail t (refuses (call c) n) xs p =
     let e = entry-shown t (refuses (call c) n) (walk-head t (refuses (call c) n) xs p) in
     subst (λ (d : Done). walk (d .table) xs ≡ true) (sym e)
@@ -124,29 +126,29 @@ taken-repair (suc f) r = round (ltb k (r .table .capacity)) (taken-repair f (tak
 
 pub done-run : (t : Table) (c : Call) → doneBy t (call c) .table ≡ run t c .table
 unfolding doneBy callDone told run ran
-done-run t (add holder e kind content) = refl
+done-run t (add holder e kind content cabin) = refl
 done-run t (link source e second f) = refl
 done-run t (clear i e) = refl
 done-run t (read i) = refl
 done-run t (trial limit results trace) = refl
 done-run t (write buffer) = refl
 done-run t (keyLine bs) = refl
-done-run t (squeeze c) = refl
+done-run t (squeeze c q) = refl
 
 pub done-refusal : (t : Table) (c : Call) → doneBy t (call c) .refusal ≡ run t c .heard .refusal
 unfolding doneBy callDone told run ran heardAs onlyRefusal
-done-refusal t (add holder e kind content) = refl
+done-refusal t (add holder e kind content cabin) = refl
 done-refusal t (link source e second f) = refl
 done-refusal t (clear i e) = refl
 done-refusal t (read i) = refl
 done-refusal t (trial limit results trace) = refl
 done-refusal t (write buffer) = refl
 done-refusal t (keyLine bs) = refl
-done-refusal t (squeeze c) = refl
+done-refusal t (squeeze c q) = refl
 
 pub done-first : (t : Table) (f : First) → doneBy t (begin f) .table ≡ firstTable f
 unfolding doneBy told firstTable
-done-first t (fresh c) = refl
+done-first t (fresh c q) = refl
 done-first t (load bs) = refl
 
 -- entries that only make calls leave the table that a history of those calls leaves

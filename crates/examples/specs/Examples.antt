@@ -1,6 +1,6 @@
--- The examples in one table: P1 to P10 of document 01 ("Edits on F4"), what they do not show, W1's to W3's, then each call refused for each of its reasons
--- ("Reasons for no") and the calls that P1 to P10 do not make. The entries of a run are made one after the other, each on the table that the one before left.
--- Assumes nothing.
+-- The examples in one table: P1 to P10 of document 01 ("Edits on F4"; of P10 that its bytes load), what they do not show, W1's to W3's and W5's, then
+-- each call refused for each of its reasons ("Reasons for no") and the calls that P1 to P10 do not make. The entries of a run are made one after the
+-- other, each on the table that the one before left. Assumes nothing.
 --   taken              the steps that a repair takes back, in their order
 --   Look, seen         what can be looked at after an act, and the numbers that it shows
 --   Fact               l is ns: the look l shows the numbers ns
@@ -18,13 +18,14 @@ use mathlib.Core.List.{List, [], _∷_, _++_, List·Memᴰ}
 use Prim.Native.Nat.{ℕ, zero, suc, _+_, _/_, _%_, _^_}
 use lib.ListN.{set, take, replicate}
 use lib.Dec.{eqb, ltb}
-use Rattle.finite.specs.Below.{lowest, passes}
-use Rattle.table.specs.Table.{Table, inUse, kindOf, contentOf, ownBit, targetOf, counterOf, holds, strong, withNumbers, withLinks, withSteps}
+use Rattle.finite.specs.Below.{lowest, tabulate, passes}
+use Rattle.table.specs.Table.{Table, cabinCount, inUse, kindOf, contentOf, ownBit, cabinOf, targetOf, counterOf, holds, strong, withNumbers, withLinks, withSteps}
+use Rattle.table.specs.Cabins.{soleQuotas, charge}
 use Rattle.table.specs.Sound.{soundTests}
-use Rattle.table.specs.Calls.{freshTable, addCall}
+use Rattle.table.specs.Calls.{refusedTable, addCall}
 use Rattle.table.specs.Clear.{Repair, stops, emptied, doubtful, wanted, restored}
 use Rattle.table.specs.Plan.{planOf}
-use Rattle.image.specs.Image.{image}
+use Rattle.image.specs.Image.{writtenEdition, image}
 use Rattle.keyline.specs.declared.Command.the-variants.{Add, Link, Clear, Count}
 use Rattle.keyline.specs.declared.Decoded.{Decoded}
 use Rattle.keyline.specs.declared.Decoded.the-variants.{Line, Nothing}
@@ -64,6 +65,9 @@ pub data Look : Type 0 where
   what own counts : ℕ → Look
   -- what an exit holds, and its target
   exit : ℕ → ℕ → Look
+  -- W5: the cabin that added a step; the guarantee and the limit of each cabin; what each is charged
+  cabin : ℕ → Look
+  quotas charges : Look
 
 abbrev pub nothing : ℕ
 nothing = 0
@@ -92,6 +96,9 @@ seen t d (what i) = kindOf (d .table) i ∷ contentOf (d .table) i ∷ []
 seen t d (own i) = ownBit (d .table) i ∷ []
 seen t d (counts i) = counterOf (d .table) i 0 ∷ counterOf (d .table) i 1 ∷ []
 seen t d (exit i e) = strength (d .table) i e ∷ targetOf (d .table) i e ∷ []
+seen t d (cabin i) = cabinOf (d .table) i ∷ []
+seen t d quotas = d .table .quotas
+seen t d charges = tabulate cabinCount (charge (d .table))
 
 infix 70 _is_
 pub data Fact : Type 0 where
@@ -142,6 +149,8 @@ sameTable t u =
     same (t .targets) (u .targets) ∷
     same (t .bits) (u .bits) ∷
     same (t .counts) (u .counts) ∷
+    same (t .cabins) (u .cabins) ∷
+    same (t .quotas) (u .quotas) ∷
     []
 
 unfoldable pub doneTests : Done → Done → List Bool
@@ -164,39 +173,61 @@ passed t d (refuses a n) = passes (doneTests d (refusedBy n t a))
 unfoldable pub walk : Table → List Entry → Bool
 walk t [] = true
 walk t (accepts a fs ∷ xs) = let d = doneBy t a in passed t d (accepts a fs) && walk (d .table) xs
-walk t (refuses (begin f) n ∷ xs) = passed t (doneBy t (begin f)) (refuses (begin f) n) && walk (freshTable 1) xs
+walk t (refuses (begin f) n ∷ xs) = passed t (doneBy t (begin f)) (refuses (begin f) n) && walk refusedTable xs
 walk t (refuses (call c) n ∷ xs) = passed t (doneBy t (call c)) (refuses (call c) n) && walk t xs
 
 unfoldable pub everyRun : List Run → Bool
 everyRun [] = true
 everyRun (r ∷ rs) = walk (r .table) (r .entries) && everyRun rs
 
--- "F4 is a fresh table of capacity 4."
-unfoldable pub tableF4 : Table
-tableF4 = firstTable (fresh 4)
+-- the key line H (72), star (42), the w digits of n (48 to 57), A (65)
+unfoldable pub digits : ℕ → ℕ → List ℕ
+digits zero n = []
+digits (suc w) n = (48 + n / 10 ^ w % 10) ∷ digits w n
 
--- the table that P5 leaves, as an image. Header: length 10, kind 1, capacity 4, last number 2, 3 steps; then the records of steps 0, 1, 2: length 20,
--- kind 2, number, kind, content, bits, four targets. The bits are 2 (exit 1 of step 0), 16 (step 1), 4 + 16 (exit 2 of step 2, and step 2).
+unfoldable pub line : ℕ → ℕ → List ℕ
+line w n = 72 ∷ 42 ∷ (digits w n ++ (65 ∷ []))
+
+-- "F4 is a fresh table of capacity 4." W5: "`keys`, F4 .. have those same guarantees": all of it is cabin 0's.
+unfoldable pub tableF4 : Table
+tableF4 = firstTable (fresh 4 (soleQuotas 4))
+
+-- the table that P5 leaves, as an image of edition 2. Header: length 42, kind 3, capacity 4, last number 2, 3 steps, then the guarantee and the limit of
+-- each cabin, 3 and 3 for cabin 0; then the records of steps 0, 1, 2: length 22, kind 4, number, kind, content, bits, four targets, cabin. The bits are 2
+-- (exit 1 of step 0), 16 (step 1), 4 + 16 (exit 2 of step 2, and step 2).
 unfoldable pub headerP5 : List ℕ
-headerP5 = 0x0A ∷ 0 ∷ 1 ∷ 0 ∷ 4 ∷ 0 ∷ 2 ∷ 0 ∷ 3 ∷ 0 ∷ []
+headerP5 = 0x2A ∷ 0 ∷ 3 ∷ 0 ∷ 4 ∷ 0 ∷ 2 ∷ 0 ∷ 3 ∷ 0 ∷ 3 ∷ 0 ∷ 3 ∷ 0 ∷ replicate 28 0
 
 unfoldable pub step0P5 : List ℕ
-step0P5 = 0x14 ∷ 0 ∷ 2 ∷ 0 ∷ 0 ∷ 0 ∷ 0 ∷ 0 ∷ 0 ∷ 0 ∷ 2 ∷ 0 ∷ 0 ∷ 0 ∷ 2 ∷ 0 ∷ 0 ∷ 0 ∷ 0 ∷ 0 ∷ []
+step0P5 = 0x16 ∷ 0 ∷ 4 ∷ 0 ∷ 0 ∷ 0 ∷ 0 ∷ 0 ∷ 0 ∷ 0 ∷ 2 ∷ 0 ∷ 0 ∷ 0 ∷ 2 ∷ 0 ∷ 0 ∷ 0 ∷ 0 ∷ 0 ∷ 0 ∷ 0 ∷ []
 
 unfoldable pub step1P5 : List ℕ
-step1P5 = 0x14 ∷ 0 ∷ 2 ∷ 0 ∷ 1 ∷ 0 ∷ 1 ∷ 0 ∷ 0 ∷ 0 ∷ 0x10 ∷ 0 ∷ 0 ∷ 0 ∷ 0 ∷ 0 ∷ 2 ∷ 0 ∷ 0 ∷ 0 ∷ []
+step1P5 = 0x16 ∷ 0 ∷ 4 ∷ 0 ∷ 1 ∷ 0 ∷ 1 ∷ 0 ∷ 0 ∷ 0 ∷ 0x10 ∷ 0 ∷ 0 ∷ 0 ∷ 0 ∷ 0 ∷ 2 ∷ 0 ∷ 0 ∷ 0 ∷ 0 ∷ 0 ∷ []
 
 unfoldable pub step2P5 : List ℕ
-step2P5 = 0x14 ∷ 0 ∷ 2 ∷ 0 ∷ 2 ∷ 0 ∷ 1 ∷ 0 ∷ 1 ∷ 0 ∷ 0x14 ∷ 0 ∷ 0 ∷ 0 ∷ 0 ∷ 0 ∷ 1 ∷ 0 ∷ 0 ∷ 0 ∷ []
+step2P5 = 0x16 ∷ 0 ∷ 4 ∷ 0 ∷ 2 ∷ 0 ∷ 1 ∷ 0 ∷ 1 ∷ 0 ∷ 0x14 ∷ 0 ∷ 0 ∷ 0 ∷ 0 ∷ 0 ∷ 1 ∷ 0 ∷ 0 ∷ 0 ∷ 0 ∷ 0 ∷ []
 
 unfoldable pub imageP5 : List ℕ
 imageP5 = headerP5 ++ step0P5 ++ step1P5 ++ step2P5
+
+-- the same in edition 1. Header: length 10, kind 1, capacity 4, last number 2, 3 steps; records of length 20, kind 2, the bits 2, 16 and 4 + 16.
+unfoldable pub oldHeaderP5 : List ℕ
+oldHeaderP5 = 0x0A ∷ 0 ∷ 1 ∷ 0 ∷ 4 ∷ 0 ∷ 2 ∷ 0 ∷ 3 ∷ 0 ∷ []
+
+unfoldable pub oldStep0P5 : List ℕ
+oldStep0P5 = 0x14 ∷ 0 ∷ 2 ∷ 0 ∷ 0 ∷ 0 ∷ 0 ∷ 0 ∷ 0 ∷ 0 ∷ 2 ∷ 0 ∷ 0 ∷ 0 ∷ 2 ∷ 0 ∷ 0 ∷ 0 ∷ 0 ∷ 0 ∷ []
+
+unfoldable pub oldStep1P5 : List ℕ
+oldStep1P5 = 0x14 ∷ 0 ∷ 2 ∷ 0 ∷ 1 ∷ 0 ∷ 1 ∷ 0 ∷ 0 ∷ 0 ∷ 0x10 ∷ 0 ∷ 0 ∷ 0 ∷ 0 ∷ 0 ∷ 2 ∷ 0 ∷ 0 ∷ 0 ∷ []
+
+unfoldable pub oldStep2P5 : List ℕ
+oldStep2P5 = 0x14 ∷ 0 ∷ 2 ∷ 0 ∷ 2 ∷ 0 ∷ 1 ∷ 0 ∷ 1 ∷ 0 ∷ 0x14 ∷ 0 ∷ 0 ∷ 0 ∷ 0 ∷ 0 ∷ 1 ∷ 0 ∷ 0 ∷ 0 ∷ []
 
 -- "P1 to P7 run on from each other."
 unfoldable pub p1ToP7 : List Entry
 p1ToP7 =
     -- P1 "add 0, 0, 1, 0: step 1."
-    accepts (call (add 0 0 1 0))
+    accepts (call (add 0 0 1 0 0))
     (answer is (1 ∷ 0 ∷ []) ∷
     what 1 is (1 ∷ 0 ∷ []) ∷
     exit 0 0 is (strongLink ∷ 1 ∷ []) ∷
@@ -204,7 +235,7 @@ p1ToP7 =
     steps is (0 ∷ 1 ∷ []) ∷
     []) ∷
     -- P2 "add 1, 2, 1, 1: step 2."
-    accepts (call (add 1 2 1 1))
+    accepts (call (add 1 2 1 1 0))
     (answer is (2 ∷ 0 ∷ []) ∷
     what 2 is (1 ∷ 1 ∷ []) ∷
     exit 1 2 is (strongLink ∷ 2 ∷ []) ∷
@@ -230,23 +261,23 @@ p1ToP7 =
     steps is (0 ∷ 1 ∷ 2 ∷ []) ∷
     []) ∷
     -- the table that P5 leaves, as an image, and read: its links and bits in numbers
-    accepts (call (write (replicate 72 0xFF))) (answer is (70 ∷ 0 ∷ []) ∷ bytes is (imageP5 ++ (0xFF ∷ 0xFF ∷ [])) ∷ []) ∷
-    accepts (call (read 0)) (answer is (0 ∷ 0 ∷ 0 ∷ 0 ∷ 2 ∷ 0 ∷ 0 ∷ 0 ∷ 1 ∷ 0 ∷ 0 ∷ 0 ∷ 0 ∷ []) ∷ []) ∷
-    accepts (call (read 2)) (answer is (1 ∷ 1 ∷ 1 ∷ 0 ∷ 0 ∷ 1 ∷ 0 ∷ 0 ∷ 0 ∷ 1 ∷ 0 ∷ 1 ∷ 1 ∷ []) ∷ []) ∷
+    accepts (call (write (replicate 110 0xFF))) (answer is (108 ∷ 0 ∷ []) ∷ bytes is (imageP5 ++ (0xFF ∷ 0xFF ∷ [])) ∷ []) ∷
+    accepts (call (read 0)) (answer is (0 ∷ 0 ∷ 0 ∷ 0 ∷ 2 ∷ 0 ∷ 0 ∷ 0 ∷ 1 ∷ 0 ∷ 0 ∷ 0 ∷ 0 ∷ 0 ∷ []) ∷ []) ∷
+    accepts (call (read 2)) (answer is (1 ∷ 1 ∷ 1 ∷ 0 ∷ 0 ∷ 1 ∷ 0 ∷ 0 ∷ 0 ∷ 1 ∷ 0 ∷ 1 ∷ 1 ∷ 0 ∷ []) ∷ []) ∷
     -- a trial of it is open at once: step 0 has no line result, and its answered exit is empty
     accepts (call (trial 4 (1 ∷ 2 ∷ 2 ∷ []) (7 ∷ 7 ∷ 7 ∷ 7 ∷ []))) (answer is (0 ∷ 0 ∷ 0 ∷ []) ∷ bytes is (7 ∷ 7 ∷ 7 ∷ 7 ∷ []) ∷ []) ∷
     -- P6 "clear 0, 1: counts 2, 2; only step 0 is left."
     accepts (call (clear 0 1))
     (answer is (2 ∷ 2 ∷ []) ∷ order 0 1 is [] ∷ own 1 is (0 ∷ []) ∷ own 2 is (0 ∷ []) ∷ steps is (0 ∷ []) ∷ []) ∷
     -- P7 "add 0, 0, 3, 600: step 3; add 3, 0, 2, 15: step 1."
-    accepts (call (add 0 0 3 600)) (answer is (3 ∷ 0 ∷ []) ∷ what 3 is (3 ∷ 600 ∷ []) ∷ steps is (0 ∷ 3 ∷ []) ∷ []) ∷
-    accepts (call (add 3 0 2 15)) (answer is (1 ∷ 0 ∷ []) ∷ what 1 is (2 ∷ 15 ∷ []) ∷ steps is (0 ∷ 1 ∷ 3 ∷ []) ∷ []) ∷
+    accepts (call (add 0 0 3 600 0)) (answer is (3 ∷ 0 ∷ []) ∷ what 3 is (3 ∷ 600 ∷ []) ∷ steps is (0 ∷ 3 ∷ []) ∷ []) ∷
+    accepts (call (add 3 0 2 15 0)) (answer is (1 ∷ 0 ∷ []) ∷ what 1 is (2 ∷ 15 ∷ []) ∷ steps is (0 ∷ 1 ∷ 3 ∷ []) ∷ []) ∷
     []
 
 -- P8 "F4, P1, link 0, 0 to 1, 0, clear 0, 0: counts 1, 1."
 unfoldable pub p8 : List Entry
 p8 =
-    accepts (call (add 0 0 1 0)) (answer is (1 ∷ 0 ∷ []) ∷ []) ∷
+    accepts (call (add 0 0 1 0 0)) (answer is (1 ∷ 0 ∷ []) ∷ []) ∷
     accepts (call (link 0 0 1 0)) (exit 1 0 is (weakLink ∷ 1 ∷ []) ∷ []) ∷
     accepts (call (clear 0 0)) (answer is (1 ∷ 1 ∷ []) ∷ order 0 0 is [] ∷ steps is (0 ∷ []) ∷ []) ∷
     []
@@ -254,7 +285,7 @@ p8 =
 -- P9 "F4, P1, link 0, 0 to 0, 1, clear 0, 0: counts 1, 0; 0 to 1 is strong."
 unfoldable pub p9 : List Entry
 p9 =
-    accepts (call (add 0 0 1 0)) (answer is (1 ∷ 0 ∷ []) ∷ []) ∷
+    accepts (call (add 0 0 1 0 0)) (answer is (1 ∷ 0 ∷ []) ∷ []) ∷
     accepts (call (link 0 0 0 1)) (exit 0 1 is (weakLink ∷ 1 ∷ []) ∷ []) ∷
     accepts (call (clear 0 0))
     (answer is (1 ∷ 0 ∷ []) ∷ order 0 0 is (1 ∷ []) ∷ exit 0 1 is (strongLink ∷ 1 ∷ []) ∷ steps is (0 ∷ 1 ∷ []) ∷ []) ∷
@@ -265,20 +296,27 @@ unfoldable pub imageF4 : List ℕ
 imageF4 =
     0x0A ∷ 0x00 ∷ 0x01 ∷ 0x00 ∷ 0x04 ∷ 0x00 ∷ 0x00 ∷ 0x00 ∷ 0x01 ∷ 0x00 ∷ 0x14 ∷ 0x00 ∷ 0x02 ∷ 0x00 ∷ replicate 16 0x00
 
--- it is written into a buffer of 32 bytes, whose last two bytes are untouched, and loaded
+-- W5: "The writer writes edition 2, .. and P10 belongs to W6." These bytes, of edition 1, load: what they load as is written as F4 is, header of 42 bytes
+-- with cabin 0's 3 and 3, record of 22 bytes
+unfoldable pub newImageF4 : List ℕ
+newImageF4 = 0x2A ∷ 0 ∷ 3 ∷ 0 ∷ 4 ∷ 0 ∷ 0 ∷ 0 ∷ 1 ∷ 0 ∷ 3 ∷ 0 ∷ 3 ∷ 0 ∷ (replicate 28 0 ++ (0x16 ∷ 0 ∷ 4 ∷ 0 ∷ replicate 18 0))
+
 unfoldable pub p10 : List Entry
 p10 =
-    accepts (call (write (replicate 32 0xFF))) (answer is (30 ∷ 0 ∷ []) ∷ bytes is (imageF4 ++ replicate 2 0xFF) ∷ []) ∷
-    accepts (begin (load imageF4)) (answer is (0 ∷ 0 ∷ []) ∷ sizes is (4 ∷ 0 ∷ []) ∷ steps is (0 ∷ []) ∷ what 0 is (0 ∷ 0 ∷ []) ∷ []) ∷
+    accepts (call (write (replicate 66 0xFF))) (answer is (64 ∷ 0 ∷ []) ∷ bytes is (newImageF4 ++ replicate 2 0xFF) ∷ []) ∷
+    accepts (begin (load imageF4))
+    (answer is (0 ∷ 0 ∷ []) ∷ sizes is (4 ∷ 0 ∷ []) ∷ steps is (0 ∷ []) ∷ what 0 is (0 ∷ 0 ∷ []) ∷ quotas is (3 ∷ 3 ∷ replicate 14 0) ∷ []) ∷
+    accepts (call (write (replicate 66 0xFF))) (bytes is (newImageF4 ++ replicate 2 0xFF) ∷ []) ∷
+    accepts (begin (load newImageF4)) (sizes is (4 ∷ 0 ∷ []) ∷ steps is (0 ∷ []) ∷ quotas is (3 ∷ 3 ∷ replicate 14 0) ∷ []) ∷
     []
 
 -- two steps that rule 3 could take at once: 2 and 3, each with a weak link from step 0 and from the other. The lower is taken first, so its link to the
 -- other ends strong; the other's link back is weak.
 unfoldable pub twoCandidates : List Entry
 twoCandidates =
-    accepts (call (add 0 0 1 0)) (answer is (1 ∷ 0 ∷ []) ∷ []) ∷
-    accepts (call (add 1 0 1 1)) (answer is (2 ∷ 0 ∷ []) ∷ []) ∷
-    accepts (call (add 1 1 1 2)) (answer is (3 ∷ 0 ∷ []) ∷ []) ∷
+    accepts (call (add 0 0 1 0 0)) (answer is (1 ∷ 0 ∷ []) ∷ []) ∷
+    accepts (call (add 1 0 1 1 0)) (answer is (2 ∷ 0 ∷ []) ∷ []) ∷
+    accepts (call (add 1 1 1 2 0)) (answer is (3 ∷ 0 ∷ []) ∷ []) ∷
     accepts (call (link 1 0 0 1)) [] ∷
     accepts (call (link 1 1 0 2)) [] ∷
     accepts (call (link 1 1 2 0)) [] ∷
@@ -305,10 +343,10 @@ unfoldable pub squeezes : List Entry
 squeezes =
     accepts (call (link 0 1 0 0)) (exit 0 0 is (weakLink ∷ 2 ∷ []) ∷ counts 2 is (2 ∷ 1 ∷ []) ∷ []) ∷
     accepts (call (trial 4 (0 ∷ 0 ∷ []) (7 ∷ 7 ∷ 7 ∷ 7 ∷ []))) (answer is (1 ∷ 2 ∷ 3 ∷ []) ∷ bytes is (2 ∷ 3 ∷ 2 ∷ 7 ∷ []) ∷ []) ∷
-    refuses (call (squeeze 0)) 2 ∷
-    refuses (call (squeeze 129)) 2 ∷
-    refuses (call (squeeze 2)) 13 ∷
-    accepts (call (squeeze 3))
+    refuses (call (squeeze 0 (soleQuotas 0))) 2 ∷
+    refuses (call (squeeze 129 (soleQuotas 129))) 2 ∷
+    refuses (call (squeeze 2 (soleQuotas 2))) 13 ∷
+    accepts (call (squeeze 3 (soleQuotas 3)))
     (answer is (0 ∷ 0 ∷ []) ∷
     sizes is (3 ∷ 2 ∷ []) ∷
     steps is (0 ∷ 1 ∷ 2 ∷ []) ∷
@@ -331,19 +369,20 @@ squeezes =
     counts 3 is (0 ∷ 0 ∷ []) ∷
     []) ∷
     -- it is full; as an image, header, steps 0, 1, 2: the bits are 2 + 4, 1 + 16, 0 + 16
-    refuses (call (add 0 3 1 0)) 8 ∷
-    accepts (call (write (replicate 70 0xFF)))
-    (answer is (70 ∷ 0 ∷ []) ∷
+    refuses (call (add 0 3 1 0 0)) 8 ∷
+    accepts (call (write (replicate 108 0xFF)))
+    (answer is (108 ∷ 0 ∷ []) ∷
     bytes is
-    (0x0A ∷ 0 ∷ 1 ∷ 0 ∷ 3 ∷ 0 ∷ 2 ∷ 0 ∷ 3 ∷ 0 ∷
-    0x14 ∷ 0 ∷ 2 ∷ 0 ∷ 0 ∷ 0 ∷ 0 ∷ 0 ∷ 0 ∷ 0 ∷ 6 ∷ 0 ∷ 1 ∷ 0 ∷ 1 ∷ 0 ∷ 2 ∷ 0 ∷ 0 ∷ 0 ∷
-    0x14 ∷ 0 ∷ 2 ∷ 0 ∷ 1 ∷ 0 ∷ 1 ∷ 0 ∷ 1 ∷ 0 ∷ 0x11 ∷ 0 ∷ 2 ∷ 0 ∷ 0 ∷ 0 ∷ 0 ∷ 0 ∷ 0 ∷ 0 ∷
-    0x14 ∷ 0 ∷ 2 ∷ 0 ∷ 2 ∷ 0 ∷ 1 ∷ 0 ∷ 2 ∷ 0 ∷ 0x10 ∷ 0 ∷ 1 ∷ 0 ∷ 0 ∷ 0 ∷ 0 ∷ 0 ∷ 0 ∷ 0 ∷ []) ∷
+    (0x2A ∷ 0 ∷ 3 ∷ 0 ∷ 3 ∷ 0 ∷ 2 ∷ 0 ∷ 3 ∷ 0 ∷ 2 ∷ 0 ∷ 2 ∷ 0 ∷
+    (replicate 28 0 ++
+    (0x16 ∷ 0 ∷ 4 ∷ 0 ∷ 0 ∷ 0 ∷ 0 ∷ 0 ∷ 0 ∷ 0 ∷ 6 ∷ 0 ∷ 1 ∷ 0 ∷ 1 ∷ 0 ∷ 2 ∷ 0 ∷ 0 ∷ 0 ∷ 0 ∷ 0 ∷
+    0x16 ∷ 0 ∷ 4 ∷ 0 ∷ 1 ∷ 0 ∷ 1 ∷ 0 ∷ 1 ∷ 0 ∷ 0x11 ∷ 0 ∷ 2 ∷ 0 ∷ 0 ∷ 0 ∷ 0 ∷ 0 ∷ 0 ∷ 0 ∷ 0 ∷ 0 ∷
+    0x16 ∷ 0 ∷ 4 ∷ 0 ∷ 2 ∷ 0 ∷ 1 ∷ 0 ∷ 2 ∷ 0 ∷ 0x10 ∷ 0 ∷ 1 ∷ 0 ∷ 0 ∷ 0 ∷ 0 ∷ 0 ∷ 0 ∷ 0 ∷ 0 ∷ 0 ∷ []))) ∷
     []) ∷
     accepts (call (trial 4 (0 ∷ 0 ∷ []) (7 ∷ 7 ∷ 7 ∷ 7 ∷ []))) (answer is (1 ∷ 1 ∷ 3 ∷ []) ∷ bytes is (1 ∷ 2 ∷ 1 ∷ 7 ∷ []) ∷ []) ∷
     -- a larger capacity is no reason to refuse: the next step added is the one after the last
-    accepts (call (squeeze 5)) (sizes is (5 ∷ 2 ∷ []) ∷ steps is (0 ∷ 1 ∷ 2 ∷ []) ∷ []) ∷
-    accepts (call (add 0 3 3 600)) (answer is (3 ∷ 0 ∷ []) ∷ steps is (0 ∷ 1 ∷ 2 ∷ 3 ∷ []) ∷ []) ∷
+    accepts (call (squeeze 5 (soleQuotas 5))) (sizes is (5 ∷ 2 ∷ []) ∷ steps is (0 ∷ 1 ∷ 2 ∷ []) ∷ []) ∷
+    accepts (call (add 0 3 3 600 0)) (answer is (3 ∷ 0 ∷ []) ∷ steps is (0 ∷ 1 ∷ 2 ∷ 3 ∷ []) ∷ []) ∷
     []
 
 -- W3. F4 has an empty answered exit at step 0: "open" comes before "stopped".
@@ -351,7 +390,7 @@ unfoldable pub waits : List Entry
 waits =
     accepts (call (trial 0 [] [])) (answer is (0 ∷ 0 ∷ 0 ∷ []) ∷ bytes is [] ∷ []) ∷
     -- "step 0 leads when answered to wait 1, whose answered exit leads to itself; limit 3 and no results give 'stopped' at step 1, 3 moves, trace 1 1 1."
-    accepts (call (add 0 0 3 1)) (answer is (1 ∷ 0 ∷ []) ∷ []) ∷
+    accepts (call (add 0 0 3 1 0)) (answer is (1 ∷ 0 ∷ []) ∷ []) ∷
     accepts (call (link 0 0 1 0)) (exit 1 0 is (weakLink ∷ 1 ∷ []) ∷ []) ∷
     accepts (call (trial 3 [] (7 ∷ 7 ∷ 7 ∷ []))) (answer is (2 ∷ 1 ∷ 3 ∷ []) ∷ bytes is (1 ∷ 1 ∷ 1 ∷ []) ∷ []) ∷
     -- a larger limit begins with the same trace; with a smaller one the trace past the moves is untouched
@@ -368,13 +407,13 @@ waits =
 -- W3. The alarm leads to message 1, that to contact 2; the engaged exit of 2 leads to wait 3, that back to 2.
 unfoldable pub messages : List Entry
 messages =
-    accepts (call (add 0 0 2 4)) (answer is (1 ∷ 0 ∷ []) ∷ []) ∷
-    accepts (call (add 1 0 1 7)) (answer is (2 ∷ 0 ∷ []) ∷ []) ∷
+    accepts (call (add 0 0 2 4 0)) (answer is (1 ∷ 0 ∷ []) ∷ []) ∷
+    accepts (call (add 1 0 1 7 0)) (answer is (2 ∷ 0 ∷ []) ∷ []) ∷
     -- at the limit: stopped at the message; spent at the contact, which has no result left; open at it, where its exit is empty
     accepts (call (trial 1 [] (7 ∷ []))) (answer is (2 ∷ 1 ∷ 1 ∷ []) ∷ bytes is (1 ∷ []) ∷ []) ∷
     accepts (call (trial 2 [] (7 ∷ 7 ∷ []))) (answer is (1 ∷ 2 ∷ 2 ∷ []) ∷ bytes is (1 ∷ 2 ∷ []) ∷ []) ∷
     accepts (call (trial 2 (0 ∷ []) (7 ∷ 7 ∷ []))) (answer is (0 ∷ 2 ∷ 2 ∷ []) ∷ bytes is (1 ∷ 2 ∷ []) ∷ []) ∷
-    accepts (call (add 2 1 3 30)) (answer is (3 ∷ 0 ∷ []) ∷ []) ∷
+    accepts (call (add 2 1 3 30 0)) (answer is (3 ∷ 0 ∷ []) ∷ []) ∷
     accepts (call (link 1 0 3 0)) (exit 3 0 is (weakLink ∷ 2 ∷ []) ∷ []) ∷
     -- twice engaged, and then no result is left
     accepts (call (trial 8 (1 ∷ 1 ∷ []) (replicate 8 7)))
@@ -388,51 +427,147 @@ messages =
 -- a copy of a weak link is weak too; and the ends of each range of contents
 unfoldable pub ends : List Entry
 ends =
-    accepts (call (add 0 0 1 99)) (what 1 is (1 ∷ 99 ∷ []) ∷ []) ∷
+    accepts (call (add 0 0 1 99 0)) (what 1 is (1 ∷ 99 ∷ []) ∷ []) ∷
     accepts (call (link 0 0 0 1)) (exit 0 1 is (weakLink ∷ 1 ∷ []) ∷ []) ∷
     accepts (call (link 0 1 1 3)) (exit 1 3 is (weakLink ∷ 1 ∷ []) ∷ counts 1 is (1 ∷ 2 ∷ []) ∷ []) ∷
-    refuses (call (add 0 2 1 100)) 7 ∷
-    refuses (call (add 0 2 2 16)) 7 ∷
-    refuses (call (add 0 2 3 601)) 7 ∷
-    accepts (call (add 0 2 2 15)) (what 2 is (2 ∷ 15 ∷ []) ∷ []) ∷
-    accepts (call (add 0 3 3 600)) (what 3 is (3 ∷ 600 ∷ []) ∷ []) ∷
+    refuses (call (add 0 2 1 100 0)) 7 ∷
+    refuses (call (add 0 2 2 16 0)) 7 ∷
+    refuses (call (add 0 2 3 601 0)) 7 ∷
+    accepts (call (add 0 2 2 15 0)) (what 2 is (2 ∷ 15 ∷ []) ∷ []) ∷
+    accepts (call (add 0 3 3 600 0)) (what 3 is (3 ∷ 600 ∷ []) ∷ []) ∷
     []
 
 -- W1: the same records in two other orders load as the same table, and are written in ascending step number
 unfoldable pub sorted : List Entry
 sorted =
     accepts (begin (load (headerP5 ++ step2P5 ++ step0P5 ++ step1P5))) (sizes is (4 ∷ 2 ∷ []) ∷ steps is (0 ∷ 1 ∷ 2 ∷ []) ∷ []) ∷
-    accepts (call (write (replicate 72 0xFF))) (answer is (70 ∷ 0 ∷ []) ∷ bytes is (imageP5 ++ (0xFF ∷ 0xFF ∷ [])) ∷ []) ∷
+    accepts (call (write (replicate 110 0xFF))) (answer is (108 ∷ 0 ∷ []) ∷ bytes is (imageP5 ++ (0xFF ∷ 0xFF ∷ [])) ∷ []) ∷
     accepts (begin (load (headerP5 ++ step1P5 ++ step2P5 ++ step0P5))) (sizes is (4 ∷ 2 ∷ []) ∷ steps is (0 ∷ 1 ∷ 2 ∷ []) ∷ []) ∷
-    accepts (call (write (replicate 70 0xFF))) (answer is (70 ∷ 0 ∷ []) ∷ bytes is imageP5 ∷ []) ∷
+    accepts (call (write (replicate 108 0xFF))) (answer is (108 ∷ 0 ∷ []) ∷ bytes is imageP5 ∷ []) ∷
+    []
+
+-- W5: the records of edition 1 load in any order, with all steps charged to cabin 0 and its 3 and 3; what is written is of edition 2. An image that mixes
+-- editions is not accepted, and neither is one of edition 1 whose capacity is 0.
+unfoldable pub editions : List Entry
+editions =
+    accepts (begin (load (oldHeaderP5 ++ oldStep2P5 ++ oldStep0P5 ++ oldStep1P5)))
+    (sizes is (4 ∷ 2 ∷ []) ∷ steps is (0 ∷ 1 ∷ 2 ∷ []) ∷ quotas is (3 ∷ 3 ∷ replicate 14 0) ∷ charges is (2 ∷ replicate 7 0) ∷ []) ∷
+    accepts (call (write (replicate 108 0xFF))) (answer is (108 ∷ 0 ∷ []) ∷ bytes is imageP5 ∷ []) ∷
+    refuses (begin (load (headerP5 ++ oldStep0P5 ++ oldStep1P5 ++ oldStep2P5))) 12 ∷
+    refuses (begin (load (oldHeaderP5 ++ step0P5 ++ step1P5 ++ step2P5))) 12 ∷
+    refuses (begin (load (headerP5 ++ step0P5 ++ step1P5 ++ oldStep2P5))) 12 ∷
+    refuses (begin (load (set imageP5 66 2))) 12 ∷
+    refuses (begin (load (set imageF4 4 0))) 12 ∷
+    -- in edition 2: a cabin of step 0, a cabin above 7, a guarantee above its limit, a limit below the charge
+    refuses (begin (load (set imageP5 62 1))) 12 ∷
+    refuses (begin (load (set imageP5 84 8))) 12 ∷
+    refuses (begin (load (set imageP5 12 2))) 12 ∷
+    refuses (begin (load (set (set imageP5 10 1) 12 1))) 12 ∷
+    []
+
+-- W5: capacity 5, so 4 steps for the cabins. Cabin 0 is guaranteed 1 and may have 2, cabin 1 is guaranteed 2 and may have 2, cabin 2 is guaranteed none and
+-- may have 4, the others may have none.
+unfoldable pub shares5 : List ℕ
+shares5 = 1 ∷ 2 ∷ 2 ∷ 2 ∷ 0 ∷ 4 ∷ replicate 10 0
+
+unfoldable pub shared : List Entry
+shared =
+    accepts (begin (fresh 5 shares5)) (sizes is (5 ∷ 0 ∷ []) ∷ quotas is shares5 ∷ charges is replicate 8 0 ∷ cabin 0 is (0 ∷ []) ∷ []) ∷
+    -- 16 directly after 1, whatever else is wrong
+    refuses (call (add 9 9 9 9 8)) 16 ∷
+    refuses (call (add 0 0 1 0 8)) 16 ∷
+    refuses (call (add 9 9 9 9 7)) 3 ∷
+    -- 4 steps are free and 3 of them reserved: cabin 2 gets the one left over
+    accepts (call (add 0 0 1 0 2)) (answer is (1 ∷ 0 ∷ []) ∷ cabin 1 is (2 ∷ []) ∷ charges is (0 ∷ 0 ∷ 1 ∷ replicate 5 0) ∷ []) ∷
+    refuses (call (add 0 1 1 0 2)) 15 ∷
+    -- cabin 3 has a limit of 0: 14 before 15
+    refuses (call (add 0 1 1 0 3)) 14 ∷
+    -- cabin 0 gets its guarantee, and nothing more: 2 are free, for cabin 1
+    accepts (call (add 0 1 1 0 0)) (answer is (2 ∷ 0 ∷ []) ∷ cabin 2 is (0 ∷ []) ∷ charges is (1 ∷ 0 ∷ 1 ∷ replicate 5 0) ∷ []) ∷
+    refuses (call (add 0 2 1 0 0)) 15 ∷
+    refuses (call (keyLine (line 9 100021000))) 15 ∷
+    accepts (call (add 0 2 1 0 1)) (answer is (3 ∷ 0 ∷ []) ∷ []) ∷
+    accepts (call (add 0 3 1 0 1))
+    (answer is (4 ∷ 0 ∷ []) ∷ steps is (0 ∷ 1 ∷ 2 ∷ 3 ∷ 4 ∷ []) ∷ charges is (1 ∷ 2 ∷ 1 ∷ replicate 5 0) ∷ []) ∷
+    -- full, and cabin 1 is at its limit: 8 before 14
+    refuses (call (add 1 0 1 0 1)) 8 ∷
+    accepts (call (read 4)) (answer is (1 ∷ 0 ∷ 0 ∷ (replicate 8 0 ++ (1 ∷ 0 ∷ 1 ∷ []))) ∷ []) ∷
+    -- the image says it: 42 + 5 * 22 bytes, and the cabins 0, 2, 0, 1, 1 last in the records
+    accepts (call (write (replicate 152 7)))
+    (answer is (152 ∷ 0 ∷ []) ∷
+    bytes is
+    (0x2A ∷ 0 ∷ 3 ∷ 0 ∷ 5 ∷ 0 ∷ 4 ∷ 0 ∷ 5 ∷ 0 ∷ 1 ∷ 0 ∷ 2 ∷ 0 ∷ 2 ∷ 0 ∷ 2 ∷ 0 ∷ 0 ∷ 0 ∷ 4 ∷ 0 ∷
+    (replicate 20 0 ++
+    (0x16 ∷ 0 ∷ 4 ∷ 0 ∷ 0 ∷ 0 ∷ 0 ∷ 0 ∷ 0 ∷ 0 ∷ 0 ∷ 0 ∷ 1 ∷ 0 ∷ 2 ∷ 0 ∷ 3 ∷ 0 ∷ 4 ∷ 0 ∷ 0 ∷ 0 ∷
+    0x16 ∷ 0 ∷ 4 ∷ 0 ∷ 1 ∷ 0 ∷ 1 ∷ 0 ∷ 0 ∷ 0 ∷ 0 ∷ 0 ∷ 0 ∷ 0 ∷ 0 ∷ 0 ∷ 0 ∷ 0 ∷ 0 ∷ 0 ∷ 2 ∷ 0 ∷
+    0x16 ∷ 0 ∷ 4 ∷ 0 ∷ 2 ∷ 0 ∷ 1 ∷ 0 ∷ 0 ∷ 0 ∷ 0 ∷ 0 ∷ 0 ∷ 0 ∷ 0 ∷ 0 ∷ 0 ∷ 0 ∷ 0 ∷ 0 ∷ 0 ∷ 0 ∷
+    0x16 ∷ 0 ∷ 4 ∷ 0 ∷ 3 ∷ 0 ∷ 1 ∷ 0 ∷ 0 ∷ 0 ∷ 0 ∷ 0 ∷ 0 ∷ 0 ∷ 0 ∷ 0 ∷ 0 ∷ 0 ∷ 0 ∷ 0 ∷ 1 ∷ 0 ∷
+    0x16 ∷ 0 ∷ 4 ∷ 0 ∷ 4 ∷ 0 ∷ 1 ∷ 0 ∷ 0 ∷ 0 ∷ 0 ∷ 0 ∷ 0 ∷ 0 ∷ 0 ∷ 0 ∷ 0 ∷ 0 ∷ 0 ∷ 0 ∷ 1 ∷ 0 ∷ []))) ∷
+    []) ∷
+    -- the step of cabin 2 goes, and with it its cabin; the place is nobody's reserve, so cabin 0 may have a second step, and a key line is cabin 0's
+    accepts (call (clear 0 0)) (answer is (1 ∷ 1 ∷ []) ∷ cabin 1 is (0 ∷ []) ∷ charges is (1 ∷ 2 ∷ replicate 6 0) ∷ []) ∷
+    refuses (call (add 0 0 1 0 1)) 14 ∷
+    accepts (call (keyLine (line 9 100001000))) (answer is (1 ∷ 0 ∷ []) ∷ cabin 1 is (0 ∷ []) ∷ charges is (2 ∷ 2 ∷ replicate 6 0) ∷ []) ∷
+    []
+
+-- W5: lists of quotas, on that table: 2 before 16 before 13. The guarantees together are at most the capacity less 1; a sum is not cut to 16 bits.
+unfoldable pub lists : List Entry
+lists =
+    refuses (call (squeeze 0 [])) 2 ∷
+    refuses (call (squeeze 4 (5 ∷ 5 ∷ replicate 14 0))) 16 ∷
+    refuses (call (squeeze 4 (1 ∷ 2 ∷ 2 ∷ 2 ∷ replicate 12 0))) 13 ∷
+    refuses (call (squeeze 5 (3 ∷ 2 ∷ replicate 14 9))) 16 ∷
+    -- cabin 1's two steps are above its limit; the one free step is too few for the guarantees of cabins 2 and 3
+    refuses (call (squeeze 6 (soleQuotas 6))) 13 ∷
+    refuses (call (squeeze 6 (0 ∷ 9 ∷ 0 ∷ 9 ∷ 1 ∷ 9 ∷ 1 ∷ 9 ∷ replicate 8 0))) 13 ∷
+    accepts (call (squeeze 6 (0 ∷ 2 ∷ 0 ∷ 9 ∷ 1 ∷ 9 ∷ 0 ∷ 9 ∷ replicate 8 0)))
+    (sizes is (6 ∷ 4 ∷ []) ∷
+    quotas is (0 ∷ 2 ∷ 0 ∷ 9 ∷ 1 ∷ 9 ∷ 0 ∷ 9 ∷ replicate 8 0) ∷
+    charges is (2 ∷ 2 ∷ replicate 6 0) ∷
+    cabin 3 is (1 ∷ []) ∷
+    []) ∷
+    -- cabin 0 has 2 of 2, by call and by key line; cabin 1 may have more, but the free step is cabin 2's
+    refuses (call (add 1 0 1 0 0)) 14 ∷
+    refuses (call (keyLine (line 9 100101000))) 14 ∷
+    refuses (call (add 1 0 1 0 1)) 15 ∷
+    accepts (call (add 1 0 1 0 2)) (answer is (5 ∷ 0 ∷ []) ∷ charges is (2 ∷ 2 ∷ 1 ∷ replicate 5 0) ∷ []) ∷
+    -- fresh: "Fresh gives 2, then 16"; refused, it hands back a table that guarantees and allows nothing
+    refuses (begin (fresh 0 [])) 2 ∷
+    accepts (call (read 0)) (sizes is (1 ∷ 0 ∷ []) ∷ quotas is replicate 16 0 ∷ []) ∷
+    refuses (begin (fresh 5 (2 ∷ 1 ∷ replicate 14 0))) 16 ∷
+    refuses (begin (fresh 5 (1 ∷ 1 ∷ replicate 13 0))) 16 ∷
+    refuses (begin (fresh 5 (replicate 15 0 ++ (0 ∷ 0 ∷ [])))) 16 ∷
+    refuses (begin (fresh 5 (replicate 10 1 ++ replicate 6 0))) 16 ∷
+    refuses (begin (fresh 128 (32768 ∷ 65535 ∷ 32768 ∷ 65535 ∷ replicate 12 0))) 16 ∷
+    accepts (begin (fresh 5 (replicate 8 1 ++ (0 ∷ 65535 ∷ 0 ∷ 65535 ∷ 0 ∷ 65535 ∷ 0 ∷ 65535 ∷ [])))) (charges is replicate 8 0 ∷ []) ∷
     []
 
 -- W1: two tables with one plain plan, in which exits 0 and 1 of step 0 lead to step 1, and with other strengths: their images differ in the bits of
 -- step 0, which are 2 where exit 0 is strong and 1 where exit 1 is
 unfoldable pub imageTwin : ℕ → List ℕ
 imageTwin bits =
-    0x0A ∷ 0 ∷ 1 ∷ 0 ∷ 4 ∷ 0 ∷ 1 ∷ 0 ∷ 2 ∷ 0 ∷
-    0x14 ∷ 0 ∷ 2 ∷ 0 ∷ 0 ∷ 0 ∷ 0 ∷ 0 ∷ 0 ∷ 0 ∷ bits ∷ 0 ∷ 1 ∷ 0 ∷ 1 ∷ 0 ∷ 0 ∷ 0 ∷ 0 ∷ 0 ∷
-    0x14 ∷ 0 ∷ 2 ∷ 0 ∷ 1 ∷ 0 ∷ 1 ∷ 0 ∷ 0 ∷ 0 ∷ 0 ∷ 0 ∷ 0 ∷ 0 ∷ 0 ∷ 0 ∷ 0 ∷ 0 ∷ 0 ∷ 0 ∷
-    []
+    0x2A ∷ 0 ∷ 3 ∷ 0 ∷ 4 ∷ 0 ∷ 1 ∷ 0 ∷ 2 ∷ 0 ∷ 3 ∷ 0 ∷ 3 ∷ 0 ∷
+    (replicate 28 0 ++
+    (0x16 ∷ 0 ∷ 4 ∷ 0 ∷ 0 ∷ 0 ∷ 0 ∷ 0 ∷ 0 ∷ 0 ∷ bits ∷ 0 ∷ 1 ∷ 0 ∷ 1 ∷ 0 ∷ 0 ∷ 0 ∷ 0 ∷ 0 ∷ 0 ∷ 0 ∷
+    0x16 ∷ 0 ∷ 4 ∷ 0 ∷ 1 ∷ 0 ∷ 1 ∷ 0 ∷ 0 ∷ 0 ∷ 0 ∷ 0 ∷ 0 ∷ 0 ∷ 0 ∷ 0 ∷ 0 ∷ 0 ∷ 0 ∷ 0 ∷ 0 ∷ 0 ∷ []))
 
 unfoldable pub firstStrong : List Entry
 firstStrong =
-    accepts (call (add 0 0 1 0)) [] ∷
+    accepts (call (add 0 0 1 0 0)) [] ∷
     accepts (call (link 0 0 0 1)) (exit 0 0 is (strongLink ∷ 1 ∷ []) ∷ exit 0 1 is (weakLink ∷ 1 ∷ []) ∷ []) ∷
-    accepts (call (write (replicate 50 0xFF))) (bytes is imageTwin 2 ∷ []) ∷
+    accepts (call (write (replicate 86 0xFF))) (bytes is imageTwin 2 ∷ []) ∷
     []
 
 unfoldable pub secondStrong : List Entry
 secondStrong =
-    accepts (call (add 0 1 1 0)) [] ∷
+    accepts (call (add 0 1 1 0 0)) [] ∷
     accepts (call (link 0 1 0 0)) (exit 0 0 is (weakLink ∷ 1 ∷ []) ∷ exit 0 1 is (strongLink ∷ 1 ∷ []) ∷ []) ∷
-    accepts (call (write (replicate 50 0xFF))) (bytes is imageTwin 1 ∷ []) ∷
+    accepts (call (write (replicate 86 0xFF))) (bytes is imageTwin 1 ∷ []) ∷
     []
 
 pub record Twins (t u : Table) : Type 0 where
   pub plan : planOf t ≡ planOf u
-  pub images : image t ≡ image u → ⊥
+  pub images : image writtenEdition t ≡ image writtenEdition u → ⊥
 
 unfoldable pub examples : List Run
 examples =
@@ -445,32 +580,26 @@ examples =
     record { table = tableF4; entries = messages } ∷
     record { table = tableF4; entries = ends } ∷
     record { table = tableF4; entries = sorted } ∷
+    record { table = tableF4; entries = editions } ∷
+    record { table = tableF4; entries = shared ++ lists } ∷
     record { table = tableF4; entries = firstStrong } ∷
     record { table = tableF4; entries = secondStrong } ∷
     []
 
--- the key line H (72), star (42), the w digits of n (48 to 57), A (65)
-unfoldable pub digits : ℕ → ℕ → List ℕ
-digits zero n = []
-digits (suc w) n = (48 + n / 10 ^ w % 10) ∷ digits w n
-
-unfoldable pub line : ℕ → ℕ → List ℕ
-line w n = 72 ∷ 42 ∷ (digits w n ++ (65 ∷ []))
-
--- "Fresh gives only 2, load only 12."
+-- "Fresh gives only 2, load only 12." W5 adds 16, in `lists`.
 unfoldable pub beginnings : List Entry
 beginnings =
     -- "Capacities 1 and 128 are accepted, 0 is refused."
-    accepts (begin (fresh 1)) (sizes is (1 ∷ 0 ∷ []) ∷ steps is (0 ∷ []) ∷ []) ∷
-    accepts (begin (fresh 128)) (sizes is (128 ∷ 0 ∷ []) ∷ []) ∷
-    refuses (begin (fresh 0)) 2 ∷
+    accepts (begin (fresh 1 (soleQuotas 1))) (sizes is (1 ∷ 0 ∷ []) ∷ steps is (0 ∷ []) ∷ []) ∷
+    accepts (begin (fresh 128 (soleQuotas 128))) (sizes is (128 ∷ 0 ∷ []) ∷ []) ∷
+    refuses (begin (fresh 0 (soleQuotas 0))) 2 ∷
     -- 2 "capacity not 1 to 128": "fresh 129"
-    refuses (begin (fresh 129)) 2 ∷
+    refuses (begin (fresh 129 (soleQuotas 129))) 2 ∷
     -- 12 "image not accepted": "no bytes"
     refuses (begin (load [])) 12 ∷
     -- 8 "steps in use equal the capacity": "fresh 1, then add"; add and key line
-    accepts (begin (fresh 1)) [] ∷
-    refuses (call (add 0 0 1 0)) 8 ∷
+    accepts (begin (fresh 1 (soleQuotas 1))) [] ∷
+    refuses (call (add 0 0 1 0 0)) 8 ∷
     refuses (call (keyLine (line 9 100001000))) 8 ∷
     []
 
@@ -478,31 +607,31 @@ beginnings =
 
 -- "F4 with step 0 out of use"
 unfoldable pub noAlarm : Table
-noAlarm = let t = tableF4 in withSteps t (t .last) (set (t .used) 0 0) (t .kinds) (t .contents) (t .own)
+noAlarm = let t = tableF4 in withSteps t (t .last) (set (t .used) 0 0) (t .kinds) (t .contents) (t .own) (t .cabins)
 
 -- 1 "table not sound", from each call that can give it
 unfoldable pub notSoundReasons : List Entry
 notSoundReasons =
-    refuses (call (add 1 4 0 0)) 1 ∷
+    refuses (call (add 1 4 0 0 8)) 1 ∷
     refuses (call (link 1 4 1 4)) 1 ∷
     refuses (call (clear 1 4)) 1 ∷
     refuses (call (read 1)) 1 ∷
     refuses (call (trial 2 (0 ∷ 4 ∷ []) (7 ∷ []))) 1 ∷
     refuses (call (write (7 ∷ []))) 1 ∷
     refuses (call (keyLine [])) 1 ∷
-    refuses (call (squeeze 0)) 1 ∷
+    refuses (call (squeeze 0 [])) 1 ∷
     []
 
 -- the reasons that F4 gives, and after P1 the others
 unfoldable pub reasons : List Entry
 reasons =
     -- add: 3, 4, 7 ("add 0, 0, 3, 0", "Wait 601 is refused.", and a kind below and above)
-    refuses (call (add 1 4 0 0)) 3 ∷
-    refuses (call (add 0 4 0 0)) 4 ∷
-    refuses (call (add 0 0 3 0)) 7 ∷
-    refuses (call (add 0 0 3 601)) 7 ∷
-    refuses (call (add 0 0 0 0)) 7 ∷
-    refuses (call (add 0 0 4 1)) 7 ∷
+    refuses (call (add 1 4 0 0 0)) 3 ∷
+    refuses (call (add 0 4 0 0 0)) 4 ∷
+    refuses (call (add 0 0 3 0 0)) 7 ∷
+    refuses (call (add 0 0 3 601 0)) 7 ∷
+    refuses (call (add 0 0 0 0 0)) 7 ∷
+    refuses (call (add 0 0 4 1 0)) 7 ∷
     -- link: source 3, 4, 6
     refuses (call (link 1 4 1 4)) 3 ∷
     refuses (call (link 0 4 1 4)) 4 ∷
@@ -516,8 +645,8 @@ reasons =
     -- trial: 10 ("results 0, 4"), 11
     refuses (call (trial 2 (0 ∷ 4 ∷ []) (7 ∷ []))) 10 ∷
     refuses (call (trial 2 (0 ∷ 3 ∷ []) (7 ∷ []))) 11 ∷
-    -- write: 11 ("F4 written into 29 bytes")
-    refuses (call (write (replicate 29 7))) 11 ∷
+    -- write: 11 ("F4 written into 29 bytes"; in edition 2 it has 64)
+    refuses (call (write (replicate 63 7))) 11 ∷
     -- key line: 9 ("H*5A"), then its call's: add 3, 4, 7, link source 3, 4, 6, clear 3, 4, 6
     refuses (call (keyLine (line 1 5))) 9 ∷
     refuses (call (keyLine (line 9 100140000))) 3 ∷
@@ -533,8 +662,8 @@ reasons =
     accepts (call (keyLine (line 1 4))) (answer is (1 ∷ 3 ∷ []) ∷ []) ∷
     accepts (call (keyLine (line 9 100001000))) (answer is (1 ∷ 0 ∷ []) ∷ steps is (0 ∷ 1 ∷ []) ∷ []) ∷
     -- add: 5 ("add twice at 0, 0")
-    refuses (call (add 0 0 1 0)) 5 ∷
-    refuses (call (add 0 0 0 0)) 5 ∷
+    refuses (call (add 0 0 1 0 0)) 5 ∷
+    refuses (call (add 0 0 0 0 0)) 5 ∷
     -- link: second 3, 4, 5
     refuses (call (link 0 0 2 4)) 3 ∷
     refuses (call (link 0 0 0 4)) 4 ∷
@@ -544,8 +673,8 @@ reasons =
     refuses (call (keyLine (line 9 200000024))) 3 ∷
     refuses (call (keyLine (line 9 200000004))) 4 ∷
     refuses (call (keyLine (line 9 200000000))) 5 ∷
-    -- accepted: read 1 has kind 1, content 0, own bit 0, no targets, no bits, counters 1 and 0
-    accepts (call (read 1)) (answer is (1 ∷ 0 ∷ 0 ∷ (replicate 8 0 ++ (1 ∷ 0 ∷ []))) ∷ []) ∷
+    -- accepted: read 1 has kind 1, content 0, own bit 0, no targets, no bits, counters 1 and 0, cabin 0
+    accepts (call (read 1)) (answer is (1 ∷ 0 ∷ 0 ∷ (replicate 8 0 ++ (1 ∷ 0 ∷ 0 ∷ []))) ∷ []) ∷
     -- accepted: a trial that is spent at step 1 after 1 move, and one that is open there; the trace past the move is untouched
     accepts (call (trial 2 [] (7 ∷ 7 ∷ []))) (answer is (1 ∷ 1 ∷ 1 ∷ []) ∷ bytes is (1 ∷ 7 ∷ []) ∷ []) ∷
     accepts (call (trial 2 (3 ∷ []) (7 ∷ 7 ∷ []))) (answer is (0 ∷ 1 ∷ 1 ∷ []) ∷ bytes is (1 ∷ 7 ∷ []) ∷ []) ∷
@@ -580,7 +709,7 @@ failing k (false ∷ bs) = k ∷ failing (suc k) bs
 
 -- F4 after P1
 unfoldable pub tableP1 : Table
-tableP1 = addCall tableF4 0 0 1 0 .table
+tableP1 = addCall tableF4 0 0 1 0 0 .table
 
 -- a table made unsound for each clause of soundness, with the numbers of the clauses that it fails; `soundTests` has them in this order
 unfoldable pub unsound : List (Table × List ℕ)
@@ -588,26 +717,39 @@ unsound =
     let t = tableF4 in
     let u = tableP1 in
     -- 0: an array is a place short
-    (withSteps t (t .last) (take 127 (t .used)) (t .kinds) (t .contents) (t .own), 0 ∷ []) ∷
+    (withSteps t (t .last) (take 127 (t .used)) (t .kinds) (t .contents) (t .own) (t .cabins), 0 ∷ []) ∷
     -- 1: the capacity is 129; 2: the last number given is the capacity
-    (withNumbers t 129 0, 1 ∷ []) ∷
-    (withNumbers t 4 4, 2 ∷ []) ∷
+    (withNumbers t 129 0 (t .quotas), 1 ∷ []) ∷
+    (withNumbers t 4 4 (t .quotas), 2 ∷ []) ∷
     -- 3: a step at the capacity is in use (and so it is not reached)
-    (withSteps t (t .last) (set (t .used) 4 1) (set (t .kinds) 4 1) (t .contents) (t .own), 3 ∷ 13 ∷ []) ∷
+    (withSteps t (t .last) (set (t .used) 4 1) (set (t .kinds) 4 1) (t .contents) (t .own) (t .cabins), 3 ∷ 13 ∷ []) ∷
     -- 4: step 0 is not in use; 5: kind 4; 6: a step's bit is 2
     (noAlarm, 4 ∷ []) ∷
-    (withSteps u (u .last) (u .used) (set (u .kinds) 1 4) (u .contents) (u .own), 5 ∷ []) ∷
-    (withSteps t (t .last) (t .used) (t .kinds) (t .contents) (set (t .own) 0 2), 6 ∷ []) ∷
+    (withSteps u (u .last) (u .used) (set (u .kinds) 1 4) (u .contents) (u .own) (u .cabins), 5 ∷ []) ∷
+    (withSteps t (t .last) (t .used) (t .kinds) (t .contents) (set (t .own) 0 2) (t .cabins), 6 ∷ []) ∷
     -- 7: a link's bit is 2 (and so it is neither counted nor strong); 8: a link leads to a free step; 9: an empty exit has a bit
     (withLinks u (u .targets) (set (u .bits) 0 2) (u .counts), 7 ∷ 11 ∷ 13 ∷ []) ∷
     (withLinks t (set (t .targets) 0 2) (t .bits) (t .counts), 8 ∷ []) ∷
     (withLinks t (t .targets) (set (t .bits) 0 1) (t .counts), 9 ∷ []) ∷
     -- 10: a free step has a content; 11: counter 0 of step 1 is 2
-    (withSteps t (t .last) (t .used) (t .kinds) (set (t .contents) 1 1) (t .own), 10 ∷ []) ∷
+    (withSteps t (t .last) (t .used) (t .kinds) (set (t .contents) 1 1) (t .own) (t .cabins), 10 ∷ []) ∷
     (withLinks u (u .targets) (u .bits) (set (u .counts) 2 2), 11 ∷ []) ∷
     -- 12: step 1 has a strong link to itself; 13: the one link to step 1 is weak
     (withLinks u (set (u .targets) 4 1) (u .bits) (set (u .counts) 2 2), 12 ∷ []) ∷
     (withLinks u (u .targets) (set (u .bits) 0 1) (set (set (u .counts) 2 0) 3 1), 13 ∷ []) ∷
+    -- W5. 0: a cabin, or a number of the quotas, is missing; 10: a free step has a cabin
+    (withSteps t (t .last) (t .used) (t .kinds) (t .contents) (t .own) (take 127 (t .cabins)), 0 ∷ []) ∷
+    (withNumbers t 4 0 (take 15 (t .quotas)), 0 ∷ []) ∷
+    (withSteps t (t .last) (t .used) (t .kinds) (t .contents) (t .own) (set (t .cabins) 1 1), 10 ∷ []) ∷
+    -- 14: a guarantee is above its limit; the guarantees together are 4, and so too few steps are free for them
+    (withNumbers t 4 0 (3 ∷ 2 ∷ replicate 14 0), 14 ∷ []) ∷
+    (withNumbers t 4 0 (2 ∷ 2 ∷ 2 ∷ 2 ∷ replicate 12 0), 14 ∷ 17 ∷ []) ∷
+    -- 15: the cabin of step 1 is 8, with no guarantee for cabin 0; 16: step 0 has a cabin
+    (withNumbers (withSteps u (u .last) (u .used) (u .kinds) (u .contents) (u .own) (set (u .cabins) 1 8)) 4 1 (0 ∷ 3 ∷ replicate 14 0), 15 ∷ []) ∷
+    (withSteps t (t .last) (t .used) (t .kinds) (t .contents) (t .own) (set (t .cabins) 0 1), 16 ∷ []) ∷
+    -- 17: cabin 0 is charged 1 with a limit of 0; 2 steps are free, and cabin 1 is guaranteed 3
+    (withNumbers u 4 1 (replicate 16 0), 17 ∷ []) ∷
+    (withNumbers u 4 1 (0 ∷ 3 ∷ 3 ∷ 3 ∷ replicate 12 0), 17 ∷ []) ∷
     []
 
 unfoldable pub failAsSaid : List (Table × List ℕ) → Bool

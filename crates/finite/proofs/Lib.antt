@@ -5,3 +5,4 @@ pub mod Reach
 pub mod Select
 pub mod Loops
 pub mod Packed
+pub mod Totals

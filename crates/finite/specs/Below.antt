@@ -6,6 +6,7 @@
 --   lowest n p     the lowest number below n that passes p, or n where none does
 --   rounds n f a   a, changed by f 0, then by f 1, .. up to f (n - 1)
 --   tabulate n f   the list f 0, f 1, .. f (n - 1)
+--   total n f      f 0 + f 1 + .. up to f (n - 1)
 --   passes tests   all tests of a list are passed
 --   one b          1 for a test that is passed, 0 for one that is not
 use mathlib.Core.Bool.{Bool, true, false, _&&_, _||_}
@@ -27,6 +28,10 @@ one false = 0
 unfoldable pub count : ℕ → (ℕ → Bool) → ℕ
 count zero p = 0
 count (suc n) p = count n p + one (p n)
+
+unfoldable pub total : ℕ → (ℕ → ℕ) → ℕ
+total zero f = 0
+total (suc n) f = total n f + f n
 
 unfoldable pub find : ℕ → (ℕ → ℕ) → ℕ → (ℕ → Bool) → ℕ
 find zero next k p = k

@@ -27,12 +27,12 @@ use Rattle.table.proofs.Trials.{trial-refusal-given}
 use Rattle.table.proofs.Calls.{done, next, first-same, past-sound, unless-zero, unless-refused, add-refusal, link-refusal, clear-refusal, read-refusal, trial-refusal, add-fits, link-fits, clear-fits, number-plan, add-sound, add-plan, link-sound, link-plan, clear-cleared, clear-plan}
 use Rattle.table.specs.Squeeze.{squeezeCall}
 use Rattle.table.proofs.Squeeze.{squeeze-fits, squeeze-sound, squeeze-plan, squeeze-refusal}
-use Rattle.image.specs.Image.{imageSize, imageLength, writeRefusal, writeCall}
+use Rattle.image.specs.Image.{writtenEdition, imageSize, imageLength, writeRefusal, writeCall}
 use Rattle.keyline.specs.declared.Command.{Command}
 use Rattle.keyline.specs.declared.Command.the-variants.{Add, Link, Clear, Count}
 use Rattle.keyline.specs.declared.Decoded.{Decoded}
 use Rattle.keyline.specs.declared.Decoded.the-variants.{Line, Nothing}
-use Rattle.keyline.specs.Keys.{decode, callDigit, spokenCounts, perform, performLine, keyCall}
+use Rattle.keyline.specs.Keys.{keyCabin, decode, callDigit, spokenCounts, perform, performLine, keyCall}
 use Rattle.history.specs.History.{Call, add, link, clear, read, trial, write, keyLine, squeeze, onlyRefusal, heardAs, callOf, ran, run, Drawn, drawUnless, drawAdd, drawLink, drawClear, drawCount, drawSqueeze, unchanged, planWriteRefusal, drawCommand, drawLine, draw}
 
 -- an outcome and what is drawn beside it
@@ -41,11 +41,11 @@ record Beside (digit : ℕ) (o : Outcome) (d : Drawn) : Type 0 where
   plan : planOf (o .table) ≡ d .plan
   heard : heardAs digit (o .answer) ≡ d .heard
 
-cond-same : (b : Bool) → _≡_ {A = ℕ} (cond b 0 0) 0
+pub cond-same : (b : Bool) → _≡_ {A = ℕ} (cond b 0 0) 0
 cond-same true = refl
 cond-same false = refl
 
-heard-refused : (digit n : ℕ) → heardAs digit (Refused n) ≡ onlyRefusal n
+pub heard-refused : (digit n : ℕ) → heardAs digit (Refused n) ≡ onlyRefusal n
 unfolding heardAs onlyRefusal refusalOf firstOf secondOf
 heard-refused digit n =
     λ i.
@@ -70,13 +70,17 @@ beside-unless {t} digit n m o d s q f =
     (eq-or-ne n 0)
 
 module _ {t : Table} (s : Sound t) where
-  beside-add : (holder e kind content : ℕ) → Beside 1 (addCall t holder e kind content) (drawAdd (planOf t) holder e kind content)
+  beside-add : (holder e kind content cabin : ℕ) → Beside 1 (addCall t holder e kind content cabin) (drawAdd (planOf t) holder e kind content cabin)
   unfolding addCall drawAdd
-  beside-add holder e kind content =
-      beside-unless 1 _ _ _ _ s (add-refusal s holder e kind content)
+  beside-add holder e kind content cabin =
+      beside-unless 1 _ _ _ _ s (add-refusal s holder e kind content cabin)
       (λ z.
-      let f = add-fits t holder e kind content z in
-      record { sound = add-sound s holder e kind content f; plan = add-plan s holder e kind content f; heard = given-heard (number-plan s) })
+      let f = add-fits t holder e kind content cabin z in
+      record {
+        sound = add-sound s holder e kind content cabin f;
+        plan = add-plan s holder e kind content cabin f;
+        heard = given-heard (number-plan s);
+      })
     where
       given-heard : {n m : ℕ} → n ≡ m → heardAs 1 (Given n 0) ≡ record { refusal = 0; given = m; freed = 0; spokenUsed = 0; spokenFree = 0 }
       given-heard q = unfold heardAs refusalOf firstOf secondOf in (λ i. record { refusal = 0; given = q i; freed = 0; spokenUsed = 0; spokenFree = 0 })
@@ -131,7 +135,7 @@ module _ {t : Table} (s : Sound t) where
 
   beside-command : (c : Command) → Beside (callDigit c) (perform t c) (drawCommand (planOf t) c)
   unfolding callDigit perform drawCommand
-  beside-command (Add holder e kind content) = beside-add holder e kind content
+  beside-command (Add holder e kind content) = beside-add holder e kind content keyCabin
   beside-command (Link source e second f) = beside-link source e second f
   beside-command (Clear i e) = beside-clear i e
   beside-command Count = beside-count
@@ -146,13 +150,13 @@ module _ {t : Table} (s : Sound t) where
   beside-keys bs = rw (unless-zero _ t (performLine t (decode bs)) (past-sound s [] ∙ (unfold first in refl))) (beside-line (decode bs))
 
   -- a squeeze gives no number
-  beside-squeeze : (c : ℕ) → Beside 0 (squeezeCall t c) (drawSqueeze (planOf t) c)
+  beside-squeeze : (c : ℕ) (q : List ℕ) → Beside 0 (squeezeCall t c q) (drawSqueeze (planOf t) c q)
   unfolding squeezeCall drawSqueeze
-  beside-squeeze c =
-      beside-unless 0 _ _ _ _ s (squeeze-refusal s c)
+  beside-squeeze c q =
+      beside-unless 0 _ _ _ _ s (squeeze-refusal s c q)
       (λ z.
-      let f = squeeze-fits t c z in
-      record { sound = squeeze-sound s c f; plan = squeeze-plan s c f; heard = (unfold heardAs onlyRefusal refusalOf firstOf secondOf in refl) })
+      let f = squeeze-fits s c q z in
+      record { sound = squeeze-sound s c q (f .roomy) (f .charges); plan = squeeze-plan s c q (f .roomy); heard = (unfold heardAs onlyRefusal refusalOf firstOf secondOf in refl) })
 
   read-heard : (i : ℕ) → readCall t i .refusal ≡ planReadRefusal (planOf t) i
   unfolding readCall
@@ -164,7 +168,7 @@ module _ {t : Table} (s : Sound t) where
   write-refusal : (room : ℕ) → writeRefusal t room ≡ planWriteRefusal (planOf t) room
   unfolding writeRefusal planWriteRefusal imageLength
   write-refusal room =
-      past-sound s _ ∙ first-same (next (ap (λ (n : ℕ). ltb room (imageSize n)) (sym (plan-count (sound-wired s)))) (λ _. done))
+      past-sound s _ ∙ first-same (next (ap (λ (n : ℕ). ltb room (imageSize writtenEdition n)) (sym (plan-count (sound-wired s)))) (λ _. done))
 
   written-refusal : (buffer : List ℕ) → refusalOf (writeCall t buffer .answer) ≡ writeRefusal t (length buffer)
   unfolding writeCall refusalOf
@@ -182,7 +186,7 @@ pub record Agrees (t : Table) (c : Call) : Type 0 where
 
 pub call-agrees : {t : Table} → Sound t → (c : Call) → Agrees t c
 unfolding run ran draw unchanged
-call-agrees s (add holder e kind content) = let b = beside-add s holder e kind content in record { sound = b .sound; plan = b .plan; heard = b .heard }
+call-agrees s (add holder e kind content cabin) = let b = beside-add s holder e kind content cabin in record { sound = b .sound; plan = b .plan; heard = b .heard }
 call-agrees s (link source e second f) = let b = beside-link s source e second f in record { sound = b .sound; plan = b .plan; heard = b .heard }
 call-agrees s (clear i e) = let b = beside-clear s i e in record { sound = b .sound; plan = b .plan; heard = b .heard }
 call-agrees s (read i) = record { sound = s; plan = refl; heard = ap onlyRefusal (read-heard s i) }
@@ -190,4 +194,4 @@ call-agrees s (trial limit results trace) = record { sound = s; plan = refl; hea
 call-agrees s (write buffer) =
     record { sound = s; plan = refl; heard = ap onlyRefusal (written-refusal s buffer ∙ write-refusal s (length buffer)) }
 call-agrees s (keyLine bs) = let b = beside-keys s bs in record { sound = b .sound; plan = b .plan; heard = b .heard }
-call-agrees s (squeeze c) = let b = beside-squeeze s c in record { sound = b .sound; plan = b .plan; heard = b .heard }
+call-agrees s (squeeze c q) = let b = beside-squeeze s c q in record { sound = b .sound; plan = b .plan; heard = b .heard }

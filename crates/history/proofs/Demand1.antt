@@ -16,7 +16,7 @@ use Rattle.table.specs.Trial.{trialConditions, trialRefusal}
 use Rattle.table.specs.Clear.{stops, repaired, cleared, clearRefusal, clearCall}
 use Rattle.table.specs.Squeeze.{squeezeRefusal, squeezeCall}
 use Rattle.table.specs.Table.{Table}
-use Rattle.table.proofs.Calls.{nonzero, unless-zero, unless-refused, read-refused, trial-refused}
+use Rattle.table.proofs.Calls.{nonzero, first-append, unless-zero, unless-refused, read-refused, trial-refused}
 use Rattle.table.proofs.Trials.{trial-refusal-given}
 use Rattle.image.specs.Image.{writeConditions, writeRefusal, writeCall, loadCall}
 use Rattle.image.proofs.Laws.{write-refused, write-made}
@@ -59,19 +59,6 @@ first-held (x ∷ xs) d = turn (first-held xs (and-right (not (eqb (x .1) 0)) (n
         (λ j l. absurd (omega arith)))
     turn r false p = subst answer (sym p) (past (first xs) p r)
 
--- two orders, one after the other
-first-append : (xs ys : List (Bool × ℕ)) → nonzero xs ≡ true → first (xs ++ ys) ≡ cond (eqb (first xs) 0) (first ys) (first xs)
-unfolding first nonzero
-first-append [] ys d = refl
-first-append (x ∷ xs) ys d =
-    turn (x .0) (ne-eqb (x .1) 0 (eqb-false (x .1) 0 (not-true-false _ (and-left (not (eqb (x .1) 0)) (nonzero xs) d))))
-    (first-append xs ys (and-right (not (eqb (x .1) 0)) (nonzero xs) d))
-  where
-    turn : (b : Bool) → eqb (x .1) 0 ≡ false → first (xs ++ ys) ≡ cond (eqb (first xs) 0) (first ys) (first xs) →
-        cond b (x .1) (first (xs ++ ys)) ≡ cond (eqb (cond b (x .1) (first xs)) 0) (first ys) (cond b (x .1) (first xs))
-    turn true z r = rw z
-    turn false z r = r
-
 nonzero-append : (xs ys : List (Bool × ℕ)) → nonzero xs ≡ true → nonzero ys ≡ true → nonzero (xs ++ ys) ≡ true
 unfolding nonzero
 nonzero-append [] ys d e = e
@@ -86,7 +73,7 @@ unless-unless n m t o =
     (eq-or-ne n 0)
 
 -- a call that is lent nothing: the number of its refusal, and what it does where it is refused
-told-refusal : (n : ℕ) (t : Table) (o : Outcome) → refusalOf (o .answer) ≡ 0 → told (unless n t o) .refusal ≡ n
+pub told-refusal : (n : ℕ) (t : Table) (o : Outcome) → refusalOf (o .answer) ≡ 0 → told (unless n t o) .refusal ≡ n
 unfolding told
 told-refusal n t o a =
     ⊎-elim
@@ -116,13 +103,13 @@ unfolding refusalOf repaired
 cleared-given t i e = ⊎-elim (λ (h : stops t i e ≡ true). rw h) (λ (h : stops t i e ≡ false). rw h) (test (stops t i e))
 
 -- a decoded line as one outcome: refused by the conditions of its call, or accepted
-record Performed (t : Table) (d : Decoded) : Type 0 where
-  outcome : Outcome
-  given : refusalOf (outcome .answer) ≡ 0
-  same : performLine t d ≡ unless (first (lineConditions t d)) t outcome
-  numbers : nonzero (lineConditions t d) ≡ true
+pub record Performed (t : Table) (d : Decoded) : Type 0 where
+  pub outcome : Outcome
+  pub given : refusalOf (outcome .answer) ≡ 0
+  pub same : performLine t d ≡ unless (first (lineConditions t d)) t outcome
+  pub numbers : nonzero (lineConditions t d) ≡ true
 
-performed : (t : Table) (d : Decoded) → Performed t d
+pub performed : (t : Table) (d : Decoded) → Performed t d
 unfolding performLine lineConditions callConditions perform refusalOf unless first nonzero
 performed t Nothing = record { outcome = spokenCounts t; given = (unfold spokenCounts in refl); same = refl; numbers = refl }
 performed t (Line (Add holder e kind content)) =
@@ -177,10 +164,10 @@ write-demand t buffer =
 
 pub demand-1 : (t : Table) (a : Act) → Demand1 t a
 unfolding doneBy callDone conditionsOf refusedBy nothingDone answerSize lentTo nonzero
-demand-1 t (begin (fresh c)) = (unfold freshCall refusalOf in outcome-demand t _ (begin (fresh c)) _ _ refl refl refl refl (λ n. refl))
+demand-1 t (begin (fresh c q)) = (unfold freshCall refusalOf in outcome-demand t _ (begin (fresh c q)) _ _ refl refl refl refl (λ n. refl))
 demand-1 t (begin (load bs)) = (unfold loadCall refusalOf in outcome-demand t _ (begin (load bs)) _ _ refl refl refl refl (λ n. refl))
-demand-1 t (call (add holder e kind content)) =
-    (unfold addCall addRefusal refusalOf in outcome-demand t t (call (add holder e kind content)) _ _ refl refl refl refl (λ n. refl))
+demand-1 t (call (add holder e kind content cabin)) =
+    (unfold addCall addRefusal refusalOf in outcome-demand t t (call (add holder e kind content cabin)) _ _ refl refl refl refl (λ n. refl))
 demand-1 t (call (link source e second f)) =
     (unfold linkCall linkRefusal refusalOf in outcome-demand t t (call (link source e second f)) _ _ refl refl refl refl (λ n. refl))
 demand-1 t (call (clear i e)) =
@@ -189,5 +176,5 @@ demand-1 t (call (read i)) = read-demand t i
 demand-1 t (call (trial limit results trace)) = trial-demand t limit results trace
 demand-1 t (call (write buffer)) = write-demand t buffer
 demand-1 t (call (keyLine bs)) = key-demand t bs
-demand-1 t (call (squeeze c)) =
-    (unfold squeezeCall squeezeRefusal refusalOf in outcome-demand t t (call (squeeze c)) _ _ refl refl refl refl (λ n. refl))
+demand-1 t (call (squeeze c q)) =
+    (unfold squeezeCall squeezeRefusal refusalOf in outcome-demand t t (call (squeeze c q)) _ _ refl refl refl refl (λ n. refl))

@@ -30,21 +30,21 @@ use Rattle.table.proofs.Follow.{renumbered-follows, used-new-step, follow-stron
 use Rattle.table.proofs.Squeeze.{squeeze-made, squeeze-answer, squeeze-fits, squeeze-sound, squeeze-plan}
 use Rattle.table.proofs.Squeezed.{squeeze-refusal-same, squeeze-twice, squeeze-trial}
 use Rattle.table.proofs.SqueezeClear.{squeeze-clear}
-use Rattle.image.specs.Image.{image, imageLength, WriteOutcome, written, writeCall, imageTable, accepted, loadCall, Bytes}
-use Rattle.image.proofs.Laws.{image-length, write-made, room-enough, load-encode, accepted-sound, accepted-rewritten, image-ascending, image-equal, accepted-only, loaded-equal}
+use Rattle.image.specs.Image.{Edition, edition1, edition2, writtenEdition, editionIn, SameRecords, image, imageLength, WriteOutcome, written, writeCall, imageTable, accepted, loadCall, Bytes}
+use Rattle.image.proofs.Laws.{written-length, image-edition, edition1-says, write-made, room-enough, load-written, accepted-sound, accepted-rewritten, image-ascending, image-equal, accepted-only, loaded-equal}
 use Rattle.keyline.specs.Keys.{spokenCounts}
 use Rattle.keyline.proofs.Laws.{spoken-plan}
-use Rattle.history.specs.Demands.{AddDemand, LinkDemand, ClearDemand, CountDemand, SqueezeDemand, TwiceDemand, WriteDemand, EqualDemand, LoadDemand, SameTableDemand}
+use Rattle.history.specs.Demands.{AddDemand, LinkDemand, ClearDemand, CountDemand, SqueezeDemand, TwiceDemand, WriteDemand, EqualDemand, LoadDemand, OldDemand, SameTableDemand}
 
-pub add-demand : (t : Table) → Sound t → (holder e kind content : ℕ) → addRefusal t holder e kind content ≡ 0 →
-    AddDemand t holder e kind content (addCall t holder e kind content)
+pub add-demand : (t : Table) → Sound t → (holder e kind content cabin : ℕ) → addRefusal t holder e kind content cabin ≡ 0 →
+    AddDemand t holder e kind content cabin (addCall t holder e kind content cabin)
 unfolding addCall
-add-demand t s holder e kind content z =
-    let f = add-fits t holder e kind content z in
+add-demand t s holder e kind content cabin z =
+    let f = add-fits t holder e kind content cabin z in
     rw (unless-zero _ t _ z)
     (record {
-      sound = add-sound s holder e kind content f;
-      plan = add-plan s holder e kind content f;
+      sound = add-sound s holder e kind content cabin f;
+      plan = add-plan s holder e kind content cabin f;
       answer = ap (λ (n : ℕ). Given n 0) (number-plan s);
     })
 
@@ -56,18 +56,19 @@ link-demand t s source e second f z =
     rw (unless-zero _ t _ z)
     (record { sound = link-sound s source e second f g; plan = link-plan s source e second f g; answer = refl })
 
-pub squeeze-demand : (t : Table) → Sound t → (c : ℕ) → squeezeRefusal t c ≡ 0 → SqueezeDemand t c (squeezeCall t c)
+pub squeeze-demand : (t : Table) → Sound t → (c : ℕ) (q : List ℕ) → squeezeRefusal t c q ≡ 0 → SqueezeDemand t c q (squeezeCall t c q)
 unfolding squeezed
-squeeze-demand t s c z =
-    let f = squeeze-fits t c z in
+squeeze-demand t s c q z =
+    let f = squeeze-fits s c q z in
     let w = sound-wired s in
-    let r = squeezed-renumbered w c in
-    rw (squeeze-made t c z)
+    let r = squeezed-renumbered w c q in
+    rw (squeeze-made t c q z)
     (record {
-      sound = squeeze-sound s c f;
-      plan = squeeze-plan s c f;
+      sound = squeeze-sound s c q (f .roomy) (f .charges);
+      plan = squeeze-plan s c q (f .roomy);
       answer = refl;
       capacity = refl;
+      quotas = refl;
       last = let n = new-below w 0 (s .alarm) in omega arith;
       moved = r;
       each = used-new-step w (s .alarm) (renumbered-follows r);
@@ -75,24 +76,28 @@ squeeze-demand t s c z =
       strengths = λ i e u l. follow-strong w (s .alarm) (renumbered-follows r) i e u l;
     })
 
-pub twice-demand : (t : Table) → Sound t → (c : ℕ) → squeezeRefusal t c ≡ 0 → (d : ℕ) → TwiceDemand t d (squeezeCall (squeezeCall t c .table) d)
-twice-demand t s c z d =
-    let f = squeeze-fits t c z in
-    let same = squeeze-refusal-same s c f d in
-    rw (squeeze-made t c z)
+pub twice-demand : (t : Table) → Sound t → (c : ℕ) (q : List ℕ) → squeezeRefusal t c q ≡ 0 → (d : ℕ) (l : List ℕ) →
+    TwiceDemand t d l (squeezeCall (squeezeCall t c q .table) d l)
+twice-demand t s c q z d l =
+    let f = squeeze-fits s c q z in
+    let same = squeeze-refusal-same s c q f d l in
+    rw (squeeze-made t c q z)
     (record {
-      answer = squeeze-answer (squeezed t c) t d same;
-      table = λ y. ap (λ (o : Outcome). o .table) (squeeze-made (squeezed t c) d (same ∙ y)) ∙ squeeze-twice s c f d ∙ sym (ap (λ (o : Outcome). o .table) (squeeze-made t d y));
+      answer = squeeze-answer (squeezed t c q) t d l same;
+      table =
+          λ y.
+          ap (λ (o : Outcome). o .table) (squeeze-made (squeezed t c q) d l (same ∙ y)) ∙ squeeze-twice s c q f d l
+          ∙ sym (ap (λ (o : Outcome). o .table) (squeeze-made t d l y));
     })
 
 -- what a squeezed table does: trials and clearings, under the new numbers
-pub squeezed-trial : (t : Table) → Sound t → (c : ℕ) → squeezeRefusal t c ≡ 0 → (limit : ℕ) (results trace : List ℕ) →
-    trialCall (squeezeCall t c .table) limit results trace ≡ underNumbers (newNumber t) (trialCall t limit results trace)
-squeezed-trial t s c z limit results trace = rw (squeeze-made t c z) (squeeze-trial s c (squeeze-fits t c z) limit results trace)
+pub squeezed-trial : (t : Table) → Sound t → (c : ℕ) (q : List ℕ) → squeezeRefusal t c q ≡ 0 → (limit : ℕ) (results trace : List ℕ) →
+    trialCall (squeezeCall t c q .table) limit results trace ≡ underNumbers (newNumber t) (trialCall t limit results trace)
+squeezed-trial t s c q z limit results trace = rw (squeeze-made t c q z) (squeeze-trial s c q (squeeze-fits s c q z) limit results trace)
 
-pub squeezed-clear : (t : Table) → Sound t → (c : ℕ) → squeezeRefusal t c ≡ 0 → (i e : ℕ) → inUse t i ≡ true →
-    ClearsAlike t (clearCall t i e) (clearCall (squeezeCall t c .table) (newNumber t i) e)
-squeezed-clear t s c z i e u = rw (squeeze-made t c z) (squeeze-clear s c (squeeze-fits t c z) i e u)
+pub squeezed-clear : (t : Table) → Sound t → (c : ℕ) (q : List ℕ) → squeezeRefusal t c q ≡ 0 → (i e : ℕ) → inUse t i ≡ true →
+    ClearsAlike t (clearCall t i e) (clearCall (squeezeCall t c q .table) (newNumber t i) e)
+squeezed-clear t s c q z i e u = rw (squeeze-made t c q z) (squeeze-clear s c q (squeeze-fits s c q z) i e u)
 
 -- a computed reach and its chains
 reach-iff : (t : Table) → ((a b : ℕ) → linked t a b ≡ true → b < t .capacity) → 0 < t .capacity → (k : ℕ) →
@@ -138,47 +143,60 @@ pub count-demand : (t : Table) → Sound t → CountDemand t (spokenCounts t)
 count-demand t s = rw (spoken-plan t s) (record { same = refl; spoken = refl })
 
 -- what write leaves in a buffer that has the room: the bytes written are the image
-written-image : (t : Table) → Sound t → (buffer : List ℕ) → imageLength t ≤ length buffer → written (writeCall t buffer) ≡ image t
+written-image : (t : Table) → Sound t → (buffer : List ℕ) → imageLength t ≤ length buffer → written (writeCall t buffer) ≡ image writtenEdition t
 unfolding written firstOf
-written-image t s buffer l = rw (write-made t buffer (room-enough t s buffer l)) (take-at (image t) _ (imageLength t) (image-length t))
+written-image t s buffer l =
+    rw (write-made t buffer (room-enough t s buffer l)) (take-at (image writtenEdition t) _ (imageLength t) (written-length t))
 
 pub write-demand : (t : Table) → Sound t → (buffer : List ℕ) → imageLength t ≤ length buffer → WriteDemand t buffer (writeCall t buffer)
 write-demand t s buffer l =
-    let n = image-length t in
-    let w : length (written (writeCall t buffer)) ≡ imageLength t = ap length (written-image t s buffer l) ∙ n in
+    let n = written-length t in
+    let made = written-image t s buffer l in
+    let w : length (written (writeCall t buffer)) ≡ imageLength t = ap length made ∙ n in
     let m = write-made t buffer (room-enough t s buffer l) in
     record {
       answer = ap (λ (o : WriteOutcome). o .answer) m ∙ ap (λ (k : ℕ). Given k 0) (sym w);
-      loads = ap loadCall (written-image t s buffer l) ∙ load-encode t s;
-      past = rw (w, m) (drop-at (image t) _ (imageLength t) n);
-      size = rw m (let a = length-append (image t) (drop (imageLength t) buffer) in let d = length-drop (imageLength t) buffer in omega arith);
+      loads = ap loadCall made ∙ load-written t s;
+      edition = ap editionIn made ∙ image-edition writtenEdition t;
+      past = rw (w, m) (drop-at (image writtenEdition t) _ (imageLength t) n);
+      size =
+          rw m
+          (let a = length-append (image writtenEdition t) (drop (imageLength t) buffer) in let d = length-drop (imageLength t) buffer in omega arith);
     }
 
 pub equal-demand : (t u : Table) → Sound t → Sound u → (a b : List ℕ) → imageLength t ≤ length a → imageLength u ≤ length b →
     EqualDemand t u (writeCall t a) (writeCall u b)
 equal-demand t u s v a b l m =
-    rw (written-image t s a l, written-image u v b m) ((λ e. ap image e), image-equal t u s v)
+    rw (written-image t s a l, written-image u v b m) ((λ e. ap (image writtenEdition) e), image-equal t u s v)
 
 -- an accepted image is loaded as its table
 loaded-table : (bs : List ℕ) → accepted bs ≡ true → loadCall bs .table ≡ imageTable bs
 unfolding loadCall unless first
 loaded-table bs a = rw a
 
-pub load-demand : (bs : List ℕ) → Bytes bs → accepted bs ≡ true → (buffer : List ℕ) → length bs ≤ length buffer →
+pub load-demand : (bs : List ℕ) → Bytes bs → accepted bs ≡ true → editionIn bs ≡ edition2 → (buffer : List ℕ) → length bs ≤ length buffer →
     LoadDemand bs (writeCall (loadCall bs .table) buffer)
-load-demand bs by a buffer l =
+load-demand bs by a e buffer l =
     let t = imageTable bs in
     let s = test-sound t (accepted-sound bs a) in
-    let r = accepted-rewritten bs by a in
-    let n : imageLength t ≡ length bs = sym (image-length t) ∙ sym (r .size) in
+    let same : image (editionIn bs) t ≡ image writtenEdition t = ap (λ (v : Edition). image v t) e in
+    let r : SameRecords bs (image writtenEdition t) = rw same at (accepted-rewritten bs by a) in
+    let n : imageLength t ≡ length bs = sym (written-length t) ∙ sym (r .size) in
     let w = written-image t s buffer (rw n l) in
     rw (loaded-table bs a)
     (record {
       answer = write-demand t s buffer (rw n l) .answer ∙ ap (λ (k : ℕ). Given k 0) (ap length w ∙ sym (r .size));
       records = rw w r;
-      ascending = rw w (image-ascending t);
-      only = λ cs x y. rw w (accepted-only bs by a cs x y);
+      ascending = rw w (image-ascending writtenEdition t);
+      only = λ cs x y. rw w (accepted-only bs by a cs x y ∙ same);
     })
 
-pub same-table-demand : (bs cs : List ℕ) → Bytes bs → Bytes cs → accepted bs ≡ true → accepted cs ≡ true → SameTableDemand bs cs (loadCall bs) (loadCall cs)
-same-table-demand bs cs by cy a c = rw (loaded-table bs a, loaded-table cs c) (loaded-equal bs by a cs cy c)
+pub old-demand : (bs : List ℕ) → Bytes bs → accepted bs ≡ true → editionIn bs ≡ edition1 → OldDemand bs (loadCall bs)
+old-demand bs by a e =
+    let one = edition1-says bs a e in
+    let same : image (editionIn bs) (imageTable bs) ≡ image edition1 (imageTable bs) = ap (λ (v : Edition). image v (imageTable bs)) e in
+    rw (loaded-table bs a) (record { quotas = one .quotas; cabins = one .cabins; records = rw same at (accepted-rewritten bs by a) })
+
+pub same-table-demand : (bs cs : List ℕ) → Bytes bs → Bytes cs → accepted bs ≡ true → accepted cs ≡ true → editionIn bs ≡ editionIn cs →
+    SameTableDemand bs cs (loadCall bs) (loadCall cs)
+same-table-demand bs cs by cy a c e = rw (loaded-table bs a, loaded-table cs c) (loaded-equal bs by a cs cy c e)

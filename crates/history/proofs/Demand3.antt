@@ -1,17 +1,18 @@
 -- Histories from any beginning: sound throughout, and as the plan says. Assumes nothing.
-use mathlib.Core.Path.{_≡_, refl, _∙_, ap, ap₂}
-use mathlib.Core.Bool.{Bool, true, false, not, cond}
+use mathlib.Core.Path.{_≡_, refl, sym, _∙_, ap, ap₂, subst}
+use mathlib.Core.Bool.{true, false}
 use mathlib.Core.Logic.{⊎-elim}
 use mathlib.Core.List.{List, [], _∷_}
 use Prim.Native.Nat.{ℕ, _<_}
 use native.Mathlib.Omega.{arith}
-use lib.Dec.{eqb}
+use Rattle.finite.specs.Below.{all, total}
 use Rattle.finite.proofs.Bools.{test}
-use Rattle.table.specs.declared.Answer.the-variants.{Given, Refused}
 use Rattle.table.specs.Table.{Table, places, counters, inUse, counterOf, linksTo, stepsInUse, StrongChain}
 use Rattle.table.specs.Sound.{Sound, sound, capacityFits}
-use Rattle.table.specs.Answer.{Outcome, badCapacity, notAccepted, first, unless, refusalOf}
-use Rattle.table.specs.Calls.{freshTable, freshCall}
+use Rattle.table.specs.Cabins.{guaranteeOf, limitOf, quotasFit, listFits, soleQuotas}
+use Rattle.table.specs.declared.Answer.the-variants.{Given, Refused}
+use Rattle.table.specs.Answer.{Outcome, badCapacity, badCabins, notAccepted, first, unless, refusalOf}
+use Rattle.table.specs.Calls.{freshTable, refusedTable, freshCall}
 use Rattle.table.specs.Plan.{Plan, planOf, freshPlan}
 use Rattle.table.proofs.Sound.{capacity-range, test-sound, sound-test}
 use Rattle.table.proofs.Formed.{sound-formed}
@@ -24,67 +25,69 @@ use Rattle.history.specs.History.{First, fresh, load, Call, run, tableAf
 use Rattle.history.specs.Demands.{Demand3}
 use Rattle.history.proofs.Agree.{call-agrees}
 
--- a call with one refusal: accepted or refused
-only-passed : (c : Bool) (n : ℕ) (t : Table) (o : Outcome) → c ≡ true → unless (first ((not c, n) ∷ [])) t o ≡ o
-unfolding unless first
-only-passed c n t o h = rw h
+-- what a refused fresh or load hands back
+refused-sound : Sound refusedTable
+unfolding refusedTable listFits quotasFit guaranteeOf limitOf soleQuotas all total
+refused-sound = sound-fresh 1 (soleQuotas 1) (omega arith) (omega arith) refl
 
-only-failed : (c : Bool) (n : ℕ) (t : Table) (o : Outcome) → eqb n 0 ≡ false → c ≡ false → unless (first ((not c, n) ∷ [])) t o ≡ record { answer = Refused n; table = t }
-unfolding unless first
-only-failed c n t o z h = rw (h, z)
-
--- a statement about the table of such a call: where it is accepted, and where it is refused
-only : (P : Outcome → Type 0) (c : Bool) (n : ℕ) (t : Table) (o : Outcome) → eqb n 0 ≡ false → (c ≡ true → P o) →
-    (c ≡ false → P (record { answer = Refused n; table = t })) → P (unless (first ((not c, n) ∷ [])) t o)
-only P c n t o z passed failed =
-    ⊎-elim (λ h. rw (only-passed c n t o h) (passed h)) (λ h. rw (only-failed c n t o z h) (failed h)) (test c)
+refused-plan : planOf refusedTable ≡ freshPlan 1 (soleQuotas 1)
+unfolding refusedTable
+refused-plan = plan-fresh 1 (soleQuotas 1)
 
 -- what a history begins with is sound, and its plan is the plan that it begins with
-record Begun (f : First) : Type 0 where
-  sound : Sound (firstTable f)
+pub record Begun (f : First) : Type 0 where
+  pub sound : Sound (firstTable f)
   plan : planOf (firstTable f) ≡ firstPlan f
   refusal : firstRefusal f ≡ planFirstRefusal f
 
-begun : (f : First) → Begun f
-begun (fresh c) =
-    record {
-      sound =
-          (unfold firstTable freshCall in
-          only (λ o. Sound (o .table)) (capacityFits c) badCapacity (freshTable 1) (record { answer = Given 0 0; table = freshTable c }) refl
-          (λ h. let r = capacity-range c h in sound-fresh c (r .0) (r .1))
-          (λ h. sound-fresh 1 (omega arith) (omega arith)));
-      plan =
-          (unfold firstTable firstPlan freshCall in
-          only (λ o. planOf (o .table) ≡ freshPlan (cond (capacityFits c) c 1)) (capacityFits c) badCapacity (freshTable 1) (record { answer = Given 0 0; table = freshTable c }) refl
-          (λ h. rw h (plan-fresh c))
-          (λ h. rw h (plan-fresh 1)));
-      refusal =
-          (unfold firstRefusal planFirstRefusal freshCall in
-          only (λ o. refusalOf (o .answer) ≡ first ((not (capacityFits c), badCapacity) ∷ [])) (capacityFits c) badCapacity (freshTable 1) (record { answer = Given 0 0; table = freshTable c }) refl
-          (λ h. rw h (unfold refusalOf first in refl))
-          (λ h. rw h (unfold refusalOf first in refl)));
-    }
-begun (load bs) =
-    record {
-      sound =
-          (unfold firstTable loadCall in
-          only (λ o. Sound (o .table)) (accepted bs) notAccepted (freshTable 1) (record { answer = Given 0 0; table = imageTable bs }) refl
-          (λ h. test-sound (imageTable bs) (accepted-sound bs h))
-          (λ h. sound-fresh 1 (omega arith) (omega arith)));
-      plan =
-          (unfold firstTable firstPlan loadCall in
-          only (λ o. planOf (o .table) ≡ cond (accepted bs) (imagePlan bs) (freshPlan 1)) (accepted bs) notAccepted (freshTable 1) (record { answer = Given 0 0; table = imageTable bs }) refl
-          (λ h. rw h (accepted-plan bs h))
-          (λ h. rw h (plan-fresh 1)));
-      refusal =
-          (unfold firstRefusal planFirstRefusal loadCall in
-          only (λ o. refusalOf (o .answer) ≡ first ((not (accepted bs), notAccepted) ∷ [])) (accepted bs) notAccepted (freshTable 1) (record { answer = Given 0 0; table = imageTable bs }) refl
-          (λ h. rw h (unfold refusalOf first in refl))
-          (λ h. rw h (unfold refusalOf first in refl)));
-    }
+-- from what the first call came to
+begun-as : (f : First) (o : Outcome) → firstTable f ≡ o .table → firstRefusal f ≡ refusalOf (o .answer) → Sound (o .table) → planOf (o .table) ≡ firstPlan f →
+    refusalOf (o .answer) ≡ planFirstRefusal f → Begun f
+begun-as f o t r s p n = record { sound = subst Sound (sym t) s; plan = ap planOf t ∙ p; refusal = r ∙ n }
+
+module _ (c : ℕ) (q : List ℕ) where
+  fresh-as : (o : Outcome) → freshCall c q ≡ o → Sound (o .table) → planOf (o .table) ≡ firstPlan (fresh c q) →
+      refusalOf (o .answer) ≡ planFirstRefusal (fresh c q) → Begun (fresh c q)
+  unfolding firstTable firstRefusal
+  fresh-as o e = begun-as (fresh c q) o (ap (λ (x : Outcome). x .table) e) (ap (λ (x : Outcome). refusalOf (x .answer)) e)
+
+  fresh-made : capacityFits c ≡ true → listFits c q ≡ true → Begun (fresh c q)
+  unfolding firstPlan planFirstRefusal freshCall unless first refusalOf
+  fresh-made h g =
+      let r = capacity-range c h in
+      fresh-as (record { answer = Given 0 0; table = freshTable c q }) (rw (h, g)) (sound-fresh c q (r .0) (r .1) g) (rw (h, g) (plan-fresh c q)) (rw (h, g))
+
+  fresh-listed : capacityFits c ≡ true → listFits c q ≡ false → Begun (fresh c q)
+  unfolding firstPlan planFirstRefusal freshCall unless first refusalOf
+  fresh-listed h g =
+      fresh-as (record { answer = Refused badCabins; table = refusedTable }) (rw (h, g)) refused-sound (rw (h, g) refused-plan) (rw (h, g))
+
+  fresh-refused : capacityFits c ≡ false → Begun (fresh c q)
+  unfolding firstPlan planFirstRefusal freshCall unless first refusalOf
+  fresh-refused h = fresh-as (record { answer = Refused badCapacity; table = refusedTable }) (rw h) refused-sound (rw h refused-plan) (rw h)
+
+module _ (bs : List ℕ) where
+  load-as : (o : Outcome) → loadCall bs ≡ o → Sound (o .table) → planOf (o .table) ≡ firstPlan (load bs) →
+      refusalOf (o .answer) ≡ planFirstRefusal (load bs) → Begun (load bs)
+  unfolding firstTable firstRefusal
+  load-as o e = begun-as (load bs) o (ap (λ (x : Outcome). x .table) e) (ap (λ (x : Outcome). refusalOf (x .answer)) e)
+
+  load-made : accepted bs ≡ true → Begun (load bs)
+  unfolding firstPlan planFirstRefusal loadCall unless first refusalOf
+  load-made h =
+      load-as (record { answer = Given 0 0; table = imageTable bs }) (rw h) (test-sound (imageTable bs) (accepted-sound bs h)) (rw h (accepted-plan bs h)) (rw h)
+
+  load-refused : accepted bs ≡ false → Begun (load bs)
+  unfolding firstPlan planFirstRefusal loadCall unless first refusalOf
+  load-refused h = load-as (record { answer = Refused notAccepted; table = refusedTable }) (rw h) refused-sound (rw h refused-plan) (rw h)
+
+pub begun : (f : First) → Begun f
+begun (fresh c q) =
+    ⊎-elim (λ h. ⊎-elim (fresh-made c q h) (fresh-listed c q h) (test (listFits c q))) (fresh-refused c q) (test (capacityFits c))
+begun (load bs) = ⊎-elim (load-made bs) (load-refused bs) (test (accepted bs))
 
 -- along the list, each call on the table as the one before left it
-after-sound : (t : Table) → Sound t → (cs : List Call) → Sound (tableAfter t cs)
+pub after-sound : (t : Table) → Sound t → (cs : List Call) → Sound (tableAfter t cs)
 unfolding tableAfter
 after-sound t s [] = s
 after-sound t s (c ∷ cs) = after-sound (run t c .table) (call-agrees s c .sound) cs

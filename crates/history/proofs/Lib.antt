@@ -3,3 +3,4 @@ pub mod Demand1
 pub mod Agree
 pub mod Demand2
 pub mod Demand3
+pub mod Accounts

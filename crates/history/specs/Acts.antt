@@ -12,7 +12,7 @@ use Rattle.table.specs.Table.{Table}
 use Rattle.table.specs.declared.Fields.{Fields}
 use Rattle.table.specs.declared.Tried.{Tried}
 use Rattle.table.specs.Answer.{Outcome, refusalOf, firstOf, secondOf, triedRefusal, endingOf, lastOf, movesOf}
-use Rattle.table.specs.Calls.{freshTable, freshConditions, freshCall, addConditions, addCall, linkConditions, linkCall, readConditions, readCall}
+use Rattle.table.specs.Calls.{refusedTable, freshConditions, freshCall, addConditions, addCall, linkConditions, linkCall, readConditions, readCall}
 use Rattle.table.specs.Clear.{clearConditions, clearCall}
 use Rattle.table.specs.Trial.{trialConditions, trialCall}
 use Rattle.table.specs.Squeeze.{squeezeConditions, squeezeCall}
@@ -35,16 +35,16 @@ pub record Done : Type 0 where
 unfoldable pub told : Outcome → Done
 told o = record { refusal = refusalOf (o .answer); numbers = firstOf (o .answer) ∷ secondOf (o .answer) ∷ []; lent = []; table = o .table }
 
--- "all its fields": kind, content, own bit, four targets, their four bits, two counters
+-- "all its fields": kind, content, own bit, four targets, their four bits, two counters, the cabin
 unfoldable pub fieldNumbers : Fields → List ℕ
-fieldNumbers f = f .kind ∷ f .content ∷ f .own ∷ (f .targets ++ f .bits ++ f .counts)
+fieldNumbers f = f .kind ∷ f .content ∷ f .own ∷ (f .targets ++ f .bits ++ f .counts ++ (f .cabin ∷ []))
 
 -- "answers which, the last step and the moves made": open is 0, spent is 1, stopped is 2
 unfoldable pub triedNumbers : Tried → List ℕ
 triedNumbers a = endingOf a ∷ lastOf a ∷ movesOf a ∷ []
 
 unfoldable pub callDone : Table → Call → Done
-callDone t (add holder e kind content) = told (addCall t holder e kind content)
+callDone t (add holder e kind content cabin) = told (addCall t holder e kind content cabin)
 callDone t (link source e second f) = told (linkCall t source e second f)
 callDone t (clear i e) = told (clearCall t i e)
 callDone t (read i) =
@@ -57,49 +57,49 @@ callDone t (write buffer) =
     let o = writeCall t buffer in
     record { refusal = refusalOf (o .answer); numbers = firstOf (o .answer) ∷ secondOf (o .answer) ∷ []; lent = o .buffer; table = t }
 callDone t (keyLine bs) = told (keyCall t bs)
-callDone t (squeeze c) = told (squeezeCall t c)
+callDone t (squeeze c quotas) = told (squeezeCall t c quotas)
 
 unfoldable pub doneBy : Table → Act → Done
-doneBy t (begin (fresh c)) = told (freshCall c)
+doneBy t (begin (fresh c quotas)) = told (freshCall c quotas)
 doneBy t (begin (load bs)) = told (loadCall bs)
 doneBy t (call c) = callDone t c
 
 -- how many numbers the answer of a call has, and what the call is lent
 unfoldable pub answerSize : Call → ℕ
-answerSize (add holder e kind content) = 2
+answerSize (add holder e kind content cabin) = 2
 answerSize (link source e second f) = 2
 answerSize (clear i e) = 2
-answerSize (read i) = 13
+answerSize (read i) = 14
 answerSize (trial limit results trace) = 3
 answerSize (write buffer) = 2
 answerSize (keyLine bs) = 2
-answerSize (squeeze c) = 2
+answerSize (squeeze c quotas) = 2
 
 unfoldable pub lentTo : Call → List ℕ
-lentTo (add holder e kind content) = []
+lentTo (add holder e kind content cabin) = []
 lentTo (link source e second f) = []
 lentTo (clear i e) = []
 lentTo (read i) = []
 lentTo (trial limit results trace) = trace
 lentTo (write buffer) = buffer
 lentTo (keyLine bs) = []
-lentTo (squeeze c) = []
+lentTo (squeeze c quotas) = []
 
 -- "A refusal answers its number with all other numbers zero, and changes no table or buffer. Refused fresh and load hand back a fresh table of
 -- capacity 1."
 unfoldable pub refusedBy : ℕ → Table → Act → Done
-refusedBy n t (begin f) = record { refusal = n; numbers = replicate 2 0; lent = []; table = freshTable 1 }
+refusedBy n t (begin f) = record { refusal = n; numbers = replicate 2 0; lent = []; table = refusedTable }
 refusedBy n t (call c) = record { refusal = n; numbers = replicate (answerSize c) 0; lent = lentTo c; table = t }
 
 -- "a call is refused, by number, in the listed cases and in no other"
 unfoldable pub conditionsOf : Table → Act → List (Bool × ℕ)
-conditionsOf t (begin (fresh c)) = freshConditions c
+conditionsOf t (begin (fresh c quotas)) = freshConditions c quotas
 conditionsOf t (begin (load bs)) = loadConditions bs
-conditionsOf t (call (add holder e kind content)) = addConditions t holder e kind content
+conditionsOf t (call (add holder e kind content cabin)) = addConditions t holder e kind content cabin
 conditionsOf t (call (link source e second f)) = linkConditions t source e second f
 conditionsOf t (call (clear i e)) = clearConditions t i e
 conditionsOf t (call (read i)) = readConditions t i
 conditionsOf t (call (trial limit results trace)) = trialConditions t limit results trace
 conditionsOf t (call (write buffer)) = writeConditions t (length buffer)
 conditionsOf t (call (keyLine bs)) = keyConditions t bs
-conditionsOf t (call (squeeze c)) = squeezeConditions t c
+conditionsOf t (call (squeeze c quotas)) = squeezeConditions t c quotas

@@ -2,27 +2,33 @@
 --   FirstHeld cs n      n is the number of the first condition that holds, or 0 where none does
 --   Demand1 t a         of a call made on the table t, or of fresh or load
 --   Demand3 f cs        of the history that begins with f and makes the calls cs
+--   GuaranteeDemand ChargesDemand   of such a history: what a cabin below its guarantee may add, and what the cabins are charged (W5)
 --   AddDemand LinkDemand ClearDemand CountDemand   what an accepted call does on a sound table (demand 2)
 --   SqueezeDemand TwiceDemand   what an accepted squeeze does on a sound table, and a second one (W2)
 --   WriteDemand LoadDemand   both ways of an image, over the calls (demand 2)
 --   EqualDemand SameTableDemand   one table, one image (W1)
+--   OldDemand           an image of edition 1 (W5)
 use mathlib.Core.Path.{_≡_}
 use mathlib.Core.Bool.{Bool, true, false}
 use mathlib.Core.Logic.{_↔_}
 use mathlib.Core.List.{List}
 use Prim.Native.Nat.{ℕ, _+_, _-_, _<_}
 use lib.ListN.{length, getD, drop}
-use Rattle.finite.specs.Below.{count}
+use Rattle.finite.specs.Below.{count, total}
 use Rattle.finite.specs.Reach.{Chain}
 use Rattle.table.specs.declared.Answer.the-variants.{Given}
-use Rattle.table.specs.Answer.{Outcome}
-use Rattle.table.specs.Table.{Table, places, counters, exitsOf, inUse, counterOf, strong, linked, linksTo, stepsInUse, StrongChain}
+use Rattle.table.specs.Answer.{Outcome, full, cabinAtLimit, stepsReserved, refusalOf}
+use Rattle.table.specs.Table.{Table, places, counters, cabinCount, exitsOf, inUse, cabinOf, counterOf, strong, linked, linksTo, stepsInUse, StrongChain}
+use Rattle.table.specs.Cabins.{guaranteeOf, soleQuotas, charge}
 use Rattle.table.specs.Sound.{Sound}
+use Rattle.table.specs.Calls.{addCall}
 use Rattle.table.specs.Clear.{emptied}
 use Rattle.table.specs.Squeeze.{newNumber, squeezeRefusal, squeezeCall, Renumbered}
 use Rattle.table.specs.Plan.{planOf, planCount, planNumber, planAdd, planLink, planClear, planSqueeze}
-use Rattle.image.specs.Image.{WriteOutcome, written, loadCall, SameRecords, Ascending}
+use Rattle.keyline.specs.Keys.{keyCabin, keyCall}
+use Rattle.image.specs.Image.{edition1, edition2, image, editionIn, WriteOutcome, written, loadCall, SameRecords, Ascending}
 use Rattle.history.specs.History.{First, Call, tableAfter, heardBy, planAfter, drawnBy, firstRefusal, planFirstRefusal, firstTable, firstPlan}
+use Rattle.history.specs.Accounts.{account, tally}
 use Rattle.history.specs.Acts.{Act, doneBy, refusedBy, conditionsOf}
 
 -- the number of a condition that holds, none before it does; or 0, and no condition holds
@@ -46,7 +52,8 @@ pub record Demand3 (f : First) (cs : List Call) : Type 0 where
   pub short : (a b n : ℕ) → StrongChain (tableAfter (firstTable f) cs) a b n → n < stepsInUse (tableAfter (firstTable f) cs)
   -- "every step in use but step 0 ends a strong chain from step 0"
   pub reached : (i : ℕ) → inUse (tableAfter (firstTable f) cs) i ≡ true → (i ≡ 0 → ⊥) → (n : ℕ) × StrongChain (tableAfter (firstTable f) cs) 0 i n
-  -- "capacity, last number given, steps in use, their kinds, contents and targets equal those of the plain plan that the calls' arguments alone draw"
+  -- "capacity, last number given, steps in use, their kinds, contents and targets equal those of the plain plan that the calls' arguments alone draw";
+  -- W5: "the guarantees, the limits and each step's cabin, and demand 3 compares them too"
   pub plan : planOf (tableAfter (firstTable f) cs) ≡ planAfter (firstPlan f) cs
   -- "and so do all refusals, numbers given, freed counts and spoken counts"
   pub begun : firstRefusal f ≡ planFirstRefusal f
@@ -54,10 +61,29 @@ pub record Demand3 (f : First) (cs : List Call) : Type 0 where
   -- "stored counters 0 and 1 of each step are the numbers of links to it with bit 0 and with bit 1"
   pub counts : (i b : ℕ) → i < places → b < counters → counterOf (tableAfter (firstTable f) cs) i b ≡ linksTo (tableAfter (firstTable f) cs) i b
 
+-- W5. "Hence a cabin below its guarantee is never told "full", whatever the others add or keep": nor is it refused for its limit or for a reserve
+abbrev pub NotFull : Outcome → Type 0
+NotFull o = let n = refusalOf (o .answer) in (n ≡ full → ⊥) × (n ≡ cabinAtLimit → ⊥) × (n ≡ stepsReserved → ⊥)
+
+pub record GuaranteeDemand (f : First) (cs : List Call) : Type 0 where
+  pub adds : let t = tableAfter (firstTable f) cs in
+      (holder e kind content cabin : ℕ) → cabin < cabinCount → charge t cabin < guaranteeOf (t .quotas) cabin →
+      NotFull (addCall t holder e kind content cabin)
+  pub keys : let t = tableAfter (firstTable f) cs in
+      (bs : List ℕ) → charge t keyCabin < guaranteeOf (t .quotas) keyCabin → NotFull (keyCall t bs)
+
+-- W5. "Steps in use less 1 equal the cabins' charges, counted from the first table and the adds and frees since."
+pub record ChargesDemand (f : First) (cs : List Call) : Type 0 where
+  -- the charges that the table shows are those counted along the history, cabin by cabin
+  pub each : (c : ℕ) → charge (tableAfter (firstTable f) cs) c ≡ account c (charge (firstTable f) c) (firstTable f) cs
+  -- together they are the steps in use less 1, and so is the sum kept from the answers alone
+  pub together : total cabinCount (charge (tableAfter (firstTable f) cs)) + 1 ≡ stepsInUse (tableAfter (firstTable f) cs)
+  pub kept : tally (stepsInUse (firstTable f) - 1) (heardBy (firstTable f) cs) + 1 ≡ stepsInUse (tableAfter (firstTable f) cs)
+
 -- Demand 2. "On a sound table, adding, linking and clearing change the plain plan as" the plan's own definitions say: o is the outcome.
-pub record AddDemand (t : Table) (holder e kind content : ℕ) (o : Outcome) : Type 0 where
+pub record AddDemand (t : Table) (holder e kind content cabin : ℕ) (o : Outcome) : Type 0 where
   pub sound : Sound (o .table)
-  pub plan : planOf (o .table) ≡ planAdd (planOf t) holder e kind content
+  pub plan : planOf (o .table) ≡ planAdd (planOf t) holder e kind content cabin
   pub answer : o .answer ≡ Given (planNumber (planOf t)) 0
 
 pub record LinkDemand (t : Table) (source e second f : ℕ) (o : Outcome) : Type 0 where
@@ -83,14 +109,16 @@ pub record ClearDemand (t : Table) (i e : ℕ) (o : Outcome) : Type 0 where
   -- "freed is the fall in steps in use"
   pub fall : stepsInUse (o .table) + freed ≡ stepsInUse t
 
--- W2: an accepted squeeze of the sound table t to the capacity c
-pub record SqueezeDemand (t : Table) (c : ℕ) (o : Outcome) : Type 0 where
+-- W2: an accepted squeeze of the sound table t to the capacity c and the quotas q
+pub record SqueezeDemand (t : Table) (c : ℕ) (q : List ℕ) (o : Outcome) : Type 0 where
   pub sound : Sound (o .table)
-  pub plan : planOf (o .table) ≡ planSqueeze (planOf t) c
+  pub plan : planOf (o .table) ≡ planSqueeze (planOf t) c q
   pub answer : o .answer ≡ Given 0 0
   -- "The new capacity is given; the last number given becomes steps in use less 1."
   pub capacity : o .table .capacity ≡ c
   pub last : o .table .last + 1 ≡ stepsInUse t
+  -- W5: "A squeeze is given a new list too"
+  pub quotas : o .table .quotas ≡ q
   -- "Steps in use are renumbered from 0 upward in their old order, every target follows, and bits and counters travel with their steps."
   pub moved : Renumbered t (o .table)
   pub each : (k : ℕ) → inUse (o .table) k ≡ true → (i : ℕ) × (inUse t i ≡ true) × (newNumber t i ≡ k)
@@ -98,10 +126,10 @@ pub record SqueezeDemand (t : Table) (c : ℕ) (o : Outcome) : Type 0 where
   -- and so strengths
   pub strengths : (i e : ℕ) → inUse t i ≡ true → e < exitsOf i → strong (o .table) (newNumber t i) e ≡ strong t i e
 
--- squeezing twice is squeezing once: p is the squeeze to d of the table that an accepted squeeze of t left
-pub record TwiceDemand (t : Table) (d : ℕ) (p : Outcome) : Type 0 where
-  pub answer : p .answer ≡ squeezeCall t d .answer
-  pub table : squeezeRefusal t d ≡ 0 → p .table ≡ squeezeCall t d .table
+-- squeezing twice is squeezing once: p is the squeeze to d and the quotas l of the table that an accepted squeeze of t left
+pub record TwiceDemand (t : Table) (d : ℕ) (l : List ℕ) (p : Outcome) : Type 0 where
+  pub answer : p .answer ≡ squeezeCall t d l .answer
+  pub table : squeezeRefusal t d l ≡ 0 → p .table ≡ squeezeCall t d l .table
 
 -- "the spoken counts are of those steps and of the free rest"
 pub record CountDemand (t : Table) (o : Outcome) : Type 0 where
@@ -113,6 +141,8 @@ pub record WriteDemand (t : Table) (buffer : List ℕ) (o : WriteOutcome) : Type
   -- "the answer is the image's length"
   pub answer : o .answer ≡ Given (length (written o)) 0
   pub loads : loadCall (written o) ≡ record { answer = Given 0 0; table = t }
+  -- "The writer writes edition 2" (W5)
+  pub edition : editionIn (written o) ≡ edition2
   -- "as are those past a written image": untouched
   pub past : drop (length (written o)) (o .buffer) ≡ drop (length (written o)) buffer
   pub size : length (o .buffer) ≡ length buffer
@@ -121,7 +151,7 @@ pub record WriteDemand (t : Table) (buffer : List ℕ) (o : WriteOutcome) : Type
 abbrev pub EqualDemand : Table → Table → WriteOutcome → WriteOutcome → Type 0
 EqualDemand t u o p = (t ≡ u) ↔ (written o ≡ written p)
 
--- "and an accepted image is written with the same records": the image bs is loaded, and its table written into a buffer
+-- "and an accepted image is written with the same records": the image bs, of edition 2, is loaded, and its table written into a buffer
 pub record LoadDemand (bs : List ℕ) (o : WriteOutcome) : Type 0 where
   pub answer : o .answer ≡ Given (length bs) 0
   pub records : SameRecords bs (written o)
@@ -129,6 +159,13 @@ pub record LoadDemand (bs : List ℕ) (o : WriteOutcome) : Type 0 where
   pub ascending : Ascending (written o)
   pub only : (cs : List ℕ) → SameRecords bs cs → Ascending cs → cs ≡ written o
 
--- W1: two accepted images load as one table exactly if they have the same records, in whatever order; o and p are what load did for each
+-- W5: "Edition 1 images load with all steps charged to cabin 0, which has guarantee and limit capacity less 1, others zero"; o is what load did, and the
+-- table has all that the records say
+pub record OldDemand (bs : List ℕ) (o : Outcome) : Type 0 where
+  pub quotas : o .table .quotas ≡ soleQuotas (o .table .capacity)
+  pub cabins : (i : ℕ) → inUse (o .table) i ≡ true → cabinOf (o .table) i ≡ 0
+  pub records : SameRecords bs (image edition1 (o .table))
+
+-- W1: two accepted images of one edition load as one table exactly if they have the same records, in whatever order; o and p are what load did for each
 abbrev pub SameTableDemand : List ℕ → List ℕ → Outcome → Outcome → Type 0
 SameTableDemand bs cs o p = (o .table ≡ p .table) ↔ SameRecords bs cs

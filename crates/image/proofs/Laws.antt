@@ -1,6 +1,6 @@
--- What is claimed of images (document 01, "Image"), each law by citing where it is proved: written images load as the table that was written,
--- accepted images are sound, draw the plan that their records say, and are written again with the same records, sorted; sound tables are equal
--- exactly when their images are (W1). Assumes nothing.
+-- What is claimed of images (document 01, "Image"; document 02, W1 and W5), each law by citing where it is proved: images load as the table that was
+-- written, in each edition that can say it; accepted images are sound, draw the plan that their records say, and are written again in their edition
+-- with the same records, sorted; sound tables are equal exactly when their written images are (W1). Assumes nothing.
 use mathlib.Core.Path.{_≡_}
 use mathlib.Core.Bool.{true}
 use mathlib.Core.Logic.{_↔_}
@@ -10,38 +10,60 @@ use lib.ListN.{length, drop}
 use borrow.Author.Tests.{eq-eqb, ne-eqb, le-ltb}
 use Rattle.finite.specs.Below.{count}
 use Rattle.table.specs.declared.Answer.the-variants.{Refused, Given}
-use Rattle.table.specs.Table.{Table, inUse}
+use Rattle.table.specs.Table.{Table, inUse, stepsInUse}
+use Rattle.table.specs.Cabins.{soleQuotas}
 use Rattle.table.specs.Sound.{Sound, sound}
 use Rattle.table.specs.Answer.{first}
 use Rattle.table.specs.Plan.{planOf}
 use Rattle.table.proofs.Sound.{sound-test}
-use Rattle.image.specs.Image.{image, imageLength, writeRefusal, writeCall, countIn, numberIn, imageTable, accepted, loadCall, imagePlan, Bytes, SameRecords, Ascending}
+use Rattle.image.specs.Image.{Edition, edition1, image, imageSize, writtenEdition, imageLength, writeRefusal, writeCall, editionIn, countIn, numberIn, imageTable, accepted, loadCall, imagePlan, Bytes, Once, SameRecords, Ascending}
 use Rattle.image.proofs.Written
 use Rattle.image.proofs.Loaded
 use Rattle.image.proofs.RoundTrip
+use Rattle.image.proofs.RoundTrip.{Says}
 use Rattle.image.proofs.Rewritten
 use Rattle.image.proofs.Order
 
--- the header has 10 bytes, and each record of a step in use 20
-pub image-length : (t : Table) → length (image t) ≡ imageLength t
-image-length t = Written.image-length t
+-- the length of the image: the header, and a record of one size for each step in use; and of the one that is written
+pub image-length : (v : Edition) (t : Table) → length (image v t) ≡ imageSize v (stepsInUse t)
+image-length = Written.image-length
+
+pub written-length : (t : Table) → length (image writtenEdition t) ≡ imageLength t
+unfolding imageLength
+written-length t = image-length writtenEdition t
+
+-- an image says its edition
+pub image-edition : (v : Edition) (t : Table) → editionIn (image v t) ≡ v
+image-edition = Written.image-edition
 
 -- "each step in use has its record once", in the image of any table, sound or not
-pub used-written : (t : Table) (i : ℕ) → i < t .capacity → inUse t i ≡ true → (k : ℕ) × (k < countIn (image t)) × (numberIn (image t) k ≡ i)
-used-written t i h u = (count i (inUse t), Written.index-below t i h u, Written.image-number t i h u)
+pub used-written : (v : Edition) (t : Table) (i : ℕ) → i < t .capacity → inUse t i ≡ true →
+    (k : ℕ) × (k < countIn (image v t)) × (numberIn (image v t) k ≡ i)
+used-written v t i h u = (count i (inUse t), Written.index-below v t i h u, Written.image-number v t i h u)
 
-pub image-distinct : (t : Table) (j k : ℕ) → j < countIn (image t) → k < countIn (image t) → numberIn (image t) j ≡ numberIn (image t) k → j ≡ k
-image-distinct t = Written.image-distinct t
+pub image-distinct : (v : Edition) (t : Table) → Once (image v t)
+image-distinct = Written.image-distinct
 
--- "and the image loads as the same table"
-pub decode-encode : (t : Table) → Sound t → imageTable (image t) ≡ t
-decode-encode t s = RoundTrip.decode-encode t s
+-- "and the image loads as the same table": in each edition that can say what the table has, and so in the one that is written
+pub decode-encode : (v : Edition) (t : Table) → Sound t → Says v t → imageTable (image v t) ≡ t
+decode-encode = RoundTrip.decode-encode
 
-pub encode-accepted : (t : Table) → Sound t → accepted (image t) ≡ true
-encode-accepted t s = RoundTrip.encode-accepted t s (sound-test t s)
+pub encode-accepted : (v : Edition) (t : Table) → Sound t → Says v t → accepted (image v t) ≡ true
+encode-accepted v t s p = RoundTrip.encode-accepted v t s p (sound-test t s)
 
-pub load-encode : (t : Table) → Sound t → loadCall (image t) ≡ record { answer = Given 0 0; table = t }
-load-encode t s = RoundTrip.load-encode t s (sound-test t s)
+pub load-encode : (v : Edition) (t : Table) → Sound t → Says v t → loadCall (image v t) ≡ record { answer = Given 0 0; table = t }
+load-encode v t s p = RoundTrip.load-encode v t s p (sound-test t s)
+
+pub load-written : (t : Table) → Sound t → loadCall (image writtenEdition t) ≡ record { answer = Given 0 0; table = t }
+load-written t s = load-encode writtenEdition t s tt
+
+-- "Edition 1 images load with all steps charged to cabin 0, which has guarantee and limit capacity less 1, others zero" (W5)
+pub edition1-says : (bs : List ℕ) → accepted bs ≡ true → editionIn bs ≡ edition1 → Says edition1 (imageTable bs)
+edition1-says = RoundTrip.accepted-says edition1
+
+-- each sound table with that list has such an image
+pub load-sole : (t : Table) → Sound t → t .quotas ≡ soleQuotas (t .capacity) → loadCall (image edition1 t) ≡ record { answer = Given 0 0; table = t }
+load-sole t s q = load-encode edition1 t s (RoundTrip.sole-says t s q)
 
 -- "accepted exactly if .. and the table sound"
 pub accepted-sound : (bs : List ℕ) → accepted bs ≡ true → sound (imageTable bs) ≡ true
@@ -51,22 +73,24 @@ accepted-sound bs a = Loaded.accepted-sound bs a
 pub accepted-plan : (bs : List ℕ) → accepted bs ≡ true → planOf (imageTable bs) ≡ imagePlan bs
 accepted-plan bs a = Loaded.accepted-plan bs a
 
--- an accepted image, loaded and written, differs at most in the order of its step records
-pub accepted-rewritten : (bs : List ℕ) → Bytes bs → accepted bs ≡ true → SameRecords bs (image (imageTable bs))
+-- an accepted image, loaded and written in its edition, differs at most in the order of its step records
+pub accepted-rewritten : (bs : List ℕ) → Bytes bs → accepted bs ≡ true → SameRecords bs (image (editionIn bs) (imageTable bs))
 accepted-rewritten = Rewritten.accepted-rewritten
 
 -- "The writer now puts step records in ascending step number." (W1), and no other image has the records of an accepted one in that order
-pub image-ascending : (t : Table) → Ascending (image t)
+pub image-ascending : (v : Edition) (t : Table) → Ascending (image v t)
 image-ascending = Order.image-ascending
 
-pub accepted-only : (bs : List ℕ) → Bytes bs → accepted bs ≡ true → (cs : List ℕ) → SameRecords bs cs → Ascending cs → cs ≡ image (imageTable bs)
+pub accepted-only : (bs : List ℕ) → Bytes bs → accepted bs ≡ true → (cs : List ℕ) → SameRecords bs cs → Ascending cs →
+    cs ≡ image (editionIn bs) (imageTable bs)
 accepted-only = Order.accepted-only
 
--- "Two sound tables are equal exactly when their written images are" (W1), and accepted images load as one table exactly if they have the same records
-pub image-equal : (t u : Table) → Sound t → Sound u → image t ≡ image u → t ≡ u
-image-equal = Order.image-equal
+-- "Two sound tables are equal exactly when their written images are" (W1), and accepted images of one edition load as one table exactly if they have
+-- the same records
+pub image-equal : (t u : Table) → Sound t → Sound u → image writtenEdition t ≡ image writtenEdition u → t ≡ u
+image-equal t u s r = Order.image-equal writtenEdition t u s r tt tt
 
-pub loaded-equal : (bs : List ℕ) → Bytes bs → accepted bs ≡ true → (cs : List ℕ) → Bytes cs → accepted cs ≡ true →
+pub loaded-equal : (bs : List ℕ) → Bytes bs → accepted bs ≡ true → (cs : List ℕ) → Bytes cs → accepted cs ≡ true → editionIn bs ≡ editionIn cs →
     (imageTable bs ≡ imageTable cs) ↔ SameRecords bs cs
 loaded-equal = Order.loaded-equal
 
@@ -77,7 +101,7 @@ unfolding writeCall
 write-refused t buffer d = rw (ne-eqb (writeRefusal t (length buffer)) 0 d)
 
 pub write-made : (t : Table) (buffer : List ℕ) → writeRefusal t (length buffer) ≡ 0 →
-    writeCall t buffer ≡ record { answer = Given (imageLength t) 0; buffer = image t ++ drop (imageLength t) buffer }
+    writeCall t buffer ≡ record { answer = Given (imageLength t) 0; buffer = image writtenEdition t ++ drop (imageLength t) buffer }
 unfolding writeCall
 write-made t buffer z = rw (eq-eqb (writeRefusal t (length buffer)) 0 z)
 

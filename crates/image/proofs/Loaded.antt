@@ -1,5 +1,5 @@
 -- The table that an image's records say, read field by field, and what it means that an image is accepted. Assumes nothing.
---   table-used .. table-bit   what each field of a step of the table is
+--   table-used .. table-cabin   what each field of a step of the table is
 --   Accepted bs       the statement that an image is accepted; `test-accepted` and `accepted-test` join it with the test
 --   accepted-plan     the plain plan of the table is the one that the records draw
 use mathlib.Core.Path.{_≡_, refl, sym, _∙_, ap}
@@ -17,17 +17,17 @@ use Rattle.finite.proofs.Bools.{and-intro, and-left, and-right, not-true-false,
 use Rattle.finite.proofs.Below.{all-at, all-intro, lowest-passes, getD-tabulate, tabulate-ext}
 use Rattle.finite.proofs.Select.{isValue, lowest-any}
 use Rattle.finite.proofs.Packed.{tabulate-blocks}
-use Rattle.table.specs.Table.{places, exits, exitPlace, inUse, kindOf, contentOf, ownBit, targetOf, linkBit, withLinks}
+use Rattle.table.specs.Table.{places, exits, exitPlace, inUse, kindOf, contentOf, ownBit, cabinOf, targetOf, linkBit, withLinks}
 use Rattle.table.specs.Sound.{Sound, sound}
 use Rattle.table.specs.Plan.{PlanStep, planStep, planOf}
 use Rattle.table.proofs.Sound.{test-sound}
-use Rattle.image.specs.Image.{headerRecordKind, headerFieldCount, stepRecordKind, stepFieldCount, recordAt, capacityIn, lastIn, countIn, stepPlace, numberIn, kindIn, contentIn, bitsIn, targetIn, bitIn, recordOf, hasRecord, recordField, counted, imageTable, framed, accepted, imagePlan}
+use Rattle.image.specs.Image.{headerKindOf, headerFieldCount, stepKindOf, stepFieldCount, recordAt, editionIn, capacityIn, lastIn, countIn, quotasIn, stepPlace, numberIn, kindIn, contentIn, bitsIn, targetIn, cabinIn, bitIn, recordOf, hasRecord, recordField, counted, imageTable, framed, accepted, imagePlan}
 
 -- the clauses of `accepted`, in its order
 pub record Accepted (bs : List ℕ) : Type 0 where
-  pub size : length bs ≡ stepPlace (countIn bs)
-  pub header : recordAt bs 0 headerRecordKind headerFieldCount ≡ true
-  pub records : (k : ℕ) → k < countIn bs → recordAt bs (stepPlace k) stepRecordKind stepFieldCount ≡ true
+  pub size : length bs ≡ stepPlace bs (countIn bs)
+  pub header : recordAt bs 0 (headerKindOf (editionIn bs)) (headerFieldCount (editionIn bs)) ≡ true
+  pub records : (k : ℕ) → k < countIn bs → recordAt bs (stepPlace bs k) (stepKindOf (editionIn bs)) (stepFieldCount (editionIn bs)) ≡ true
   pub distinct : (j k : ℕ) → j < k → k < countIn bs → numberIn bs j ≡ numberIn bs k → ⊥
   pub numbers : (k : ℕ) → k < countIn bs → numberIn bs k < places
   pub bits : (k : ℕ) → k < countIn bs → bitsIn bs k ≤ 31
@@ -49,6 +49,7 @@ drawnStep bs i =
       kind = kindIn bs (recordOf bs i);
       content = contentIn bs (recordOf bs i);
       targets = tabulate exits (targetIn bs (recordOf bs i));
+      cabin = cabinIn bs (recordOf bs i);
     }))
     none
 
@@ -95,9 +96,14 @@ module _ (bs : List ℕ) where
   unfolding ownBit imageTable counted withLinks
   table-own i h = getD-tabulate places (λ i. recordField bs i (λ k. bitIn bs k exits)) 0 i h
 
+  pub table-cabin : (i : ℕ) → i < places → cabinOf (imageTable bs) i ≡ recordField bs i (cabinIn bs)
+  unfolding cabinOf imageTable counted withLinks
+  table-cabin i h = getD-tabulate places (λ i. recordField bs i (cabinIn bs)) 0 i h
+
   -- a field of each exit, tabulated over all exits
   exit-field : (field : ℕ → ℕ → ℕ) (i e : ℕ) → i < places → e < exits →
-      getD (tabulate (places * exits) (λ p. recordField bs (p / exits) (λ k. field k (p % exits)))) (exitPlace i e) 0 ≡ recordField bs i (λ k. field k e)
+      getD (tabulate (places * exits) (λ p. recordField bs (p / exits) (λ k. field k (p % exits)))) (exitPlace i e) 0
+      ≡ recordField bs i (λ k. field k e)
   unfolding exitPlace
   exit-field field i e h l = tabulate-blocks places exits (λ i e. recordField bs i (λ k. field k e)) i e h l
 
@@ -114,8 +120,8 @@ module _ (bs : List ℕ) where
   unfolding accepted framed
   test-accepted t =
       let frame = and-left (framed bs) _ t in
-      let size : length bs ≡ stepPlace (countIn bs) = eqb-true _ _ (and-left _ _ frame) in
-      let records = and-right (eqb (length bs) (stepPlace (countIn bs))) _ frame in
+      let size : length bs ≡ stepPlace bs (countIn bs) = eqb-true _ _ (and-left _ _ frame) in
+      let records = and-right (eqb (length bs) (stepPlace bs (countIn bs))) _ frame in
       let steps = and-right (framed bs) _ t in
       let differ : (j k : ℕ) → j < k → k < countIn bs → numberIn bs j ≡ numberIn bs k → ⊥ = λ j k l h.
       eqb-false _ _ (not-true-false (eqb (numberIn bs j) (numberIn bs k)) (all-at k (differs bs k) (all-at _ _ (and-left _ _ steps) k h) j l)) in
@@ -124,7 +130,7 @@ module _ (bs : List ℕ) where
       record {
         size = size;
         header = and-left _ _ records;
-        records = all-at _ _ (and-left _ _ (and-right (recordAt bs 0 headerRecordKind headerFieldCount) _ records));
+        records = all-at _ _ (and-left _ _ (and-right (recordAt bs 0 (headerKindOf (editionIn bs)) (headerFieldCount (editionIn bs))) _ records));
         distinct = differ;
         numbers = λ k h. ltb-true _ _ (and-left _ _ (inRange k h));
         bits = λ k h. leb-true _ _ (and-right (ltb (numberIn bs k) places) _ (inRange k h));
@@ -173,7 +179,8 @@ module _ (bs : List ℕ) where
           let k = table-kind i h ∙ said-record i (kindIn bs) t in
           let c = table-content i h ∙ said-record i (contentIn bs) t in
           let l = targets t in
-          rw (u, t, k, c, l)
+          let n = table-cabin i h ∙ said-record i (cabinIn bs) t in
+          rw (u, t, k, c, l, n)
 
       free : hasRecord bs i ≡ false → planStep (imageTable bs) i ≡ drawnStep bs i
       free t = rw (table-used i h, t)
@@ -183,4 +190,4 @@ module _ (bs : List ℕ) where
   accepted-plan t =
       let c = accepted-capacity t in
       let steps = tabulate-ext (capacityIn bs) (planStep (imageTable bs)) (drawnStep bs) (λ i h. drawn-step i (omega arith)) in
-      λ j. record { capacity = capacityIn bs; last = lastIn bs; steps = steps j }
+      λ j. record { capacity = capacityIn bs; last = lastIn bs; steps = steps j; quotas = quotasIn bs }

@@ -1,57 +1,74 @@
--- A written image loads as the table that was written. Assumes nothing.
+-- A written image loads as the table that was written, in each edition that can say what the table has. Assumes nothing.
+--   Says v t          edition v can say it
 --   decode-encode     the table that its records say
 --   encode-accepted   the image is accepted
 --   load-encode       what the call answers
-use mathlib.Core.Path.{_≡_, sym, _∙_, ap}
+--   accepted-says     what an image says, its edition can say; sole-says, edition 1 can say a sound table that cabin 0 has to itself
+use mathlib.Core.Path.{_≡_, refl, sym, _∙_, ap}
 use mathlib.Core.Bool.{true, _&&_, not}
 use mathlib.Core.Logic.{⊎-elim}
 use mathlib.Core.List.{List}
-use Prim.Native.Nat.{ℕ, suc, _+_, _*_, _/_, _%_, _≤_, _<_}
+use Prim.Native.Nat.{ℕ, zero, suc, _+_, _-_, _*_, _/_, _%_, _≤_, _<_}
 use native.Mathlib.Omega.{arith}
 use lib.ListN.{length, getD}
 use lib.Dec.{eqb}
 use borrow.Author.Tests.{eqb-true, eq-eqb, lt-ltb}
-use Rattle.finite.specs.Below.{one, count, tabulate, tabulateFrom}
+use Rattle.finite.specs.Below.{one, count, tabulate}
 use Rattle.finite.proofs.Bools.{test, same-test}
-use Rattle.finite.proofs.Below.{getD-tabulate}
+use Rattle.finite.proofs.Below.{count-pos}
 use Rattle.finite.proofs.Select.{lowest-only, tabulate-entries}
 use Rattle.table.specs.declared.Answer.the-variants.{Given}
-use Rattle.table.specs.Table.{Table, places, exits, counters, exitPlace, counterPlace, inUse, kindOf, contentOf, ownBit, targetOf, linkBit, counterOf, countsAt, linksTo, withLinks}
+use Rattle.table.specs.Table.{Table, places, exits, counters, quotaNumbers, exitPlace, counterPlace, inUse, kindOf, contentOf, ownBit, cabinOf, targetOf, linkBit, counterOf, countsAt, linksTo, withLinks}
+use Rattle.table.specs.Cabins.{limitOf, soleQuotas, charged, charge}
 use Rattle.table.specs.Sound.{Blank, Sound, sound}
 use Rattle.table.specs.Answer.{first, unless}
 use Rattle.table.proofs.Links.{sound-wired, used-below}
 use Rattle.table.proofs.Relink.{exit-place-split}
 use Rattle.table.proofs.Formed.{sound-formed}
-use Rattle.image.specs.Image.{bitsOf, stepFieldsOf, image, countIn, numberIn, kindIn, contentIn, bitsIn, targetIn, bitIn, recordOf, hasRecord, recordField, counted, imageTable, accepted, loadCall}
+use Rattle.table.proofs.Cabins.{used-charged}
+use Rattle.table.proofs.Edits.{getD-zeros}
+use Rattle.image.specs.Image.{Edition, edition1, edition2, bitsOf, stepAdds, stepFieldsOf, image, editionIn, countIn, quotasBy, quotasIn, numberIn, kindIn, contentIn, bitsIn, targetIn, cabinBy, cabinIn, bitIn, recordOf, hasRecord, recordField, counted, imageTable, accepted, loadCall}
 use Rattle.image.proofs.Bits.{fiveBits, bits-read, bits-most, bitAt, bit-cases}
-use Rattle.image.proofs.Written.{image-header, image-capacity, image-last, image-size, image-field, image-records, image-number, image-index, index-number, image-distinct, index-below}
-use Rattle.image.proofs.Loaded.{record-below, record-number, said-record, said-none, accepted-test}
+use Rattle.image.proofs.Written.{old-fields, image-header, image-edition, image-capacity, image-last, image-quota, image-size, image-field, image-records, image-number, image-index, index-number, image-distinct, index-below}
+use Rattle.image.proofs.Loaded.{record-below, record-number, said-record, said-none, table-used, table-cabin, accepted-test, accepted-table}
+
+-- a table with all of its capacity for cabin 0, and all steps charged to it
+pub record OneCabin (t : Table) : Type 0 where
+  pub quotas : t .quotas ≡ soleQuotas (t .capacity)
+  pub cabins : (i : ℕ) → inUse t i ≡ true → cabinOf t i ≡ 0
+
+-- what an edition can say: edition 1 has neither quotas nor cabins
+abbrev pub Says : Edition → Table → Type 0
+Says edition1 t = OneCabin t
+Says edition2 t = Unit {0}
 
 -- of any table: which record is that of step i
-module _ (t : Table) where
-  pub image-record-of : (i : ℕ) → i < t .capacity → inUse t i ≡ true → recordOf (image t) i ≡ count i (inUse t)
+module _ (v : Edition) (t : Table) where
+  pub image-record-of : (i : ℕ) → i < t .capacity → inUse t i ≡ true → recordOf (image v t) i ≡ count i (inUse t)
   unfolding recordOf
   image-record-of i h u =
-      lowest-only (countIn (image t)) (λ k. eqb (numberIn (image t) k) i) (count i (inUse t)) (index-below t i h u)
-      (eq-eqb _ _ (image-number t i h u))
-      (λ j l e. image-distinct t j (count i (inUse t)) l (index-below t i h u) (eqb-true _ _ e ∙ sym (image-number t i h u)))
+      lowest-only (countIn (image v t)) (λ k. eqb (numberIn (image v t) k) i) (count i (inUse t)) (index-below v t i h u)
+      (eq-eqb _ _ (image-number v t i h u))
+      (λ j l e. image-distinct v t j (count i (inUse t)) l (index-below v t i h u) (eqb-true _ _ e ∙ sym (image-number v t i h u)))
 
-  pub image-has-record : (i : ℕ) → i < t .capacity → inUse t i ≡ true → hasRecord (image t) i ≡ true
+  pub image-has-record : (i : ℕ) → i < t .capacity → inUse t i ≡ true → hasRecord (image v t) i ≡ true
   unfolding hasRecord
-  image-has-record i h u = rw (image-record-of i h u) (lt-ltb _ _ (index-below t i h u))
+  image-has-record i h u = rw (image-record-of i h u) (lt-ltb _ _ (index-below v t i h u))
 
-  pub image-record-used : (i : ℕ) → hasRecord (image t) i ≡ true → inUse t i ≡ true
+  pub image-record-used : (i : ℕ) → hasRecord (image v t) i ≡ true → inUse t i ≡ true
   image-record-used i h =
-      let a = image-index t (recordOf (image t) i) (record-below (image t) i h) in
-      let e : a .number ≡ i = sym (index-number t (recordOf (image t) i) a) ∙ record-number (image t) i h in
+      let a = image-index v t (recordOf (image v t) i) (record-below (image v t) i h) in
+      let e : a .number ≡ i = sym (index-number v t (recordOf (image v t) i) a) ∙ record-number (image v t) i h in
       rw e at (a .passes)
 
 -- the targets of a step record
-record-target : (t : Table) (i e : ℕ) → e < exits → getD (stepFieldsOf t i) (4 + e) 0 ≡ targetOf t i e
-unfolding stepFieldsOf tabulate tabulateFrom
-record-target t i e h =
-    let f : 4 + e ≡ suc (suc (suc (suc e))) = omega arith in
-    rw f (getD-tabulate exits (targetOf t i) 0 e h)
+record-target : (v : Edition) (t : Table) (i e : ℕ) → e < exits → getD (stepFieldsOf v t i) (4 + e) 0 ≡ targetOf t i e
+unfolding stepFieldsOf
+record-target v t i zero h = refl
+record-target v t i (suc zero) h = refl
+record-target v t i (suc (suc zero)) h = refl
+record-target v t i (suc (suc (suc zero))) h = refl
+record-target v t i (suc (suc (suc (suc e)))) h = absurd (omega arith)
 
 -- every counter stands in a place
 counter-place : (q : ℕ) → counterPlace (q / counters) (q % counters) ≡ q
@@ -64,37 +81,49 @@ unfolding linksTo countsAt
 links-same t u c g h j b =
     λ k. count (c k * exits) (λ p. not (eqb j 0) && eqb (getD (g k) p 0) j && eqb (getD (h k) p 0) b)
 
+-- the cabin of a step in use, and the quotas, as an edition says them
+cabin-record : (v : Edition) (t : Table) → Says v t → (i : ℕ) → i < t .capacity → inUse t i ≡ true →
+    cabinBy v (image v t) (count i (inUse t)) ≡ cabinOf t i
+unfolding cabinBy stepFieldsOf stepAdds
+cabin-record edition1 t p i h u = sym (p .cabins i u)
+cabin-record edition2 t p i h u = image-field edition2 t i h u 8 (omega arith)
+
+quotas-said : (v : Edition) (t : Table) → Says v t → length (t .quotas) ≡ quotaNumbers → quotasBy v (image v t) ≡ t .quotas
+unfolding quotasBy
+quotas-said edition1 t p l = ap soleQuotas (image-capacity edition1 t) ∙ sym (p .quotas)
+quotas-said edition2 t p l = tabulate-entries quotaNumbers _ (t .quotas) 0 l (image-quota t)
+
 -- of a sound table
-module _ (t : Table) (s : Sound t) where
+module _ (v : Edition) (t : Table) (s : Sound t) where
   below : (i : ℕ) → inUse t i ≡ true → i < t .capacity
   below = used-below (sound-wired s)
 
-  has-record-used : (i : ℕ) → hasRecord (image t) i ≡ inUse t i
+  has-record-used : (i : ℕ) → hasRecord (image v t) i ≡ inUse t i
   has-record-used i =
-      same-test (hasRecord (image t) i) (inUse t i) (image-record-used t i) (λ u. image-has-record t i (below i u) u)
+      same-test (hasRecord (image v t) i) (inUse t i) (image-record-used v t i) (λ u. image-has-record v t i (below i u) u)
 
   -- a field that is read back where the step is in use, and is 0 where it is free
   said-image : (i : ℕ) → i < places → (field : ℕ → ℕ) (n : ℕ) → (inUse t i ≡ true → field (count i (inUse t)) ≡ n) → (Blank t i → n ≡ 0) →
-      recordField (image t) i field ≡ n
+      recordField (image v t) i field ≡ n
   said-image i h field n a b =
       ⊎-elim
-      (λ u. said-record (image t) i field (has-record-used i ∙ u) ∙ ap field (image-record-of t i (below i u) u) ∙ a u)
-      (λ u. said-none (image t) i field (has-record-used i ∙ u) ∙ sym (b (s .free i h u)))
+      (λ u. said-record (image v t) i field (has-record-used i ∙ u) ∙ ap field (image-record-of v t i (below i u) u) ∙ a u)
+      (λ u. said-none (image v t) i field (has-record-used i ∙ u) ∙ sym (b (s .free i h u)))
       (test (inUse t i))
 
   -- the fields of a step in use
-  kind-image : (i : ℕ) → i < places → recordField (image t) i (kindIn (image t)) ≡ kindOf t i
+  kind-image : (i : ℕ) → i < places → recordField (image v t) i (kindIn (image v t)) ≡ kindOf t i
   unfolding kindIn stepFieldsOf
-  kind-image i h = said-image i h _ _ (λ u. image-field t i (below i u) u 1 (omega arith)) (λ b. b .kind)
+  kind-image i h = said-image i h _ _ (λ u. image-field v t i (below i u) u 1 (omega (arith, old-fields v))) (λ b. b .kind)
 
-  content-image : (i : ℕ) → i < places → recordField (image t) i (contentIn (image t)) ≡ contentOf t i
+  content-image : (i : ℕ) → i < places → recordField (image v t) i (contentIn (image v t)) ≡ contentOf t i
   unfolding contentIn stepFieldsOf
-  content-image i h = said-image i h _ _ (λ u. image-field t i (below i u) u 2 (omega arith)) (λ b. b .content)
+  content-image i h = said-image i h _ _ (λ u. image-field v t i (below i u) u 2 (omega (arith, old-fields v))) (λ b. b .content)
 
-  target-image : (i e : ℕ) → i < places → e < exits → recordField (image t) i (λ k. targetIn (image t) k e) ≡ targetOf t i e
+  target-image : (i e : ℕ) → i < places → e < exits → recordField (image v t) i (λ k. targetIn (image v t) k e) ≡ targetOf t i e
   unfolding targetIn
   target-image i e h l =
-      said-image i h _ _ (λ u. image-field t i (below i u) u (4 + e) (omega arith) ∙ record-target t i e l) (λ b. b .targets e l)
+      said-image i h _ _ (λ u. image-field v t i (below i u) u (4 + e) (omega (arith, old-fields v)) ∙ record-target v t i e l) (λ b. b .targets e l)
 
   bit-small : (i : ℕ) → inUse t i ≡ true → (e : ℕ) → e < 5 → bitAt t i e < 2
   bit-small i u e h = bit-cases (λ n. n < 2) t i e (s .bits i e u) (λ l. s .own i u)
@@ -102,23 +131,30 @@ module _ (t : Table) (s : Sound t) where
   bit-blank : (i : ℕ) → Blank t i → (e : ℕ) → bitAt t i e ≡ 0
   bit-blank i b e = bit-cases (λ n. n ≡ 0) t i e (b .bits e) (λ l. b .own)
 
-  bits-image : (i : ℕ) → i < t .capacity → inUse t i ≡ true → bitsIn (image t) (count i (inUse t)) ≡ fiveBits (bitAt t i)
+  bits-image : (i : ℕ) → i < t .capacity → inUse t i ≡ true → bitsIn (image v t) (count i (inUse t)) ≡ fiveBits (bitAt t i)
   unfolding bitsIn stepFieldsOf bitsOf
-  bits-image i h u = image-field t i h u 3 (omega arith)
+  bits-image i h u = image-field v t i h u 3 (omega (arith, old-fields v))
 
-  bit-image : (i e : ℕ) → i < places → e < 5 → recordField (image t) i (λ k. bitIn (image t) k e) ≡ bitAt t i e
+  bit-image : (i e : ℕ) → i < places → e < 5 → recordField (image v t) i (λ k. bitIn (image v t) k e) ≡ bitAt t i e
   unfolding bitIn
   bit-image i e h l =
-      said-image i h (λ k. bitIn (image t) k e) (bitAt t i e)
+      said-image i h (λ k. bitIn (image v t) k e) (bitAt t i e)
       (λ u. rw (bits-image i (below i u) u) (bits-read (bitAt t i) (bit-small i u) e l))
       (λ b. bit-blank i b e)
+
+  cabin-image : Says v t → (i : ℕ) → i < places → recordField (image v t) i (cabinIn (image v t)) ≡ cabinOf t i
+  unfolding cabinIn
+  cabin-image p i h =
+      said-image i h _ _
+      (λ u. ap (λ x. cabinBy x (image v t) (count i (inUse t))) (image-edition v t) ∙ cabin-record v t p i (below i u) u)
+      (λ b. b .cabin)
 
   -- every array as it was
   used-one : (i : ℕ) → inUse t i ≡ true → getD (t .used) i 0 ≡ 1
   unfolding inUse
   used-one i u = eqb-true (getD (t .used) i 0) 1 u
 
-  used-entries : tabulate places (λ i. one (hasRecord (image t) i)) ≡ t .used
+  used-entries : tabulate places (λ i. one (hasRecord (image v t) i)) ≡ t .used
   used-entries =
       tabulate-entries places _ (t .used) 0 (s .shape .used)
       (λ i h.
@@ -126,34 +162,42 @@ module _ (t : Table) (s : Sound t) where
       (λ u. ap one (has-record-used i ∙ u) ∙ sym (s .free i h u .used))
       (test (inUse t i)))
 
-  kinds-entries : tabulate places (λ i. recordField (image t) i (kindIn (image t))) ≡ t .kinds
+  kinds-entries : tabulate places (λ i. recordField (image v t) i (kindIn (image v t))) ≡ t .kinds
   unfolding kindOf
   kinds-entries = tabulate-entries places _ (t .kinds) 0 (s .shape .kinds) kind-image
 
-  contents-entries : tabulate places (λ i. recordField (image t) i (contentIn (image t))) ≡ t .contents
+  contents-entries : tabulate places (λ i. recordField (image v t) i (contentIn (image v t))) ≡ t .contents
   unfolding contentOf
   contents-entries = tabulate-entries places _ (t .contents) 0 (s .shape .contents) content-image
 
-  own-entries : tabulate places (λ i. recordField (image t) i (λ k. bitIn (image t) k exits)) ≡ t .own
+  own-entries : tabulate places (λ i. recordField (image v t) i (λ k. bitIn (image v t) k exits)) ≡ t .own
   unfolding ownBit
   own-entries = tabulate-entries places _ (t .own) 0 (s .shape .own) (λ i h. bit-image i exits h (omega arith))
 
+  cabins-entries : Says v t → tabulate places (λ i. recordField (image v t) i (cabinIn (image v t))) ≡ t .cabins
+  unfolding cabinOf
+  cabins-entries p = tabulate-entries places _ (t .cabins) 0 (s .shape .cabins) (cabin-image p)
+
+  quotas-entries : Says v t → quotasIn (image v t) ≡ t .quotas
+  unfolding quotasIn
+  quotas-entries p = ap (λ x. quotasBy x (image v t)) (image-edition v t) ∙ quotas-said v t p (s .shape .quotas)
+
   -- one field of each exit
   exit-entries : (field : ℕ → ℕ → ℕ) (l : List ℕ) → length l ≡ places * exits →
-      ((i e : ℕ) → i < places → e < exits → recordField (image t) i (λ k. field k e) ≡ getD l (exitPlace i e) 0) →
-      tabulate (places * exits) (λ p. recordField (image t) (p / exits) (λ k. field k (p % exits))) ≡ l
+      ((i e : ℕ) → i < places → e < exits → recordField (image v t) i (λ k. field k e) ≡ getD l (exitPlace i e) 0) →
+      tabulate (places * exits) (λ p. recordField (image v t) (p / exits) (λ k. field k (p % exits))) ≡ l
   exit-entries field l n h =
       tabulate-entries (places * exits) _ l 0 n
       (λ p b. h (p / exits) (p % exits) (omega arith) (omega arith) ∙ ap (λ q. getD l q 0) (exit-place-split p))
 
-  targets-entries : tabulate (places * exits) (λ p. recordField (image t) (p / exits) (λ k. targetIn (image t) k (p % exits))) ≡ t .targets
+  targets-entries : tabulate (places * exits) (λ p. recordField (image v t) (p / exits) (λ k. targetIn (image v t) k (p % exits))) ≡ t .targets
   unfolding targetOf
-  targets-entries = exit-entries (targetIn (image t)) (t .targets) (s .shape .targets) target-image
+  targets-entries = exit-entries (targetIn (image v t)) (t .targets) (s .shape .targets) target-image
 
-  bits-entries : tabulate (places * exits) (λ p. recordField (image t) (p / exits) (λ k. bitIn (image t) k (p % exits))) ≡ t .bits
+  bits-entries : tabulate (places * exits) (λ p. recordField (image v t) (p / exits) (λ k. bitIn (image v t) k (p % exits))) ≡ t .bits
   unfolding linkBit
   bits-entries =
-      exit-entries (bitIn (image t)) (t .bits) (s .shape .bits)
+      exit-entries (bitIn (image v t)) (t .bits) (s .shape .bits)
       (λ i e h l. let x = lt-ltb e exits l in bit-image i e h (omega arith) ∙ rw x)
 
   counts-entries : (u : Table) → u .capacity ≡ t .capacity → u .targets ≡ t .targets → u .bits ≡ t .bits →
@@ -165,14 +209,14 @@ module _ (t : Table) (s : Sound t) where
       links-same u t c g h (q / counters) (q % counters) ∙ sym (sound-formed s .exact (q / counters) (q % counters) (omega arith) (omega arith))
       ∙ ap (λ p. getD (t .counts) p 0) (counter-place q))
 
-  pub decode-encode : imageTable (image t) ≡ t
+  pub decode-encode : Says v t → imageTable (image v t) ≡ t
   unfolding imageTable counted withLinks
-  decode-encode =
-      let counts = counts-entries _ (image-capacity t) targets-entries bits-entries in
+  decode-encode p =
+      let counts = counts-entries _ (image-capacity v t) targets-entries bits-entries in
       λ k.
       record {
-        capacity = image-capacity t k;
-        last = image-last t k;
+        capacity = image-capacity v t k;
+        last = image-last v t k;
         used = used-entries k;
         kinds = kinds-entries k;
         contents = contents-entries k;
@@ -180,29 +224,66 @@ module _ (t : Table) (s : Sound t) where
         targets = targets-entries k;
         bits = bits-entries k;
         counts = counts k;
+        cabins = cabins-entries p k;
+        quotas = quotas-entries p k;
       }
 
-  image-numbers : (k : ℕ) → k < countIn (image t) → numberIn (image t) k < places
-  image-numbers k h = let a = image-index t k h in let m = s .most in omega (arith, index-number t k a, a .below)
+  image-numbers : (k : ℕ) → k < countIn (image v t) → numberIn (image v t) k < places
+  image-numbers k h = let a = image-index v t k h in let m = s .most in omega (arith, index-number v t k a, a .below)
 
-  image-bits : (k : ℕ) → k < countIn (image t) → bitsIn (image t) k ≤ 31
+  image-bits : (k : ℕ) → k < countIn (image v t) → bitsIn (image v t) k ≤ 31
   image-bits k h =
-      let a = image-index t k h in
+      let a = image-index v t k h in
       rw (← (a .index), bits-image (a .number) (a .below) (a .passes)) (bits-most (bitAt t (a .number)) (bit-small (a .number) (a .passes)))
 
-  pub encode-accepted : sound t ≡ true → accepted (image t) ≡ true
-  encode-accepted p =
-      accepted-test (image t)
+  pub encode-accepted : Says v t → sound t ≡ true → accepted (image v t) ≡ true
+  encode-accepted p b =
+      accepted-test (image v t)
       (record {
-        size = image-size t;
-        header = image-header t;
-        records = image-records t;
-        distinct = λ j k l h e. let d = image-distinct t j k (omega arith) h e in omega arith;
+        size = image-size v t;
+        header = rw (image-edition v t) (image-header v t);
+        records = rw (image-edition v t) (image-records v t);
+        distinct = λ j k l h e. let d = image-distinct v t j k (omega arith) h e in omega arith;
         numbers = image-numbers;
         bits = image-bits;
-        loads = ap sound decode-encode ∙ p;
+        loads = ap sound (decode-encode p) ∙ b;
       })
 
-  pub load-encode : sound t ≡ true → loadCall (image t) ≡ record { answer = Given 0 0; table = t }
+  pub load-encode : Says v t → sound t ≡ true → loadCall (image v t) ≡ record { answer = Given 0 0; table = t }
   unfolding loadCall unless first
-  load-encode p = rw (encode-accepted p) (λ k. record { answer = Given 0 0; table = decode-encode k })
+  load-encode p b = rw (encode-accepted p b) (λ k. record { answer = Given 0 0; table = decode-encode p k })
+
+-- an accepted image says no more than its edition can: an image of edition 1 loads with all of its capacity for cabin 0, and all steps charged to it
+pub accepted-says : (v : Edition) (bs : List ℕ) → accepted bs ≡ true → editionIn bs ≡ v → Says v (imageTable bs)
+unfolding imageTable counted withLinks quotasIn quotasBy cabinIn cabinBy
+accepted-says edition1 bs a q =
+    record {
+      quotas = ap (λ v. quotasBy v bs) q;
+      cabins =
+          λ i u.
+          let w = accepted-table bs a in
+          let h = used-below (sound-wired w) i u in
+          let m = w .most in
+          let f : (k : ℕ) → cabinIn bs k ≡ 0 = λ k. ap (λ v. cabinBy v bs k) q in
+          table-cabin bs i (omega arith) ∙ said-record bs i (cabinIn bs) (sym (table-used bs i (omega arith)) ∙ u) ∙ f (recordOf bs i);
+    }
+accepted-says edition2 bs a q = tt
+
+-- a sound table with the list of edition 1 has all steps charged to cabin 0: the other cabins have a limit of 0
+sole-limit : (capacity c : ℕ) → limitOf (soleQuotas capacity) (suc c) ≡ 0
+unfolding limitOf soleQuotas
+sole-limit capacity c =
+    ap (λ (n : ℕ). getD (soleQuotas capacity) n 0) (let e : suc c * 2 + 1 ≡ suc (suc (c * 2 + 1)) = omega arith in e) ∙ getD-zeros (quotaNumbers - 2) (c * 2 + 1)
+
+pub sole-says : (t : Table) → Sound t → t .quotas ≡ soleQuotas (t .capacity) → Says edition1 t
+unfolding charge
+sole-says t s q = record { quotas = q; cabins = λ i u. here i u (cabinOf t i) refl }
+  where
+    here : (i : ℕ) → inUse t i ≡ true → (c : ℕ) → cabinOf t i ≡ c → c ≡ 0
+    here i u zero e = refl
+    here i u (suc c) e =
+        let x = used-charged t (suc c) i u (λ z. omega (arith, sym e ∙ ap (cabinOf t) z ∙ s .alarmCabin)) e in
+        let some = count-pos (t .capacity) (charged t (suc c)) i (used-below (sound-wired s) i u) x in
+        let most = s .charges (suc c) (rw e at (s .cabins i u)) in
+        let none = ap (λ (l : List ℕ). limitOf l (suc c)) q ∙ sole-limit (t .capacity) c in
+        omega (arith, some, most, none)

@@ -1,11 +1,15 @@
--- The image of a table: its records, which images are accepted, what is written (document 01, "Image"). Assumes nothing.
+-- The image of a table: its records by edition, which images are accepted, what is written (document 01, "Image"; document 02, W1 and W5). Assumes
+-- nothing.
+--   Edition                     the edition of an image: which kinds of record it has, and which fields these have
+--   headerKindOf headerFieldCount headerFieldsOf   the header record of an edition; stepKindOf stepFieldCount stepFieldsOf, its step records
 --   word n, wordAt bs at        two bytes, little-endian, written and read
 --   recordBytes kind fields     a record: its length in bytes, its kind, its fields, each a word
---   imageSize n                 the length in bytes of an image with n step records
---   image t                     the written image: the header, then a record for each step in use, in ascending step number
+--   imageSize e n               the length in bytes of an image of edition e with n step records
+--   image e t                   the image of edition e: the header, then a record for each step in use, in ascending step number
 --   lengthCall t                the length of the image, asked for by itself
 --   writeCall t buffer          the call; written o, the bytes that it wrote
---   numberIn kindIn contentIn bitsIn targetIn   the fields of the k-th step record of an image
+--   editionIn bs                the edition that the header says; quotasIn, the list of quotas
+--   numberIn kindIn contentIn bitsIn targetIn cabinIn   the fields of the k-th step record of an image
 --   recordOf bs i, recordField   the record of step i, and one of its fields
 --   framed bs, accepted bs      the bytes are such records; the image is accepted
 --   imageTable bs, imagePlan bs   the table and the plain plan that its records say
@@ -22,10 +26,11 @@ use lib.Dec.{eqb, leb, ltb}
 use Rattle.finite.specs.Below.{all, one, lowest, tabulate, passes}
 use Rattle.table.specs.declared.Answer.{Answer}
 use Rattle.table.specs.declared.Answer.the-variants.{Refused, Given}
-use Rattle.table.specs.Table.{Table, places, exits, counters, inUse, kindOf, contentOf, ownBit, targetOf, linkBit, linksTo, stepsInUse, withLinks}
+use Rattle.table.specs.Table.{Table, places, exits, counters, quotaNumbers, inUse, kindOf, contentOf, ownBit, cabinOf, targetOf, linkBit, linksTo, stepsInUse, withLinks}
+use Rattle.table.specs.Cabins.{soleQuotas}
 use Rattle.table.specs.Sound.{sound}
 use Rattle.table.specs.Answer.{Outcome, tooShort, notAccepted, first, firstOf, unless}
-use Rattle.table.specs.Calls.{tableTests, freshTable}
+use Rattle.table.specs.Calls.{tableTests, refusedTable}
 use Rattle.table.specs.Plan.{Plan}
 
 -- "two bytes each, little-endian; so are all fields"
@@ -47,45 +52,68 @@ recordSize n = 2 * (n + 2)
 unfoldable pub recordBytes : ℕ → List ℕ → List ℕ
 recordBytes kind fields = words (recordSize (length fields) ∷ kind ∷ fields)
 
--- "Kind 1, length 10, first: capacity, last number given, steps in use."
-abbrev pub headerRecordKind : ℕ
-headerRecordKind = 1
+-- "Images gain an edition" (W5)
+pub data Edition : Type 0 where
+  edition1 edition2 : Edition
 
-abbrev pub headerFieldCount : ℕ
-headerFieldCount = 3
+-- "Kind 1, length 10, first: capacity, last number given, steps in use." W5: "header kind 3, length 42, with eight pairs of guarantee and limit after
+-- the old fields"
+abbrev pub headerKindOf : Edition → ℕ
+headerKindOf edition1 = 1
+headerKindOf edition2 = 3
 
--- "Kind 2, length 20, one for each step in use: number, step kind, content, bits .., four targets (0 is empty)."
-abbrev pub stepRecordKind : ℕ
-stepRecordKind = 2
+abbrev pub headerFieldCount : Edition → ℕ
+headerFieldCount edition1 = 3
+headerFieldCount edition2 = 3 + quotaNumbers
 
-abbrev pub stepFieldCount : ℕ
-stepFieldCount = 8
+-- "Kind 2, length 20, one for each step in use: number, step kind, content, bits .., four targets (0 is empty)." W5: "step kind 4, length 22, the cabin
+-- last (0 for step 0)"
+abbrev pub stepKindOf : Edition → ℕ
+stepKindOf edition1 = 2
+stepKindOf edition2 = 4
 
-unfoldable pub headerFieldsOf : Table → List ℕ
-headerFieldsOf t = t .capacity ∷ t .last ∷ stepsInUse t ∷ []
+abbrev pub stepFieldCount : Edition → ℕ
+stepFieldCount edition1 = 8
+stepFieldCount edition2 = 9
+
+-- what edition 2 has after the old fields
+unfoldable pub headerAdds : Edition → Table → List ℕ
+headerAdds edition1 t = []
+headerAdds edition2 t = tabulate quotaNumbers (λ k. getD (t .quotas) k 0)
+
+unfoldable pub headerFieldsOf : Edition → Table → List ℕ
+headerFieldsOf e t = t .capacity ∷ t .last ∷ stepsInUse t ∷ headerAdds e t
 
 -- "bits (a sum of 1, 2, 4, 8 for the four exits in order and 16 for the step, so at most 31)"
 unfoldable pub bitsOf : Table → ℕ → ℕ
 bitsOf t i = linkBit t i 0 + 2 * linkBit t i 1 + 4 * linkBit t i 2 + 8 * linkBit t i 3 + 16 * ownBit t i
 
-unfoldable pub stepFieldsOf : Table → ℕ → List ℕ
-stepFieldsOf t i =
-    i ∷ kindOf t i ∷ contentOf t i ∷ bitsOf t i ∷ targetOf t i 0 ∷ targetOf t i 1 ∷ targetOf t i 2 ∷ targetOf t i 3 ∷ []
+unfoldable pub stepAdds : Edition → Table → ℕ → List ℕ
+stepAdds edition1 t i = []
+stepAdds edition2 t i = cabinOf t i ∷ []
+
+unfoldable pub stepFieldsOf : Edition → Table → ℕ → List ℕ
+stepFieldsOf e t i =
+    i ∷ kindOf t i ∷ contentOf t i ∷ bitsOf t i ∷ targetOf t i 0 ∷ targetOf t i 1 ∷ targetOf t i 2 ∷ targetOf t i 3 ∷ stepAdds e t i
 
 -- the records of the steps in use below n
-unfoldable pub stepsBelow : Table → ℕ → List ℕ
-stepsBelow t zero = []
-stepsBelow t (suc n) = stepsBelow t n ++ cond (inUse t n) (recordBytes stepRecordKind (stepFieldsOf t n)) []
+unfoldable pub stepsBelow : Edition → Table → ℕ → List ℕ
+stepsBelow e t zero = []
+stepsBelow e t (suc n) = stepsBelow e t n ++ cond (inUse t n) (recordBytes (stepKindOf e) (stepFieldsOf e t n)) []
 
 -- "The writer now puts step records in ascending step number." (W1)
-unfoldable pub image : Table → List ℕ
-image t = recordBytes headerRecordKind (headerFieldsOf t) ++ stepsBelow t (t .capacity)
+unfoldable pub image : Edition → Table → List ℕ
+image e t = recordBytes (headerKindOf e) (headerFieldsOf e t) ++ stepsBelow e t (t .capacity)
 
-abbrev pub imageSize : ℕ → ℕ
-imageSize n = recordSize headerFieldCount + recordSize stepFieldCount * n
+abbrev pub imageSize : Edition → ℕ → ℕ
+imageSize e n = recordSize (headerFieldCount e) + recordSize (stepFieldCount e) * n
+
+-- "The writer writes edition 2" (W5)
+abbrev pub writtenEdition : Edition
+writtenEdition = edition2
 
 unfoldable pub imageLength : Table → ℕ
-imageLength t = imageSize (stepsInUse t)
+imageLength t = imageSize writtenEdition (stepsInUse t)
 
 -- the length asked for by itself, which is the room that writing needs: refusal 1, else the length
 unfoldable pub lengthCall : Table → Answer
@@ -114,7 +142,7 @@ unfoldable pub writeCall : Table → List ℕ → WriteOutcome
 writeCall t buffer =
     let n = writeRefusal t (length buffer) in
     cond (eqb n 0)
-    (record { answer = Given (imageLength t) 0; buffer = image t ++ drop (imageLength t) buffer })
+    (record { answer = Given (imageLength t) 0; buffer = image writtenEdition t ++ drop (imageLength t) buffer })
     (record { answer = Refused n; buffer = buffer })
 
 -- field i of the record that begins at a place
@@ -125,6 +153,10 @@ fieldAt bs at i = wordAt bs (at + 2 * (i + 2))
 unfoldable pub recordAt : List ℕ → ℕ → ℕ → ℕ → Bool
 recordAt bs at kind n = eqb (wordAt bs at) (recordSize n) && eqb (wordAt bs (at + 2)) kind
 
+-- the edition is that of the header: "an image that mixes editions is not accepted"
+unfoldable pub editionIn : List ℕ → Edition
+editionIn bs = cond (eqb (wordAt bs 2) (headerKindOf edition2)) edition2 edition1
+
 unfoldable pub capacityIn : List ℕ → ℕ
 capacityIn bs = fieldAt bs 0 0
 
@@ -134,24 +166,40 @@ lastIn bs = fieldAt bs 0 1
 unfoldable pub countIn : List ℕ → ℕ
 countIn bs = fieldAt bs 0 2
 
+-- "Edition 1 images load with .. cabin 0, which has guarantee and limit capacity less 1, others zero"
+unfoldable pub quotasBy : Edition → List ℕ → List ℕ
+quotasBy edition1 bs = soleQuotas (capacityIn bs)
+quotasBy edition2 bs = tabulate quotaNumbers (λ k. fieldAt bs 0 (3 + k))
+
+unfoldable pub quotasIn : List ℕ → List ℕ
+quotasIn bs = quotasBy (editionIn bs) bs
+
 -- where the k-th step record begins
-unfoldable pub stepPlace : ℕ → ℕ
-stepPlace k = imageSize k
+unfoldable pub stepPlace : List ℕ → ℕ → ℕ
+stepPlace bs k = imageSize (editionIn bs) k
 
 unfoldable pub numberIn : List ℕ → ℕ → ℕ
-numberIn bs k = fieldAt bs (stepPlace k) 0
+numberIn bs k = fieldAt bs (stepPlace bs k) 0
 
 unfoldable pub kindIn : List ℕ → ℕ → ℕ
-kindIn bs k = fieldAt bs (stepPlace k) 1
+kindIn bs k = fieldAt bs (stepPlace bs k) 1
 
 unfoldable pub contentIn : List ℕ → ℕ → ℕ
-contentIn bs k = fieldAt bs (stepPlace k) 2
+contentIn bs k = fieldAt bs (stepPlace bs k) 2
 
 unfoldable pub bitsIn : List ℕ → ℕ → ℕ
-bitsIn bs k = fieldAt bs (stepPlace k) 3
+bitsIn bs k = fieldAt bs (stepPlace bs k) 3
 
 unfoldable pub targetIn : List ℕ → ℕ → ℕ → ℕ
-targetIn bs k e = fieldAt bs (stepPlace k) (4 + e)
+targetIn bs k e = fieldAt bs (stepPlace bs k) (4 + e)
+
+-- "Edition 1 images load with all steps charged to cabin 0"
+unfoldable pub cabinBy : Edition → List ℕ → ℕ → ℕ
+cabinBy edition1 bs k = 0
+cabinBy edition2 bs k = fieldAt bs (stepPlace bs k) 8
+
+unfoldable pub cabinIn : List ℕ → ℕ → ℕ
+cabinIn bs k = cabinBy (editionIn bs) bs k
 
 -- bit e of the sum: e below 4 for an exit, 4 for the step
 unfoldable pub bitIn : List ℕ → ℕ → ℕ → ℕ
@@ -185,15 +233,17 @@ imageTable bs =
       targets = tabulate (places * exits) (λ p. recordField bs (p / exits) (λ k. targetIn bs k (p % exits)));
       bits = tabulate (places * exits) (λ p. recordField bs (p / exits) (λ k. bitIn bs k (p % exits)));
       counts = [];
+      cabins = tabulate places (λ i. recordField bs i (cabinIn bs));
+      quotas = quotasIn bs;
     })
 
--- "these records to its last byte, .. the count right": the length is that of the header and as many step records as it says
+-- "these records to its last byte, .. the count right": the length is that of the header and as many step records as it says, all of one edition
 unfoldable pub framed : List ℕ → Bool
 framed bs =
     passes
-    (eqb (length bs) (stepPlace (countIn bs)) ∷
-    recordAt bs 0 headerRecordKind headerFieldCount ∷
-    all (countIn bs) (λ k. recordAt bs (stepPlace k) stepRecordKind stepFieldCount) ∷
+    (eqb (length bs) (stepPlace bs (countIn bs)) ∷
+    recordAt bs 0 (headerKindOf (editionIn bs)) (headerFieldCount (editionIn bs)) ∷
+    all (countIn bs) (λ k. recordAt bs (stepPlace bs k) (stepKindOf (editionIn bs)) (stepFieldCount (editionIn bs))) ∷
     [])
 
 -- "An image is accepted exactly if it is these records to its last byte, no step twice, the count right, and the table sound." A record of a
@@ -212,7 +262,7 @@ loadConditions bs = (not (accepted bs), notAccepted) ∷ []
 
 unfoldable pub loadCall : List ℕ → Outcome
 loadCall bs =
-    unless (first (loadConditions bs)) (freshTable 1)
+    unless (first (loadConditions bs)) refusedTable
     (record { answer = Given 0 0; table = imageTable bs })
 
 -- "or as the accepted image's records say": the plain plan that the records draw
@@ -230,8 +280,10 @@ imagePlan bs =
             kind = kindIn bs (recordOf bs i);
             content = contentIn bs (recordOf bs i);
             targets = tabulate exits (targetIn bs (recordOf bs i));
+            cabin = cabinIn bs (recordOf bs i);
           }))
           none);
+      quotas = quotasIn bs;
     }
 
 -- every number of the list is a byte
@@ -244,16 +296,17 @@ SameBytes bs at cs to n = (i : ℕ) → i < n → getD bs (at + i) 0 ≡ getD cs
 
 -- step record k of one image is step record l of another, byte for byte
 abbrev pub SameRecord : List ℕ → ℕ → List ℕ → ℕ → Type 0
-SameRecord bs k cs l = SameBytes bs (stepPlace k) cs (stepPlace l) (recordSize stepFieldCount)
+SameRecord bs k cs l = SameBytes bs (stepPlace bs k) cs (stepPlace cs l) (recordSize (stepFieldCount (editionIn bs)))
 
 -- no step has two records
 abbrev pub Once : List ℕ → Type 0
 Once bs = (j k : ℕ) → j < countIn bs → k < countIn bs → numberIn bs j ≡ numberIn bs k → j ≡ k
 
--- two images that differ at most in the order of their step records
+-- two images of one edition that differ at most in the order of their step records
 pub record SameRecords (bs cs : List ℕ) : Type 0 where
+  pub edition : editionIn cs ≡ editionIn bs
   pub size : length bs ≡ length cs
-  pub header : SameBytes bs 0 cs 0 (recordSize headerFieldCount)
+  pub header : SameBytes bs 0 cs 0 (recordSize (headerFieldCount (editionIn bs)))
   pub there : (k : ℕ) → k < countIn bs → (l : ℕ) × (l < countIn cs) × SameRecord bs k cs l
   pub back : (l : ℕ) → l < countIn cs → (k : ℕ) × (k < countIn bs) × SameRecord bs k cs l
   pub once : Once bs

@@ -7,31 +7,31 @@
 --   filled-accepted      and the image is accepted where that table is sound
 --   ..-refused           each case in which the image is not accepted
 use mathlib.Core.Path.{_≡_, refl, sym, _∙_, ap}
-use mathlib.Core.Bool.{true, false}
+use mathlib.Core.Bool.{Bool, true, false}
 use mathlib.Core.Logic.{⊎-elim}
 use mathlib.Core.List.{List, [], _∷_}
 use Prim.Native.Nat.{ℕ, suc, _+_, _*_, _/_, _%_, _^_, _≤_, _<_}
 use native.Mathlib.Omega.{arith}
-use lib.ListN.{length, getD, replicate, List·getD-eq-default}
+use lib.ListN.{length, getD, set, replicate, List·getD-eq-default}
 use lib.Seq.{sets}
 use lib.Dec.{eqb}
-use borrow.Author.Tests.{eqb-true, eq-eqb}
+use borrow.Author.Tests.{eq-eqb}
 use Rattle.finite.specs.Below.{one, tabulate}
-use Rattle.finite.proofs.Bools.{and-intro, and-left, and-right, refute, same-test, test, clash}
+use Rattle.finite.proofs.Bools.{refute, same-test, test, clash}
 use Rattle.finite.proofs.Below.{le-or-lt, below-suc, any-intro, getD-tabulate, length-tabulate, tabulate-ext}
 use Rattle.table.specs.declared.Answer.the-variants.{Refused, Given}
-use Rattle.table.specs.Table.{Table, countsAt, linksTo, withLinks, withSteps}
+use Rattle.table.specs.Table.{Table, countsAt, linksTo, withNumbers, withLinks, withSteps}
 use Rattle.table.specs.Sound.{sound}
 use Rattle.table.specs.Answer.{first, unless}
-use Rattle.table.specs.Calls.{freshTable}
+use Rattle.table.specs.Calls.{refusedTable}
 use Rattle.words.specs.Words.{blankTable}
-use Rattle.image.specs.Image.{recordSize, recordAt, wordAt, fieldAt, stepPlace, capacityIn, lastIn, countIn, numberIn, kindIn, contentIn, bitsIn, targetIn, bitIn, recordOf, hasRecord, recordField, counted, imageTable, accepted, loadCall}
+use Rattle.image.specs.Image.{Edition, edition1, edition2, headerFieldCount, stepFieldCount, recordSize, imageSize, editionIn, stepPlace, capacityIn, lastIn, countIn, quotasBy, quotasIn, numberIn, kindIn, contentIn, bitsIn, targetIn, cabinBy, cabinIn, bitIn, recordOf, hasRecord, recordField, counted, imageTable, accepted, loadCall}
 use Rattle.image.proofs.Loaded.{test-accepted, accepted-test, accepted-capacity, record-below, record-number, said-record, said-none, has-record-any}
 use Rattle.images.specs.declared.StepRecord.{StepRecord}
-use Rattle.images.specs.Parts.{stepRead, withRecord}
+use Rattle.images.specs.Parts.{editionOf, cabinAt, stepRead, withRecord}
 use Rattle.images.proofs.Counting.{zeros}
 use Rattle.images.proofs.Stored.{latest, exitsTo, latest-keeps, latest-none, latest-at, mark-none, mark-some, stored-one, stored-four}
-use Rattle.images.proofs.Reading.{HeaderFits, StepFits}
+use Rattle.images.proofs.Reading.{HeaderFits, HeaderSays, StepFits, StepSays, header-room, header-edition}
 
 -- the table with the fields of the first k records; no link is counted yet
 unfoldable pub filledTable : List ℕ → ℕ → Table
@@ -46,20 +46,47 @@ filledTable bs k =
       targets = tabulate 512 (exitsTo (numberIn bs) k (targetIn bs));
       bits = tabulate 512 (exitsTo (numberIn bs) k (bitIn bs));
       counts = replicate 256 0;
+      cabins = tabulate 128 (latest (numberIn bs) k (cabinIn bs));
+      quotas = quotasIn bs;
     }
+
+-- the step records of an edition have one size, and it is not 0
+next-place : (e : Edition) (k : ℕ) → imageSize e (suc k) ≡ imageSize e k + recordSize (stepFieldCount e)
+next-place e k = omega arith
+
+place-only : (e : Edition) (j k : ℕ) → imageSize e j ≡ imageSize e k → j ≡ k
+unfolding recordSize
+place-only edition1 j k h = omega arith
+place-only edition2 j k h = omega arith
+
+place-below : (e : Edition) (j k : ℕ) → imageSize e j < imageSize e k → j < k
+unfolding recordSize
+place-below edition1 j k h = omega arith
+place-below edition2 j k h = omega arith
+
+place-room : (e : Edition) (j k : ℕ) → j < k → imageSize e j + recordSize (stepFieldCount e) ≤ imageSize e k
+unfolding recordSize
+place-room edition1 j k h = omega arith
+place-room edition2 j k h = omega arith
+
+-- the cabin of a record is read at its place
+cabin-read : (e : Edition) (bs : List ℕ) (k : ℕ) → cabinAt e bs (stepPlace bs k) ≡ cabinBy e bs k
+unfolding cabinAt cabinBy
+cabin-read edition1 bs k = refl
+cabin-read edition2 bs k = refl
 
 pub record Filled (bs : List ℕ) (t : Table) (at : ℕ) : Type 0 where
   pub done : ℕ
-  pub place : at ≡ stepPlace done
+  pub place : at ≡ stepPlace bs done
   pub within : at ≤ length bs
-  pub fits : (k : ℕ) → k < done → StepFits bs (stepPlace k)
+  pub fits : (k : ℕ) → k < done → StepFits (editionIn bs) bs (stepPlace bs k)
   pub distinct : (j k : ℕ) → j < k → k < done → numberIn bs j ≡ numberIn bs k → ⊥
   pub table : t ≡ filledTable bs done
 
 module _ (bs : List ℕ) where
   -- before the first record
-  filled-blank : blankTable (capacityIn bs) (lastIn bs) ≡ filledTable bs 0
-  unfolding blankTable filledTable latest exitsTo
+  filled-blank : withNumbers (blankTable (capacityIn bs) (lastIn bs)) (capacityIn bs) (lastIn bs) (quotasIn bs) ≡ filledTable bs 0
+  unfolding blankTable withNumbers filledTable latest exitsTo
   filled-blank =
       λ n.
       record {
@@ -72,19 +99,24 @@ module _ (bs : List ℕ) where
         targets = sym (zeros 512) n;
         bits = sym (zeros 512) n;
         counts = replicate 256 0;
+        cabins = sym (zeros 128) n;
+        quotas = quotasIn bs;
       }
 
-  pub filled-none : (capacity last : ℕ) (t : Table) → t ≡ blankTable capacity last → capacity ≡ capacityIn bs → last ≡ lastIn bs →
-      10 ≤ length bs → Filled bs t 10
-  unfolding stepPlace recordSize
-  filled-none capacity last t e c l h =
+  pub filled-none : (second : Bool) (capacity last at : ℕ) (t : Table) →
+      t ≡ withNumbers (blankTable capacity last) capacity last (quotasBy (editionOf second) bs) → HeaderSays bs second capacity last →
+      at ≡ recordSize (headerFieldCount (editionOf second)) → Filled bs t at
+  unfolding stepPlace quotasIn
+  filled-none second capacity last at t e s h =
+      let v = header-edition s in
+      let z : at ≡ recordSize (headerFieldCount (editionIn bs)) = h ∙ ap (λ (v : Edition). recordSize (headerFieldCount v)) v in
       record {
         done = 0;
-        place = refl;
-        within = h;
+        place = omega arith;
+        within = omega (arith, header-room bs (s .fits));
         fits = λ k g. absurd (omega arith);
         distinct = λ j k g m. absurd (omega arith);
-        table = e ∙ rw (c, l) filled-blank;
+        table = e ∙ rw (v, s .capacity, s .last) filled-blank;
       }
 
   -- one more record
@@ -97,7 +129,15 @@ module _ (bs : List ℕ) where
       let z : bitsIn bs k % 2 ≡ bitsIn bs k / 2 ^ 0 % 2 = omega arith in
       rw z (stored-four (numberIn bs) k (bitIn bs) low)
 
-  filled-step : (k : ℕ) → numberIn bs k < 128 → withRecord (filledTable bs k) (stepRead bs (stepPlace k)) ≡ filledTable bs (suc k)
+  one-cabin : (k : ℕ) → numberIn bs k < 128 →
+      set (tabulate 128 (latest (numberIn bs) k (cabinIn bs))) (numberIn bs k) (cabinAt (editionIn bs) bs (stepPlace bs k)) ≡
+      tabulate 128 (latest (numberIn bs) (suc k) (cabinIn bs))
+  unfolding cabinIn
+  one-cabin k low =
+      ap (set (tabulate 128 (latest (numberIn bs) k (cabinIn bs))) (numberIn bs k)) (cabin-read (editionIn bs) bs k)
+      ∙ stored-one (numberIn bs) 128 k (cabinIn bs) low
+
+  filled-step : (k : ℕ) → numberIn bs k < 128 → withRecord (filledTable bs k) (stepRead (editionIn bs) bs (stepPlace bs k)) ≡ filledTable bs (suc k)
   unfolding withRecord withLinks withSteps filledTable stepRead numberIn kindIn contentIn bitsIn targetIn bitIn
   filled-step k low =
       λ n.
@@ -111,16 +151,18 @@ module _ (bs : List ℕ) where
         targets = stored-four (numberIn bs) k (targetIn bs) low n;
         bits = four-bits k low n;
         counts = replicate 256 0;
+        cabins = one-cabin k low n;
+        quotas = quotasIn bs;
       }
 
   -- the record at the place is the next one
-  module _ (t : Table) (at : ℕ) (r : StepRecord) (f : Filled bs t at) (s : StepFits bs at) (e : r ≡ stepRead bs at) where
-    next-read : r ≡ stepRead bs (stepPlace (f .done))
-    next-read = e ∙ ap (stepRead bs) (f .place)
+  module _ (t : Table) (at : ℕ) (r : StepRecord) (f : Filled bs t at) (s : StepSays (editionIn bs) bs at r) where
+    next-read : r ≡ stepRead (editionIn bs) bs (stepPlace bs (f .done))
+    next-read = s .1 ∙ ap (stepRead (editionIn bs) bs) (f .place)
 
     next-low : numberIn bs (f .done) < 128
     unfolding numberIn
-    next-low = rw (f .place) at (s .number)
+    next-low = rw (f .place) at (s .0 .number)
 
     -- the mark of its step
     next-mark : getD (t .used) (r .number) 0 ≡ latest (numberIn bs) (f .done) (λ k. 1) (numberIn bs (f .done))
@@ -130,8 +172,8 @@ module _ (bs : List ℕ) where
         ap (λ (r : StepRecord). getD (filledTable bs (f .done) .used) (r .number) 0) next-read ∙
         getD-tabulate 128 (latest (numberIn bs) (f .done) (λ k. 1)) 0 (numberIn bs (f .done)) next-low
 
-    next-fits : (k : ℕ) → k < suc (f .done) → StepFits bs (stepPlace k)
-    next-fits k l = ⊎-elim (λ (e : k ≡ f .done). rw (e, ← (f .place)) s) (λ l. f .fits k l) (below-suc l)
+    next-fits : (k : ℕ) → k < suc (f .done) → StepFits (editionIn bs) bs (stepPlace bs k)
+    next-fits k l = ⊎-elim (λ (e : k ≡ f .done). rw (e, ← (f .place)) (s .0)) (λ l. f .fits k l) (below-suc l)
 
     -- its step is not yet marked
     next-free : getD (t .used) (r .number) 0 ≡ 0 → (j : ℕ) → j < f .done → numberIn bs j ≡ numberIn bs (f .done) → ⊥
@@ -141,13 +183,14 @@ module _ (bs : List ℕ) where
     pub next-twice : (getD (t .used) (r .number) 0 ≡ 0 → ⊥) → (j : ℕ) × (j < f .done) × (numberIn bs j ≡ numberIn bs (f .done))
     next-twice z = mark-some (numberIn bs) (f .done) (numberIn bs (f .done)) (λ y. z (next-mark ∙ y))
 
-    pub filled-more : (v : Table) → v ≡ withRecord t r → getD (t .used) (r .number) 0 ≡ 0 → Filled bs v (at + 20)
-    unfolding stepPlace recordSize
-    filled-more v h z =
+    pub filled-more : (v : Table) (size : ℕ) → v ≡ withRecord t r → getD (t .used) (r .number) 0 ≡ 0 →
+        size ≡ recordSize (stepFieldCount (editionIn bs)) → Filled bs v (at + size)
+    unfolding stepPlace
+    filled-more v size h z n =
         record {
           done = suc (f .done);
-          place = let x = f .place in omega arith;
-          within = s .room;
+          place = omega (arith, n, f .place, next-place (editionIn bs) (f .done));
+          within = omega (arith, n, s .0 .room);
           fits = next-fits;
           distinct = λ j k l m. ⊎-elim (λ (x : k ≡ f .done). rw x (next-free z j (rw x at l))) (λ g. f .distinct j k l g) (below-suc m);
           table =
@@ -173,7 +216,7 @@ module _ (bs : List ℕ) where
   filled-counts t at f = ap (λ (t : Table). t .counts) (f .table)
 
   pub filled-capacity : (t : Table) (at : ℕ) → Filled bs t at → HeaderFits bs → t .capacity ≤ 128
-  unfolding filledTable capacityIn fieldAt
+  unfolding filledTable
   filled-capacity t at f h = rw (f .table) (h .capacity)
 
   -- a field stored by number is that of the image's table
@@ -198,8 +241,8 @@ module _ (bs : List ℕ) where
   -- past the last record
   module _ (t : Table) (at : ℕ) (f : Filled bs t at) (h : HeaderFits bs) (l : length bs ≤ at) where
     all : f .done ≡ countIn bs
-    unfolding stepPlace recordSize countIn fieldAt
-    all = let p = f .place in let s = h .size in let w = f .within in omega arith
+    unfolding stepPlace
+    all = place-only (editionIn bs) (f .done) (countIn bs) (omega (arith, f .place, h .size, f .within))
 
     all-distinct : (j k : ℕ) → j < k → k < countIn bs → numberIn bs j ≡ numberIn bs k → ⊥
     all-distinct j k l h = f .distinct j k l (rw all h)
@@ -224,6 +267,7 @@ module _ (bs : List ℕ) where
         let own = one-all (λ k. bitIn bs k 4) in
         let targets = four-all (targetIn bs) in
         let bits = four-all (bitIn bs) in
+        let cabins = one-all (cabinIn bs) in
         ap counted (f .table ∙ ap (filledTable bs) all) ∙
         (λ n.
         counted
@@ -237,27 +281,21 @@ module _ (bs : List ℕ) where
           targets = targets n;
           bits = bits n;
           counts = [];
+          cabins = cabins n;
+          quotas = quotasIn bs;
         }))
-
-    fits-record : (k : ℕ) → StepFits bs (stepPlace k) → recordAt bs (stepPlace k) 2 8 ≡ true
-    unfolding recordAt recordSize
-    fits-record k s = and-intro (eq-eqb (wordAt bs (stepPlace k)) 20 (s .long)) (eq-eqb (wordAt bs (stepPlace k + 2)) 2 (s .kind))
-
-    header-record : recordAt bs 0 1 3 ≡ true
-    unfolding recordAt recordSize
-    header-record = and-intro (eq-eqb (wordAt bs 0) 10 (h .long)) (eq-eqb (wordAt bs 2) 1 (h .kind))
 
     -- it is accepted where that table is sound
     pub filled-accepted : sound (imageTable bs) ≡ accepted bs
-    unfolding stepPlace recordSize countIn fieldAt numberIn bitsIn
+    unfolding numberIn bitsIn
     filled-accepted =
         same-test (sound (imageTable bs)) (accepted bs)
         (λ s.
         accepted-test bs
         (record {
           size = h .size;
-          header = header-record;
-          records = λ k l. fits-record k (f .fits k (rw all l));
+          header = h .begins;
+          records = λ k l. f .fits k (rw all l) .begins;
           distinct = all-distinct;
           numbers = λ k l. f .fits k (rw all l) .number;
           bits = λ k l. f .fits k (rw all l) .bits;
@@ -267,25 +305,15 @@ module _ (bs : List ℕ) where
 
   -- what an accepted image has
   accepted-header : accepted bs ≡ true → HeaderFits bs
-  unfolding stepPlace recordSize countIn fieldAt recordAt capacityIn
-  accepted-header t =
-      let a = test-accepted bs t in
-      record {
-        size = a .size;
-        long = eqb-true _ _ (and-left (eqb (wordAt bs 0) 10) _ (a .header));
-        kind = eqb-true _ _ (and-right (eqb (wordAt bs 0) 10) _ (a .header));
-        capacity = accepted-capacity bs t;
-      }
+  accepted-header t = let a = test-accepted bs t in record { size = a .size; begins = a .header; capacity = accepted-capacity bs t }
 
-  accepted-step : accepted bs ≡ true → (k : ℕ) → k < countIn bs → StepFits bs (stepPlace k)
-  unfolding stepPlace recordSize recordAt numberIn bitsIn
+  accepted-step : accepted bs ≡ true → (k : ℕ) → k < countIn bs → StepFits (editionIn bs) bs (stepPlace bs k)
+  unfolding stepPlace numberIn bitsIn
   accepted-step t k l =
       let a = test-accepted bs t in
-      let at = stepPlace k in
       record {
-        room = let s = a .size in omega arith;
-        long = eqb-true _ _ (and-left (eqb (wordAt bs at) 20) _ (a .records k l));
-        kind = eqb-true _ _ (and-right (eqb (wordAt bs at) 20) _ (a .records k l));
+        room = omega (arith, a .size, place-room (editionIn bs) k (countIn bs) l);
+        begins = a .records k l;
         number = a .numbers k l;
         bits = a .bits k l;
       }
@@ -295,10 +323,11 @@ module _ (bs : List ℕ) where
   unfit-refused h = refute (accepted bs) (λ t. h (accepted-header t))
 
   next-below : (t : Table) (at : ℕ) (f : Filled bs t at) → HeaderFits bs → at < length bs → f .done < countIn bs
-  unfolding stepPlace recordSize countIn fieldAt
-  next-below t at f h l = let p = f .place in let s = h .size in omega arith
+  unfolding stepPlace
+  next-below t at f h l = place-below (editionIn bs) (f .done) (countIn bs) (omega (arith, f .place, h .size))
 
-  pub nothing-refused : (t : Table) (at : ℕ) → Filled bs t at → HeaderFits bs → at < length bs → (StepFits bs at → ⊥) → accepted bs ≡ false
+  pub nothing-refused : (t : Table) (at : ℕ) → Filled bs t at → HeaderFits bs → at < length bs → (StepFits (editionIn bs) bs at → ⊥) →
+      accepted bs ≡ false
   nothing-refused t at f h l n =
       refute (accepted bs) (λ a. n (rw (f .place) (accepted-step a (f .done) (next-below t at f h l))))
 
@@ -308,7 +337,7 @@ module _ (bs : List ℕ) where
       refute (accepted bs) (λ a. test-accepted bs a .distinct (w .0) (f .done) (w .1) (next-below t at f h l) (w .2))
 
   -- the call
-  pub load-refused : accepted bs ≡ false → loadCall bs ≡ record { answer = Refused 12; table = freshTable 1 }
+  pub load-refused : accepted bs ≡ false → loadCall bs ≡ record { answer = Refused 12; table = refusedTable }
   unfolding loadCall unless first
   load-refused a = rw a
 

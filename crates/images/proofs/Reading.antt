@@ -1,8 +1,9 @@
--- What the readers of a header and of a step record find, as facts about the bytes. Assumes nothing.
---   HeaderFits bs     the header reader finds a header
---   StepFits bs at    the record reader finds a step record in the part that begins at a place
-use mathlib.Core.Path.{_≡_, sym, _∙_, ap}
-use mathlib.Core.Bool.{true, false, _&&_}
+-- What the readers of a header and of a step record find, as facts about the bytes, in either edition. Assumes nothing.
+--   HeaderFits bs       the header reader finds a header
+--   StepFits e bs at    the record reader finds a step record in the part that begins at a place
+--   header-.. step-..   what was found, or not found, says that they do, or do not
+use mathlib.Core.Path.{_≡_, refl, sym, _∙_, ap, ap₂}
+use mathlib.Core.Bool.{Bool, true, false, _&&_}
 use mathlib.Core.Logic.{⊎-elim}
 use mathlib.Core.List.{List}
 use Prim.Native.Nat.{ℕ, _+_, _*_, _-_, _≤_, _<_}
@@ -12,124 +13,136 @@ use lib.Seq.{take-all, getD-drop}
 use lib.Dec.{eqb, leb, ltb}
 use borrow.Author.Tests.{eqb-true, eq-eqb, leb-true, le-leb, ltb-true, lt-ltb}
 use Rattle.finite.proofs.Bools.{and-intro, and-left, and-right, refute, test}
-use Rattle.image.specs.Image.{recordSize, recordAt, wordAt, fieldAt, capacityIn, lastIn, countIn, stepPlace}
+use Rattle.table.specs.Table.{places}
+use Rattle.image.specs.Image.{Edition, edition1, edition2, headerKindOf, headerFieldCount, stepKindOf, stepFieldCount, recordSize, recordAt, wordAt, fieldAt, stepPlace, editionIn, capacityIn, lastIn, countIn}
+use Rattle.image.proofs.Written.{old-header, old-fields}
 use Rattle.images.specs.declared.StepRecord.{StepRecord}
 use Rattle.images.specs.declared.Read.the-variants.{Step, Nothing}
 use Rattle.images.specs.declared.Header.the-variants.{Fits, Unfit}
-use Rattle.images.specs.Parts.{fitsAt, stepRead, readStep, readHeader}
+use Rattle.images.specs.Parts.{editionOf, secondIn, fitsAt, cabinAt, stepRead, readStep, readHeader}
+
+-- an image says by its header's kind which edition it is of
+pub edition-said : (bs : List ℕ) → editionOf (secondIn bs) ≡ editionIn bs
+unfolding secondIn editionIn
+edition-said bs = refl
+
+-- the records of both editions are long enough for the old fields
+pub header-least : (e : Edition) → 10 ≤ recordSize (headerFieldCount e)
+unfolding recordSize
+header-least e = omega (arith, old-header e)
+
+pub step-least : (e : Edition) → 20 ≤ recordSize (stepFieldCount e)
+unfolding recordSize
+step-least e = omega (arith, old-fields e)
 
 pub record HeaderFits (bs : List ℕ) : Type 0 where
-  pub size : length bs ≡ 10 + 20 * wordAt bs 8
-  pub long : wordAt bs 0 ≡ 10
-  pub kind : wordAt bs 2 ≡ 1
-  pub capacity : wordAt bs 4 ≤ 128
+  pub size : length bs ≡ stepPlace bs (countIn bs)
+  pub begins : recordAt bs 0 (headerKindOf (editionIn bs)) (headerFieldCount (editionIn bs)) ≡ true
+  pub capacity : capacityIn bs ≤ places
+
+-- the tests of the header reader
+abbrev headerTests : List ℕ → Bool
+headerTests bs =
+    eqb (length bs) (stepPlace bs (countIn bs)) &&
+    (recordAt bs 0 (headerKindOf (editionIn bs)) (headerFieldCount (editionIn bs)) && leb (capacityIn bs) places)
 
 module _ (bs : List ℕ) where
-  header-fits : HeaderFits bs → (eqb (length bs) (stepPlace (countIn bs)) && (recordAt bs 0 1 3 && leb (capacityIn bs) 128)) ≡ true
-  unfolding stepPlace recordSize countIn capacityIn fieldAt recordAt
-  header-fits f =
-      and-intro (eq-eqb (length bs) (10 + 20 * wordAt bs 8) (f .size))
-      (and-intro (and-intro (eq-eqb (wordAt bs 0) 10 (f .long)) (eq-eqb (wordAt bs 2) 1 (f .kind))) (le-leb (wordAt bs 4) 128 (f .capacity)))
+  header-fits : HeaderFits bs → headerTests bs ≡ true
+  header-fits f = and-intro (eq-eqb _ _ (f .size)) (and-intro (f .begins) (le-leb (capacityIn bs) places (f .capacity)))
 
-  fits-header : (eqb (length bs) (stepPlace (countIn bs)) && (recordAt bs 0 1 3 && leb (capacityIn bs) 128)) ≡ true → HeaderFits bs
-  unfolding stepPlace recordSize countIn capacityIn fieldAt recordAt
+  fits-header : headerTests bs ≡ true → HeaderFits bs
   fits-header t =
-      let rest = and-right (eqb (length bs) (10 + 20 * wordAt bs 8)) _ t in
-      let head = and-left (eqb (wordAt bs 0) 10 && eqb (wordAt bs 2) 1) _ rest in
+      let rest = and-right (eqb (length bs) (stepPlace bs (countIn bs))) _ t in
       record {
         size = eqb-true _ _ (and-left _ _ t);
-        long = eqb-true _ _ (and-left _ _ head);
-        kind = eqb-true _ _ (and-right (eqb (wordAt bs 0) 10) _ head);
-        capacity = leb-true _ _ (and-right (eqb (wordAt bs 0) 10 && eqb (wordAt bs 2) 1) _ rest);
+        begins = and-left _ _ rest;
+        capacity = leb-true _ _ (and-right (recordAt bs 0 (headerKindOf (editionIn bs)) (headerFieldCount (editionIn bs))) _ rest);
       }
 
-  pub header-found : HeaderFits bs → readHeader bs ≡ Fits (wordAt bs 4) (wordAt bs 6)
-  unfolding readHeader capacityIn lastIn fieldAt
+  pub header-found : HeaderFits bs → readHeader bs ≡ Fits (secondIn bs) (capacityIn bs) (lastIn bs)
+  unfolding readHeader
   header-found f = rw (header-fits f)
 
   pub header-unfit : (HeaderFits bs → ⊥) → readHeader bs ≡ Unfit
   unfolding readHeader
-  header-unfit f = rw (refute (eqb (length bs) (stepPlace (countIn bs)) && (recordAt bs 0 1 3 && leb (capacityIn bs) 128)) (λ t. f (fits-header t)))
+  header-unfit f = rw (refute (headerTests bs) (λ t. f (fits-header t)))
 
-pub record StepFits (bs : List ℕ) (at : ℕ) : Type 0 where
-  pub room : at + 20 ≤ length bs
-  pub long : wordAt bs at ≡ 20
-  pub kind : wordAt bs (at + 2) ≡ 2
-  pub number : fieldAt bs at 0 < 128
+  -- the header is inside the bytes
+  pub header-room : HeaderFits bs → recordSize (headerFieldCount (editionIn bs)) ≤ length bs
+  unfolding stepPlace
+  header-room f = omega (arith, f .size)
+
+  pub second-room : HeaderFits bs → secondIn bs ≡ true → 42 ≤ length bs
+  unfolding recordSize
+  second-room f s =
+      let e : editionIn bs ≡ edition2 = sym (edition-said bs) ∙ ap editionOf s in
+      rw e at (header-room f)
+
+pub record StepFits (e : Edition) (bs : List ℕ) (at : ℕ) : Type 0 where
+  pub room : at + recordSize (stepFieldCount e) ≤ length bs
+  pub begins : recordAt bs at (stepKindOf e) (stepFieldCount e) ≡ true
+  pub number : fieldAt bs at 0 < places
   pub bits : fieldAt bs at 3 ≤ 31
 
-module _ (bs : List ℕ) where
-  step-fits : StepFits bs 0 → (leb 20 (length bs) && fitsAt bs 0) ≡ true
-  unfolding fitsAt recordAt recordSize
-  step-fits f =
-      and-intro (le-leb 20 (length bs) (f .room))
-      (and-intro (and-intro (eq-eqb (wordAt bs 0) 20 (f .long)) (eq-eqb (wordAt bs 2) 2 (f .kind)))
-      (and-intro (lt-ltb (fieldAt bs 0 0) 128 (f .number)) (le-leb (fieldAt bs 0 3) 31 (f .bits))))
+-- the tests of the record reader
+abbrev stepTests : Edition → List ℕ → Bool
+stepTests e bs = leb (recordSize (stepFieldCount e)) (length bs) && fitsAt e bs 0
 
-  fits-step : (leb 20 (length bs) && fitsAt bs 0) ≡ true → StepFits bs 0
-  unfolding fitsAt recordAt recordSize
+module _ (e : Edition) (bs : List ℕ) where
+  step-fits : StepFits e bs 0 → stepTests e bs ≡ true
+  unfolding fitsAt
+  step-fits f =
+      and-intro (le-leb (recordSize (stepFieldCount e)) (length bs) (omega (arith, f .room)))
+      (and-intro (f .begins) (and-intro (lt-ltb (fieldAt bs 0 0) places (f .number)) (le-leb (fieldAt bs 0 3) 31 (f .bits))))
+
+  fits-step : stepTests e bs ≡ true → StepFits e bs 0
+  unfolding fitsAt
   fits-step t =
-      let rest = and-right (leb 20 (length bs)) _ t in
-      let head = and-left (eqb (wordAt bs 0) 20 && eqb (wordAt bs 2) 2) _ rest in
-      let last = and-right (eqb (wordAt bs 0) 20 && eqb (wordAt bs 2) 2) _ rest in
+      let rest = and-right (leb (recordSize (stepFieldCount e)) (length bs)) _ t in
+      let last = and-right (recordAt bs 0 (stepKindOf e) (stepFieldCount e)) _ rest in
       record {
-        room = leb-true _ _ (and-left (leb 20 (length bs)) _ t);
-        long = eqb-true _ _ (and-left _ _ head);
-        kind = eqb-true _ _ (and-right (eqb (wordAt bs 0) 20) _ head);
+        room = let l = leb-true (recordSize (stepFieldCount e)) (length bs) (and-left _ _ t) in omega arith;
+        begins = and-left _ _ rest;
         number = ltb-true _ _ (and-left _ _ last);
-        bits = leb-true _ _ (and-right (ltb (fieldAt bs 0 0) 128) _ last);
+        bits = leb-true _ _ (and-right (ltb (fieldAt bs 0 0) places) _ last);
       }
 
-  step-found : StepFits bs 0 → readStep bs ≡ Step (stepRead bs 0)
-  unfolding readStep recordSize
+  pub step-found : StepFits e bs 0 → readStep e bs ≡ Step (stepRead e bs 0)
+  unfolding readStep
   step-found f = rw (step-fits f)
 
-  -- the same of a record with the fields that were read
-  pub step-built : (r : StepRecord) → StepFits bs 0 → r .number ≡ wordAt bs 4 → r .kind ≡ wordAt bs 6 → r .content ≡ wordAt bs 8 →
-      r .bits ≡ wordAt bs 10 → r .first ≡ wordAt bs 12 → r .second ≡ wordAt bs 14 → r .third ≡ wordAt bs 16 → r .fourth ≡ wordAt bs 18 →
-      Step r ≡ readStep bs
-  unfolding stepRead fieldAt
-  step-built r f number kind content bits first second third fourth =
-      (λ k.
-      Step
-      (record {
-        number = number k;
-        kind = kind k;
-        content = content k;
-        bits = bits k;
-        first = first k;
-        second = second k;
-        third = third k;
-        fourth = fourth k;
-      }))
-      ∙ sym (step-found f)
-
-  pub step-nothing : (StepFits bs 0 → ⊥) → readStep bs ≡ Nothing
-  unfolding readStep recordSize
-  step-nothing f = rw (refute (leb 20 (length bs) && fitsAt bs 0) (λ t. f (fits-step t)))
+  pub step-nothing : (StepFits e bs 0 → ⊥) → readStep e bs ≡ Nothing
+  unfolding readStep
+  step-nothing f = rw (refute (stepTests e bs) (λ t. f (fits-step t)))
 
 -- what a header that was found says
-abbrev pub HeaderSays : List ℕ → ℕ → ℕ → Type 0
-HeaderSays bs capacity last = HeaderFits bs × (capacity ≡ capacityIn bs) × (last ≡ lastIn bs)
+pub record HeaderSays (bs : List ℕ) (s : Bool) (c l : ℕ) : Type 0 where
+  pub fits : HeaderFits bs
+  pub second : s ≡ secondIn bs
+  pub capacity : c ≡ capacityIn bs
+  pub last : l ≡ lastIn bs
 
-pub header-known : (bs : List ℕ) (capacity last : ℕ) → Fits capacity last ≡ readHeader bs → HeaderSays bs capacity last
+pub header-edition : {bs : List ℕ} {second : Bool} {capacity last : ℕ} → HeaderSays bs second capacity last → editionOf second ≡ editionIn bs
+header-edition {bs = bs} s = ap editionOf (s .second) ∙ edition-said bs
+
+pub header-known : (bs : List ℕ) (second : Bool) (capacity last : ℕ) → Fits second capacity last ≡ readHeader bs → HeaderSays bs second capacity last
 unfolding readHeader
-header-known bs capacity last e =
+header-known bs second capacity last e =
     ⊎-elim
-    (λ (t : (eqb (length bs) (stepPlace (countIn bs)) && (recordAt bs 0 1 3 && leb (capacityIn bs) 128)) ≡ true).
-    let h : Fits capacity last ≡ Fits (capacityIn bs) (lastIn bs) = rw t at e in
-    (fits-header bs t, (cc), (cc)))
-    (λ (t : (eqb (length bs) (stepPlace (countIn bs)) && (recordAt bs 0 1 3 && leb (capacityIn bs) 128)) ≡ false).
-    let h : Fits capacity last ≡ Unfit = rw t at e in
+    (λ (t : headerTests bs ≡ true).
+    let h : Fits second capacity last ≡ Fits (secondIn bs) (capacityIn bs) (lastIn bs) = rw t at e in
+    record { fits = fits-header bs t; second = cc; capacity = cc; last = cc })
+    (λ (t : headerTests bs ≡ false).
+    let h : Fits second capacity last ≡ Unfit = rw t at e in
     absurd (let z : _≡_ {A = ℕ} 0 1 = cc in omega arith))
-    (test (eqb (length bs) (stepPlace (countIn bs)) && (recordAt bs 0 1 3 && leb (capacityIn bs) 128)))
+    (test (headerTests bs))
 
 pub header-refuted : (bs : List ℕ) → Unfit ≡ readHeader bs → HeaderFits bs → ⊥
 header-refuted bs e f = let h = header-found bs f in let z : _≡_ {A = ℕ} 0 1 = cc in omega arith
 
 -- what a step record that was found at a place says
-abbrev pub StepSays : List ℕ → ℕ → StepRecord → Type 0
-StepSays bs at r = StepFits bs at × (r ≡ stepRead bs at)
+abbrev pub StepSays : Edition → List ℕ → ℕ → StepRecord → Type 0
+StepSays e bs at r = StepFits e bs at × (r ≡ stepRead e bs at)
 
 -- the part that begins at a place
 module _ (bs : List ℕ) (at : ℕ) (within : at ≤ length bs) where
@@ -146,33 +159,38 @@ module _ (bs : List ℕ) (at : ℕ) (within : at ≤ length bs) where
   unfolding fieldAt
   field-part i = let z : 0 + 2 * (i + 2) ≡ 2 * (i + 2) = omega arith in rw z (word-part (2 * (i + 2)))
 
-  part-fits : StepFits (drop at bs) 0 → StepFits bs at
-  part-fits f =
-      let l = length-drop at bs in
+  record-part : (kind n : ℕ) → recordAt (drop at bs) 0 kind n ≡ recordAt bs at kind n
+  unfolding recordAt
+  record-part kind n =
       let z : at + 0 ≡ at = omega arith in
+      ap₂ (λ (a b : ℕ). eqb a (recordSize n) && eqb b kind) (word-part 0 ∙ ap (wordAt bs) z) (word-part 2)
+
+  part-fits : (e : Edition) → StepFits e (drop at bs) 0 → StepFits e bs at
+  part-fits e f =
       record {
-        room = let r = f .room in omega arith;
-        long = ap (wordAt bs) (sym z) ∙ sym (word-part 0) ∙ f .long;
-        kind = sym (word-part 2) ∙ f .kind;
+        room = omega (arith, f .room, length-drop at bs);
+        begins = sym (record-part (stepKindOf e) (stepFieldCount e)) ∙ f .begins;
         number = rw (field-part 0) at (f .number);
         bits = rw (field-part 3) at (f .bits);
       }
 
-  fits-part : StepFits bs at → StepFits (drop at bs) 0
-  fits-part f =
-      let l = length-drop at bs in
-      let z : at + 0 ≡ at = omega arith in
+  fits-part : (e : Edition) → StepFits e bs at → StepFits e (drop at bs) 0
+  fits-part e f =
       record {
-        room = let r = f .room in omega arith;
-        long = word-part 0 ∙ ap (wordAt bs) z ∙ f .long;
-        kind = word-part 2 ∙ f .kind;
+        room = omega (arith, f .room, length-drop at bs);
+        begins = record-part (stepKindOf e) (stepFieldCount e) ∙ f .begins;
         number = rw (field-part 0) (f .number);
         bits = rw (field-part 3) (f .bits);
       }
 
-  part-read : stepRead (drop at bs) 0 ≡ stepRead bs at
+  part-cabin : (e : Edition) → cabinAt e (drop at bs) 0 ≡ cabinAt e bs at
+  unfolding cabinAt
+  part-cabin edition1 = refl
+  part-cabin edition2 = field-part 8
+
+  part-read : (e : Edition) → stepRead e (drop at bs) 0 ≡ stepRead e bs at
   unfolding stepRead
-  part-read =
+  part-read e =
       λ k.
       record {
         number = field-part 0 k;
@@ -183,26 +201,27 @@ module _ (bs : List ℕ) (at : ℕ) (within : at ≤ length bs) where
         second = field-part 5 k;
         third = field-part 6 k;
         fourth = field-part 7 k;
+        cabin = part-cabin e k;
       }
 
-  pub step-known : (r : StepRecord) → Step r ≡ readStep (take (length bs - at) (drop at bs)) → StepSays bs at r
-  unfolding readStep recordSize
-  step-known r e =
+  pub step-known : (e : Edition) (r : StepRecord) → Step r ≡ readStep e (take (length bs - at) (drop at bs)) → StepSays e bs at r
+  unfolding readStep
+  step-known e r h =
       ⊎-elim
-      (λ (t : (leb 20 (length (drop at bs)) && fitsAt (drop at bs) 0) ≡ true).
-      let h : Step r ≡ Step (stepRead (drop at bs) 0) = rw (part-drop, t) at e in
-      (part-fits (fits-step (drop at bs) t), same h ∙ part-read))
-      (λ (t : (leb 20 (length (drop at bs)) && fitsAt (drop at bs) 0) ≡ false).
-      let h : Step r ≡ Nothing = rw (part-drop, t) at e in
+      (λ (t : stepTests e (drop at bs) ≡ true).
+      let g : Step r ≡ Step (stepRead e (drop at bs) 0) = rw (part-drop, t) at h in
+      (part-fits e (fits-step e (drop at bs) t), same g ∙ part-read e))
+      (λ (t : stepTests e (drop at bs) ≡ false).
+      let g : Step r ≡ Nothing = rw (part-drop, t) at h in
       absurd (let z : _≡_ {A = ℕ} 0 1 = cc in omega arith))
-      (test (leb 20 (length (drop at bs)) && fitsAt (drop at bs) 0))
+      (test (stepTests e (drop at bs)))
     where
-      same : Step r ≡ Step (stepRead (drop at bs) 0) → r ≡ stepRead (drop at bs) 0
+      same : Step r ≡ Step (stepRead e (drop at bs) 0) → r ≡ stepRead e (drop at bs) 0
       same h = cc
 
-  pub step-refuted : Nothing ≡ readStep (take (length bs - at) (drop at bs)) → StepFits bs at → ⊥
-  step-refuted e f =
-      let h = step-found (drop at bs) (fits-part f) in
-      let g : Nothing ≡ readStep (drop at bs) = rw part-drop at e in
+  pub step-refuted : (e : Edition) → Nothing ≡ readStep e (take (length bs - at) (drop at bs)) → StepFits e bs at → ⊥
+  step-refuted e h f =
+      let g = step-found e (drop at bs) (fits-part e f) in
+      let k : Nothing ≡ readStep e (drop at bs) = rw part-drop at h in
       let z : _≡_ {A = ℕ} 0 1 = cc in
       omega arith

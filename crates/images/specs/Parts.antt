@@ -1,9 +1,10 @@
 -- What the functions inside this crate give back; the calls' own definitions are those of the crate image. Assumes nothing.
+--   editionOf second    the edition that a bool says; secondIn bs, whether the header says edition 2
 --   putWords bs at ns   the bytes with numbers from a place on, two bytes each
---   recordFields r      the fields of a step record, in their order
---   fitsAt bs at        a step record of a step that a table has, with bits up to 31, begins at a place
---   stepRead bs at      its fields
---   readStep bs         what the record reader finds at the start of the bytes
+--   recordFields r      the fields of a step record as it is written, in their order
+--   fitsAt e bs at      a step record of the edition, of a step that a table has, with bits up to 31, begins at a place
+--   stepRead e bs at    its fields; cabinAt e bs at, its cabin
+--   readStep e bs       what the record reader finds at the start of the bytes
 --   readHeader bs       what the header reader finds
 --   withRecord t r      the table with the fields of a step record
 use mathlib.Core.Bool.{Bool, _&&_, cond}
@@ -13,25 +14,36 @@ use lib.ListN.{length, set}
 use lib.Seq.{sets}
 use lib.Dec.{eqb, leb, ltb}
 use Rattle.table.specs.Table.{Table, places, exits, withLinks, withSteps}
-use Rattle.image.specs.Image.{words, headerRecordKind, headerFieldCount, stepRecordKind, stepFieldCount, recordSize, recordAt, fieldAt, stepPlace, capacityIn, lastIn, countIn}
+use Rattle.image.specs.Image.{Edition, edition1, edition2, words, headerKindOf, headerFieldCount, stepKindOf, stepFieldCount, recordSize, wordAt, recordAt, fieldAt, stepPlace, editionIn, capacityIn, lastIn, countIn}
 use Rattle.images.specs.declared.StepRecord.{StepRecord}
 use Rattle.images.specs.declared.Read.{Read}
 use Rattle.images.specs.declared.Read.the-variants.{Step, Nothing}
 use Rattle.images.specs.declared.Header.{Header}
 use Rattle.images.specs.declared.Header.the-variants.{Fits, Unfit}
 
+abbrev pub editionOf : Bool → Edition
+editionOf second = cond second edition2 edition1
+
+unfoldable pub secondIn : List ℕ → Bool
+secondIn bs = eqb (wordAt bs 2) (headerKindOf edition2)
+
 unfoldable pub putWords : List ℕ → ℕ → List ℕ → List ℕ
 putWords bs at ns = sets bs at (words ns)
 
 unfoldable pub recordFields : StepRecord → List ℕ
-recordFields r = r .number ∷ r .kind ∷ r .content ∷ r .bits ∷ r .first ∷ r .second ∷ r .third ∷ r .fourth ∷ []
+recordFields r = r .number ∷ r .kind ∷ r .content ∷ r .bits ∷ r .first ∷ r .second ∷ r .third ∷ r .fourth ∷ r .cabin ∷ []
 
 -- "A record of a step that no table has, or with bits above 31, is none of these records."
-unfoldable pub fitsAt : List ℕ → ℕ → Bool
-fitsAt bs at = recordAt bs at stepRecordKind stepFieldCount && (ltb (fieldAt bs at 0) places && leb (fieldAt bs at 3) 31)
+unfoldable pub fitsAt : Edition → List ℕ → ℕ → Bool
+fitsAt e bs at = recordAt bs at (stepKindOf e) (stepFieldCount e) && (ltb (fieldAt bs at 0) places && leb (fieldAt bs at 3) 31)
 
-unfoldable pub stepRead : List ℕ → ℕ → StepRecord
-stepRead bs at =
+-- a record of edition 1 has no cabin
+unfoldable pub cabinAt : Edition → List ℕ → ℕ → ℕ
+cabinAt edition1 bs at = 0
+cabinAt edition2 bs at = fieldAt bs at 8
+
+unfoldable pub stepRead : Edition → List ℕ → ℕ → StepRecord
+stepRead e bs at =
     record {
       number = fieldAt bs at 0;
       kind = fieldAt bs at 1;
@@ -41,17 +53,19 @@ stepRead bs at =
       second = fieldAt bs at 5;
       third = fieldAt bs at 6;
       fourth = fieldAt bs at 7;
+      cabin = cabinAt e bs at;
     }
 
-unfoldable pub readStep : List ℕ → Read
-readStep bs = cond (leb (recordSize stepFieldCount) (length bs) && fitsAt bs 0) (Step (stepRead bs 0)) Nothing
+unfoldable pub readStep : Edition → List ℕ → Read
+readStep e bs = cond (leb (recordSize (stepFieldCount e)) (length bs) && fitsAt e bs 0) (Step (stepRead e bs 0)) Nothing
 
--- the capacity and the last number given, where the header is one, the length is right and a table has the capacity
+-- the edition, the capacity and the last number given, where the header is one, the length is right and a table has the capacity
 unfoldable pub readHeader : List ℕ → Header
 readHeader bs =
     cond
-    (eqb (length bs) (stepPlace (countIn bs)) && (recordAt bs 0 headerRecordKind headerFieldCount && leb (capacityIn bs) places))
-    (Fits (capacityIn bs) (lastIn bs))
+    (eqb (length bs) (stepPlace bs (countIn bs)) &&
+    (recordAt bs 0 (headerKindOf (editionIn bs)) (headerFieldCount (editionIn bs)) && leb (capacityIn bs) places))
+    (Fits (secondIn bs) (capacityIn bs) (lastIn bs))
     Unfit
 
 -- the table with the fields of a step record; the counters are not looked at
@@ -60,7 +74,8 @@ withRecord t r =
     let i = r .number in
     let s = r .bits in
     withLinks
-    (withSteps t (t .last) (set (t .used) i 1) (set (t .kinds) i (r .kind)) (set (t .contents) i (r .content)) (set (t .own) i (s / 16 % 2)))
+    (withSteps t (t .last) (set (t .used) i 1) (set (t .kinds) i (r .kind)) (set (t .contents) i (r .content)) (set (t .own) i (s / 16 % 2))
+    (set (t .cabins) i (r .cabin)))
     (sets (t .targets) (i * exits) (r .first ∷ r .second ∷ r .third ∷ r .fourth ∷ []))
     (sets (t .bits) (i * exits) (s % 2 ∷ s / 2 % 2 ∷ s / 4 % 2 ∷ s / 8 % 2 ∷ []))
     (t .counts)

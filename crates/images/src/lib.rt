@@ -1,27 +1,30 @@
-// The calls write image and load image (document 01, "Image"). What is said of them is in the crate image, and of the functions inside in specs/.
+// The calls write image and load image (document 01, "Image"; document 02, W5: two editions). What is said of them is in the crate image, and of the
+// functions inside in specs/. The edition of an image that is read is a bool, true for edition 2; it is that of its header.
 ghost use mathlib.Core.Path.{_≡_};
-ghost use mathlib.Core.Bool.{true};
+ghost use mathlib.Core.Bool.{true, _&&_};
 ghost use mathlib.Core.List.{[], _∷_, _++_};
 ghost use Prim.Native.Nat.{ℕ, _+_, _*_, _<_, _≤_};
 ghost use lib.ListN.{length, getD, drop, replicate};
-ghost use Rattle.table.specs.Table.{places, counters, inUse};
+ghost use lib.Dec.{eqb};
+ghost use Rattle.table.specs.Table.{places, counters, inUse, withNumbers};
 ghost use Rattle.table.specs.Sound.{sound};
-ghost use Rattle.image.specs.Image.{lengthCall, writeCall, loadCall, recordBytes, headerRecordKind, stepRecordKind, stepFieldsOf, wordAt, counted, imageTable, accepted};
-ghost use Rattle.words.specs.Words.{tableOf, wordsOf, Becomes};
-ghost use Rattle.images.specs.Parts.{putWords, recordFields, readStep, readHeader, withRecord};
+ghost use Rattle.image.specs.Image.{lengthCall, writeCall, loadCall, edition2, writtenEdition, recordBytes, recordSize, headerKindOf, headerFieldCount, stepKindOf, stepFieldCount, stepFieldsOf, imageSize, wordAt, capacityIn, quotasBy, counted, imageTable, accepted};
+ghost use Rattle.words.specs.Words.{words, tableOf, wordsOf, blankTable, Becomes};
+ghost use Rattle.images.specs.Parts.{editionOf, secondIn, putWords, recordFields, cabinAt, stepRead, readStep, readHeader, withRecord};
 use table::Answer;
+use words::QUOTAS;
 use words::WORDS;
 
-// The length in bytes and the kind of the header record, and of a step record.
-const HEADER_SIZE: u16 = 10;
+// The length in bytes and the kind of the header record, and of a step record, as they are written: edition 2.
+const HEADER_SIZE: u16 = 42;
 
-const HEADER_KIND: u16 = 1;
+const HEADER_KIND: u16 = 3;
 
-const STEP_SIZE: u16 = 20;
+const STEP_SIZE: u16 = 22;
 
-const STEP_KIND: u16 = 2;
+const STEP_KIND: u16 = 4;
 
-// The fields of a step record, in their order; the last four are the targets.
+// The fields of a step record, in their order; the four before the cabin are the targets. A record of edition 1 has no cabin, which is 0 then.
 struct StepRecord {
     number: u16,
     kind: u16,
@@ -31,6 +34,7 @@ struct StepRecord {
     second: u16,
     third: u16,
     fourth: u16,
+    cabin: u16,
 }
 
 // What the record reader finds: a step record, or something else.
@@ -39,9 +43,9 @@ enum Read {
     Nothing,
 }
 
-// What the header reader finds: the capacity and the last number given, or no header that fits.
+// What the header reader finds: the edition, the capacity and the last number given, or no header that fits.
 enum Header {
-    Fits(u16, u16),
+    Fits(bool, u16, u16),
     Unfit,
 }
 
@@ -65,24 +69,42 @@ fn put_four(part: &mut [u8], at: usize, a: u16, b: u16, c: u16, d: u16)
     put_word(part, at + 6, d);
 }
 
-// Puts the header record at the start of the part.
-fn put_header(part: &mut [u8], capacity: u16, last: u16, steps: u16)
-    requires { ⌜ 10 ≤ length (now part) ⌝ }
-    ensures { λ _. ⌜ now (part .exit) ≡ recordBytes headerRecordKind (capacity ∷ last ∷ steps ∷ []) ++ drop 10 (now (part .entry)) ⌝ }
+// Puts the quotas from a place on.
+fn put_quotas(part: &mut [u8], at: usize, quotas: &[u16; QUOTAS])
+    requires { ⌜ at + 32 ≤ length (now part) ⌝ }
+    ensures { λ _. ⌜ now (part .exit) ≡ putWords (now (part .entry)) at (now (quotas .entry)) ⌝ }
 {
+    words::listed(quotas);
+    let mut k: usize = 0;
+    // The numbers below k are put.
+    while k < QUOTAS {
+        put_word(part, at + 2 * k, quotas[k]);
+        k += 1;
+    }
+}
+
+// Puts the header record at the start of the part.
+fn put_header(part: &mut [u8], capacity: u16, last: u16, steps: u16, quotas: &[u16; QUOTAS])
+    requires { ⌜ 42 ≤ length (now part) ⌝ }
+    ensures { λ _. ⌜ now (part .exit) ≡
+        recordBytes (headerKindOf writtenEdition) (capacity ∷ last ∷ steps ∷ now (quotas .entry)) ++ drop 42 (now (part .entry)) ⌝ }
+{
+    words::listed(quotas);
     put_four(part, 0, HEADER_SIZE, HEADER_KIND, capacity, last);
     put_word(part, 8, steps);
+    put_quotas(part, 10, quotas);
 }
 
 // Puts a step record at the start of the part.
 fn put_step(part: &mut [u8], r: StepRecord)
-    requires { ⌜ 20 ≤ length (now part) ⌝ }
-    ensures { λ _. ⌜ now (part .exit) ≡ recordBytes stepRecordKind (recordFields r) ++ drop 20 (now (part .entry)) ⌝ }
+    requires { ⌜ 22 ≤ length (now part) ⌝ }
+    ensures { λ _. ⌜ now (part .exit) ≡ recordBytes (stepKindOf writtenEdition) (recordFields r) ++ drop 22 (now (part .entry)) ⌝ }
 {
     put_word(part, 0, STEP_SIZE);
     put_word(part, 2, STEP_KIND);
     put_four(part, 4, r.number, r.kind, r.content, r.bits);
     put_four(part, 12, r.first, r.second, r.third, r.fourth);
+    put_word(part, 20, r.cabin);
 }
 
 // The five bits of a step as one number: a sum of 1, 2, 4, 8 for the exits in order and 16 for the step.
@@ -96,7 +118,7 @@ fn pack(first: u16, second: u16, third: u16, fourth: u16, own: u16) -> u16
 // The record of step i, which is in use, of a sound table.
 fn step_record(t: &[u16; WORDS], i: usize) -> StepRecord
     requires { ⌜ (i < places) × (sound (tableOf (now t)) ≡ true) × (inUse (tableOf (now t)) i ≡ true) ⌝ }
-    ensures { λ r. ⌜ recordFields r ≡ stepFieldsOf (tableOf (now (t .entry))) i ⌝ }
+    ensures { λ r. ⌜ recordFields r ≡ stepFieldsOf writtenEdition (tableOf (now (t .entry))) i ⌝ }
 {
     let sum = pack(
         words::bit_at(t, i, 0),
@@ -114,6 +136,7 @@ fn step_record(t: &[u16; WORDS], i: usize) -> StepRecord
         second: words::target_at(t, i, 1),
         third: words::target_at(t, i, 2),
         fourth: words::target_at(t, i, 3),
+        cabin: words::cabin_at(t, i),
     }
 }
 
@@ -144,16 +167,17 @@ pub fn write_image(t: &[u16; WORDS], buffer: &mut [u8]) -> Answer
         return Answer::Refused(words::TOO_SHORT);
     }
     let capacity = words::capacity(t);
-    put_header(buffer, capacity, words::last(t), steps);
+    let quotas = cabins::quotas_of(t);
+    put_header(buffer, capacity, words::last(t), steps, &quotas);
     let n = words::wide(capacity);
-    let mut at: usize = 10;
+    let mut at: usize = 42;
     let mut i: usize = 0;
     // The header and the records of the steps in use below i stand before the place at; the rest is as it was.
     while i < n {
         if words::in_use(t, i) {
             let r = step_record(t, i);
             put_step(&mut buffer[at..], r);
-            at += 20;
+            at += 22;
         }
         i += 1;
     }
@@ -175,61 +199,152 @@ fn word_at(part: &[u8], at: usize) -> u16
     wide(part[at]) + 256 * wide(part[at + 1])
 }
 
-// The capacity and the last number given, where the bytes begin with a header, are as long as it says and a table has the capacity.
+// The length in bytes of the header record of an edition.
+fn header_size(second: bool) -> usize
+    ensures { λ r. ⌜ r ≡ recordSize (headerFieldCount (editionOf second)) ⌝ }
+{
+    if second { 42 } else { 10 }
+}
+
+// The length in bytes of a step record of an edition.
+fn step_size(second: bool) -> usize
+    ensures { λ r. ⌜ r ≡ recordSize (stepFieldCount (editionOf second)) ⌝ }
+{
+    if second { 22 } else { 20 }
+}
+
+// The kind of the header record of an edition.
+fn header_kind(second: bool) -> u16
+    ensures { λ r. ⌜ r ≡ headerKindOf (editionOf second) ⌝ }
+{
+    if second { 3 } else { 1 }
+}
+
+// The kind of the step records of an edition.
+fn step_kind(second: bool) -> u16
+    ensures { λ r. ⌜ r ≡ stepKindOf (editionOf second) ⌝ }
+{
+    if second { 4 } else { 2 }
+}
+
+// The length in bytes of an image of an edition with so many step records.
+fn image_size(second: bool, steps: u16) -> usize
+    ensures { λ r. ⌜ r ≡ imageSize (editionOf second) steps ⌝ }
+{
+    header_size(second) + step_size(second) * words::wide(steps)
+}
+
+// Whether the part begins with a record of that length and kind.
+fn begins(part: &[u8], size: usize, kind: u16) -> bool
+    requires { ⌜ 4 ≤ length (now part) ⌝ }
+    ensures { λ r. ⌜ r ≡ (eqb (wordAt (now (part .entry)) 0) size && eqb (wordAt (now (part .entry)) 2) kind) ⌝ }
+{
+    words::wide(word_at(part, 0)) == size && word_at(part, 2) == kind
+}
+
+// Whether the kind of the header is that of edition 2.
+fn second_in(bytes: &[u8]) -> bool
+    requires { ⌜ 4 ≤ length (now bytes) ⌝ }
+    ensures { λ r. ⌜ r ≡ secondIn (now (bytes .entry)) ⌝ }
+{
+    word_at(bytes, 2) == header_kind(true)
+}
+
+// The edition, the capacity and the last number given, where the bytes begin with a header, are as long as it says and a table has the capacity.
 fn read_header(bytes: &[u8]) -> Header
     ensures { λ r. ⌜ r ≡ readHeader (now (bytes .entry)) ⌝ }
 {
     if bytes.len() < 10 {
         return Header::Unfit;
     }
-    let steps = word_at(bytes, 8);
-    if bytes.len() != 10 + 20 * (steps as usize) {
+    let second = second_in(bytes);
+    if bytes.len() != image_size(second, word_at(bytes, 8)) {
         return Header::Unfit;
     }
-    if word_at(bytes, 0) != HEADER_SIZE {
-        return Header::Unfit;
-    }
-    if word_at(bytes, 2) != HEADER_KIND {
+    if !begins(bytes, header_size(second), header_kind(second)) {
         return Header::Unfit;
     }
     let capacity = word_at(bytes, 4);
     if 128 < capacity {
         return Header::Unfit;
     }
-    Header::Fits(capacity, word_at(bytes, 6))
+    Header::Fits(second, capacity, word_at(bytes, 6))
 }
 
-// The step record that the part begins with, where its step is one that a table has and its bits are at most 31.
-fn read_step(part: &[u8]) -> Read
-    ensures { λ r. ⌜ r ≡ readStep (now (part .entry)) ⌝ }
+// The quotas in a header of edition 2.
+fn read_quotas(bytes: &[u8]) -> [u16; QUOTAS]
+    requires { ⌜ 42 ≤ length (now bytes) ⌝ }
+    ensures { λ r. ⌜ r ≡ quotasBy edition2 (now (bytes .entry)) ⌝ }
 {
-    if part.len() < 20 {
-        return Read::Nothing;
+    let mut quotas = [0u16; QUOTAS];
+    let mut k: usize = 0;
+    // The numbers below k are those of the header.
+    while k < QUOTAS {
+        quotas[k] = word_at(bytes, 10 + 2 * k);
+        k += 1;
     }
-    if word_at(part, 0) != STEP_SIZE {
-        return Read::Nothing;
+    quotas
+}
+
+// The quotas that a header says: in edition 2 those in it, in edition 1 those that give all steps to cabin 0.
+fn quotas_in(bytes: &[u8], second: bool, capacity: u16) -> [u16; QUOTAS]
+    requires { ⌜ (capacity ≡ capacityIn (now bytes)) × (second ≡ true → 42 ≤ length (now bytes)) ⌝ }
+    ensures { λ r. ⌜ r ≡ quotasBy (editionOf second) (now (bytes .entry)) ⌝ }
+{
+    if second {
+        return read_quotas(bytes);
     }
-    if word_at(part, 2) != STEP_KIND {
-        return Read::Nothing;
+    cabins::sole_quotas(capacity)
+}
+
+// The cabin of the step record that the part begins with; in edition 1 it is 0.
+fn cabin_in(part: &[u8], second: bool) -> u16
+    requires { ⌜ (second ≡ true → 22 ≤ length (now part)) ⌝ }
+    ensures { λ r. ⌜ r ≡ cabinAt (editionOf second) (now (part .entry)) 0 ⌝ }
+{
+    if second {
+        return word_at(part, 20);
     }
-    let number = word_at(part, 4);
-    if 128 <= number {
-        return Read::Nothing;
-    }
-    let bits = word_at(part, 10);
-    if 31 < bits {
-        return Read::Nothing;
-    }
-    Read::Step(StepRecord {
-        number,
+    0
+}
+
+// The fields of the step record that the part begins with.
+fn step_fields(part: &[u8], second: bool) -> StepRecord
+    requires { ⌜ (20 ≤ length (now part)) × (second ≡ true → 22 ≤ length (now part)) ⌝ }
+    ensures { λ r. ⌜ r ≡ stepRead (editionOf second) (now (part .entry)) 0 ⌝ }
+{
+    StepRecord {
+        number: word_at(part, 4),
         kind: word_at(part, 6),
         content: word_at(part, 8),
-        bits,
+        bits: word_at(part, 10),
         first: word_at(part, 12),
         second: word_at(part, 14),
         third: word_at(part, 16),
         fourth: word_at(part, 18),
-    })
+        cabin: cabin_in(part, second),
+    }
+}
+
+// The step record that the part begins with, where it is one of the edition, its step is one that a table has and its bits are at most 31.
+fn read_step(part: &[u8], second: bool) -> Read
+    ensures { λ r. ⌜ r ≡ readStep (editionOf second) (now (part .entry)) ⌝ }
+{
+    let size = step_size(second);
+    if part.len() < size {
+        return Read::Nothing;
+    }
+    if !begins(part, size, step_kind(second)) {
+        return Read::Nothing;
+    }
+    if 128 <= word_at(part, 4) {
+        return Read::Nothing;
+    }
+    if 31 < word_at(part, 10) {
+        return Read::Nothing;
+    }
+    let r = step_fields(part, second);
+    Read::Step(r)
 }
 
 // The step of a record is in use, with the record's fields; no counter changes.
@@ -239,7 +354,7 @@ fn put_record(t: &mut [u16; WORDS], r: StepRecord)
 {
     let i = words::wide(r.number);
     let bits = r.bits;
-    words::put_step(t, i, 1, r.kind, r.content, bits / 16 % 2);
+    words::put_step(t, i, 1, r.kind, r.content, bits / 16 % 2, r.cabin);
     let targets = [r.first, r.second, r.third, r.fourth];
     let link_bits = [bits % 2, bits / 2 % 2, bits / 4 % 2, bits / 8 % 2];
     words::put_links(t, i, targets, link_bits);
@@ -265,26 +380,39 @@ fn count_links(t: &mut [u16; WORDS])
     }
 }
 
+// An empty table, with the capacity, the last number given and the quotas that the header says.
+fn take_header(t: &mut [u16; WORDS], bytes: &[u8], second: bool, capacity: u16, last: u16)
+    requires { ⌜ (capacity ≡ capacityIn (now bytes)) × (second ≡ true → 42 ≤ length (now bytes)) ⌝ }
+    ensures table { λ _. ⌜ tableOf (now (t .exit)) ≡
+        withNumbers (blankTable capacity last) capacity last (quotasBy (editionOf second) (now (bytes .entry))) ⌝ }
+    ensures size { λ _. ⌜ length (now (t .exit)) ≡ words ⌝ }
+{
+    words::erase(t, capacity, last);
+    let quotas = quotas_in(bytes, second, capacity);
+    words::put_quotas(t, &quotas);
+}
+
 // Whether the image is accepted. Where it is, the table becomes the one that its records say.
 fn take_image(t: &mut [u16; WORDS], bytes: &[u8]) -> bool
     ensures answer { λ r. ⌜ r ≡ accepted (now (bytes .entry)) ⌝ }
     ensures table { λ r. ⌜ (r ≡ true → now (t .exit) ≡ wordsOf (imageTable (now (bytes .entry)))) ⌝ }
 {
-    let Header::Fits(capacity, last) = read_header(bytes) else {
+    let Header::Fits(second, capacity, last) = read_header(bytes) else {
         return false;
     };
-    words::erase(t, capacity, last);
-    let mut at: usize = 10;
+    take_header(t, bytes, second, capacity, last);
+    let size = step_size(second);
+    let mut at = header_size(second);
     // The records before the place at are those of different steps, and the table has their fields; all other steps are blank.
     while at < bytes.len() {
-        let Read::Step(r) = read_step(&bytes[at..]) else {
+        let Read::Step(r) = read_step(&bytes[at..], second) else {
             return false;
         };
         if words::used_at(t, words::wide(r.number)) != 0 {
             return false;
         }
         put_record(t, r);
-        at += 20;
+        at += size;
     }
     count_links(t);
     soundness::is_sound(t)
@@ -296,7 +424,7 @@ pub fn load_image(t: &mut [u16; WORDS], bytes: &[u8]) -> Answer
     ensures table { λ r. ⌜ now (t .exit) ≡ wordsOf (loadCall (now (bytes .entry)) .table) ⌝ }
 {
     if !take_image(t, bytes) {
-        edits::fresh_table(t, 1);
+        edits::refused_table(t);
         return Answer::Refused(words::NOT_ACCEPTED);
     }
     Answer::Given(0, 0)

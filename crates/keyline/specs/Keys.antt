@@ -1,4 +1,4 @@
--- Key lines: the four forms and no other, and the calls that they make (document 01, "Keys"). Assumes nothing.
+-- Key lines: the four forms and no other, and the calls that they make (document 01, "Keys"; document 02, W5). Assumes nothing.
 --   isLine bs call n     H, star, the call's digit, n digits, A, and nothing else
 --   decimal bs k w       the number that w digits spell from place k
 --   decode bs            the command of a key line
@@ -76,15 +76,19 @@ spokenCounts t = record { answer = Given (stepsInUse t) (t .capacity - stepsInUs
 unfoldable pub countsCall : Table → Outcome
 countsCall t = unless (first (tableTests t)) t (spokenCounts t)
 
+-- "Key lines .. add for cabin 0" (W5)
+abbrev pub keyCabin : ℕ
+keyCabin = 0
+
 unfoldable pub perform : Table → Command → Outcome
-perform t (Add holder e kind content) = addCall t holder e kind content
+perform t (Add holder e kind content) = addCall t holder e kind content keyCabin
 perform t (Link source e second f) = linkCall t source e second f
 perform t (Clear i e) = clearCall t i e
 perform t Count = spokenCounts t
 
 -- "key line 1, 9, then its call's"
 unfoldable pub callConditions : Table → Command → List (Bool × ℕ)
-callConditions t (Add holder e kind content) = addConditions t holder e kind content
+callConditions t (Add holder e kind content) = addConditions t holder e kind content keyCabin
 callConditions t (Link source e second f) = linkConditions t source e second f
 callConditions t (Clear i e) = clearConditions t i e
 callConditions t Count = []

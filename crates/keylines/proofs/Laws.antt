@@ -28,7 +28,7 @@ use Rattle.table.proofs.Calls.{add-fits, link-fits, clear-fits, add-sound, link
 use Rattle.keyline.specs.declared.Command.the-variants.{Add, Link, Clear, Count}
 use Rattle.keyline.specs.declared.Decoded.{Decoded}
 use Rattle.keyline.specs.declared.Decoded.the-variants.{Line, Nothing}
-use Rattle.keyline.specs.Keys.{held, star, pressed, digit, isDigit, isLine, decimal, decode, spokenCounts, countsCall, perform, performLine, keyCall}
+use Rattle.keyline.specs.Keys.{keyCabin, held, star, pressed, digit, isDigit, isLine, decimal, decode, spokenCounts, countsCall, perform, performLine, keyCall}
 
 pub digit-low : (x : ℕ) → isDigit x ≡ true → digit 0 ≤ x
 unfolding isDigit
@@ -139,9 +139,9 @@ abbrev unsound : Table → Outcome
 unsound t = record { answer = Refused notSound; table = t }
 
 module _ (t : Table) (h : sound t ≡ false) where
-  pub add-unsound : (holder e kind content : ℕ) → addCall t holder e kind content ≡ unsound t
+  pub add-unsound : (holder e kind content cabin : ℕ) → addCall t holder e kind content cabin ≡ unsound t
   unfolding addCall addRefusal unless first
-  add-unsound holder e kind content = rw h
+  add-unsound holder e kind content cabin = rw h
 
   pub link-unsound : (source e second f : ℕ) → linkCall t source e second f ≡ unsound t
   unfolding linkCall linkRefusal unless first
@@ -181,9 +181,9 @@ module _ (t : Table) (bs : List ℕ) (q : Nothing ≡ decode bs) where
 
 -- the call of a key line is the call that it names, which tests the table itself
 module _ (t : Table) (bs : List ℕ) where
-  pub key-add : (holder e kind content : ℕ) → Line (Add holder e kind content) ≡ decode bs → addCall t holder e kind content ≡ keyCall t bs
+  pub key-add : (holder e kind content : ℕ) → Line (Add holder e kind content) ≡ decode bs → addCall t holder e kind content keyCabin ≡ keyCall t bs
   unfolding keyCall performLine perform
-  key-add holder e kind content q = rw (sym q) (tested-once t _ (λ h. add-unsound t h holder e kind content))
+  key-add holder e kind content q = rw (sym q) (tested-once t _ (λ h. add-unsound t h holder e kind content keyCabin))
 
   pub key-link : (source e second f : ℕ) → Line (Link source e second f) ≡ decode bs → linkCall t source e second f ≡ keyCall t bs
   unfolding keyCall performLine perform
@@ -227,8 +227,8 @@ shape-performed : (t : Table) → Sound t → (d : Decoded) → Shape (performLi
 unfolding performLine perform addCall linkCall clearCall spokenCounts
 shape-performed t s Nothing = s .shape
 shape-performed t s (Line (Add holder e kind content)) =
-    shape-unless (addRefusal t holder e kind content) t _ (s .shape)
-    (λ z. add-sound s holder e kind content (add-fits t holder e kind content z) .shape)
+    shape-unless (addRefusal t holder e kind content keyCabin) t _ (s .shape)
+    (λ z. add-sound s holder e kind content keyCabin (add-fits t holder e kind content keyCabin z) .shape)
 shape-performed t s (Line (Link source e second f)) =
     shape-unless (linkRefusal t source e second f) t _ (s .shape) (λ z. link-sound s source e second f (link-fits t source e second f z) .shape)
 shape-performed t s (Line (Clear i e)) =

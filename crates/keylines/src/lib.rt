@@ -32,6 +32,9 @@ const CLEAR: u8 = 3;
 // The digit that counts.
 const COUNT: u8 = 4;
 
+// The cabin that key lines add for (document 02, W5).
+const KEY_CABIN: u16 = 0;
+
 // The bytes of a key line before its digits.
 const HEAD: usize = 3;
 // All bytes of a key line but its digits.
@@ -165,7 +168,9 @@ pub fn key_line(t: &mut [u16; WORDS], line: &[u8]) -> Answer
         return Answer::Refused(NOT_KEY_LINE);
     };
     match command {
-        Command::Add(holder, exit, kind, content) => edits::add(t, holder, exit, kind, content),
+        Command::Add(holder, exit, kind, content) => {
+            edits::add(t, holder, exit, kind, content, KEY_CABIN)
+        }
         Command::Link(source, exit, second, other) => edits::link(t, source, exit, second, other),
         Command::Clear(step, exit) => clearing::clear(t, step, exit),
         Command::Count => counts(t),

@@ -17,13 +17,15 @@ use borrow.Author.Tests.{lt-ltb, le-ltb, ltb-false, eq-eqb, ne-eqb}
 use Rattle.finite.proofs.Bools.{test}
 use Rattle.finite.proofs.Below.{le-or-lt}
 use Rattle.table.specs.Table.{Table, places}
+use Rattle.finite.specs.Below.{all, total}
+use Rattle.table.specs.Cabins.{guaranteeOf, limitOf, quotasFit, listFits, soleQuotas}
 use Rattle.table.specs.Calls.{freshTable}
 use Rattle.table.proofs.Edits.{sound-fresh}
 use Rattle.words.specs.Words.{words, tableOf, wordsOf}
 use Rattle.words.proofs.Laws.{table-words, shape-table}
 use Rattle.keyline.specs.Keys.{digit, keyCall}
 use Rattle.keylines.proofs.Laws.{key-shape}
-use Rattle.session.specs.Session.{lineEnd, keptMost, digits, spelled, printed, State, keep, push, lineOutput, pushOutput, feed, fedOutput, finishOutput, firstState, stateOf}
+use Rattle.session.specs.Session.{keysTable, lineEnd, keptMost, digits, spelled, printed, State, keep, push, lineOutput, pushOutput, feed, fedOutput, finishOutput, firstState, stateOf}
 use Rattle.session.proofs.Output.{feed-append, fed-output-append, push-end, push-end-output, push-other, push-other-output}
 
 pub sets-append : (l : List ℕ) (i : ℕ) (a b : List ℕ) → sets l i (a ++ b) ≡ sets (sets l i a) (i + length a) b
@@ -217,8 +219,9 @@ pub line-table : (w v bs : List ℕ) → length w ≡ words → v ≡ wordsOf (k
 line-table w v bs l e = ap tableOf e ∙ table-words _ (key-shape _ bs (shape-table w l))
 
 -- and those of a fresh table are its words
-pub first-table : (w : List ℕ) → w ≡ wordsOf (freshTable places) → (line : List ℕ) → stateOf w line 0 ≡ firstState
-unfolding stateOf firstState
+pub first-table : (w : List ℕ) → w ≡ wordsOf (freshTable places (soleQuotas places)) → (line : List ℕ) → stateOf w line 0 ≡ firstState
+unfolding stateOf firstState keysTable listFits quotasFit guaranteeOf limitOf soleQuotas all total
 first-table w e line =
-    let f : tableOf w ≡ freshTable places = ap tableOf e ∙ table-words _ (sound-fresh places (omega arith) (omega arith) .shape) in
+    let f : tableOf w ≡ freshTable places (soleQuotas places) =
+    ap tableOf e ∙ table-words _ (sound-fresh places (soleQuotas places) (omega arith) (omega arith) refl .shape) in
     ap (λ (t : Table). record { table = t; kept = [] }) f

@@ -17,11 +17,10 @@ use Rattle.finite.proofs.Bools.{test}
 use Rattle.finite.proofs.Below.{le-or-lt}
 use Rattle.table.specs.Answer.{Outcome}
 use Rattle.table.specs.Table.{Table, places}
-use Rattle.table.specs.Calls.{freshTable}
 use Rattle.keyline.specs.declared.Decoded.the-variants.{Nothing}
 use Rattle.keyline.specs.Keys.{isLine, decode, keyCall}
 use Rattle.keylines.proofs.Laws.{not-line, decode-nothing}
-use Rattle.session.specs.Session.{lineEnd, keptMost, State, linesFrom, linesOf, printed, answers, keysOutput, keep, push, lineOutput, pushOutput, feed, fedOutput, finishOutput, blocksOutput, firstState}
+use Rattle.session.specs.Session.{keysTable, lineEnd, keptMost, State, linesFrom, linesOf, printed, answers, keysOutput, keep, push, lineOutput, pushOutput, feed, fedOutput, finishOutput, blocksOutput, firstState}
 
 -- a line of 13 bytes or more is no key line
 decode-long : (l : List ℕ) → keptMost ≤ length l → decode l ≡ Nothing
@@ -124,7 +123,7 @@ fed-from (b ∷ bs) l t =
 
 pub keys-fed : (bs : List ℕ) → keysOutput bs ≡ fedOutput firstState bs ++ finishOutput (feed firstState bs)
 unfolding keysOutput linesOf firstState
-keys-fed bs = fed-from bs [] (freshTable places)
+keys-fed bs = fed-from bs [] keysTable
 
 blocks-fed : (s : State) (blocks : List (List ℕ)) → blocksOutput s blocks ≡ rest s (flatten blocks)
 unfolding blocksOutput flatten feed fedOutput

@@ -19,6 +19,7 @@ use lib.Dec.{eqb, ltb}
 use Rattle.table.specs.declared.Answer.{Answer}
 use Rattle.table.specs.Table.{Table, places}
 use Rattle.table.specs.Answer.{refusalOf, firstOf, secondOf}
+use Rattle.table.specs.Cabins.{soleQuotas}
 use Rattle.table.specs.Calls.{freshTable}
 use Rattle.words.specs.Words.{tableOf}
 use Rattle.keyline.specs.Keys.{digit, keyCall}
@@ -60,9 +61,12 @@ unfoldable pub answers : Table → List (List ℕ) → List ℕ
 answers t [] = []
 answers t (l ∷ ls) = printed (keyCall t l .answer) ++ answers (keyCall t l .table) ls
 
--- "starts with a table of capacity 128"
+-- "starts with a table of capacity 128"; W5: all of it is cabin 0's
+unfoldable pub keysTable : Table
+keysTable = freshTable places (soleQuotas places)
+
 unfoldable pub keysOutput : List ℕ → List ℕ
-keysOutput bs = answers (freshTable places) (linesOf bs)
+keysOutput bs = answers keysTable (linesOf bs)
 
 -- A key line has at most 12 bytes, so of a line begun the first 13 are kept and tell it apart. A line is begun where a byte is kept.
 abbrev pub keptMost : ℕ
@@ -104,7 +108,7 @@ blocksOutput s [] = finishOutput s
 blocksOutput s (b ∷ bs) = fedOutput s b ++ blocksOutput (feed s b) bs
 
 unfoldable pub firstState : State
-firstState = record { table = freshTable places; kept = [] }
+firstState = record { table = keysTable; kept = [] }
 
 -- the state that the words of a table, and `kept` bytes of a line begun, stand for
 unfoldable pub stateOf : List ℕ → List ℕ → ℕ → State

@@ -1,44 +1,57 @@
 -- The parts of the test are soundness: what a checked table lacks, withdrawing step 0 settles. Assumes nothing.
---   Checked t        what the code has tested before the search
+--   Fitted t         what the code has tested of the fields, each alone; charges-counted: what its pass has counted
+--   Checked t        what it has tested before the search
 --   checked-ranged   so the search can be made
 --   checked-spans    and its answer is that of the test of soundness
 --   unsound          a table that is not checked is not sound
-use mathlib.Core.Path.{_≡_, refl, sym, _∙_, ap, subst}
+use mathlib.Core.Path.{_≡_, refl, sym, _∙_, ap, ap₂, subst}
 use mathlib.Core.Bool.{Bool, true, false, _&&_, not}
 use mathlib.Core.Logic.{_⊎_, ⊎-elim}
 use mathlib.Core.List.{List}
-use Prim.Native.Nat.{ℕ, zero, suc, _+_, _*_, _/_, _%_, _≤_, _<_}
+use Prim.Native.Nat.{ℕ, zero, suc, _+_, _*_, _-_, _/_, _%_, _≤_, _<_}
 use native.Mathlib.Omega.{arith}
-use lib.ListN.{getD}
+use lib.ListN.{getD, set}
 use lib.Dec.{eqb, leb, ltb}
 use borrow.Author.Tests.{eqb-true, eq-eqb, ne-eqb, leb-true, le-leb, ltb-true, lt-ltb}
-use Rattle.finite.specs.Below.{all}
+use Rattle.finite.specs.Below.{one, all, total, tabulate}
 use Rattle.finite.proofs.Bools.{and-intro, and-left, and-right, or-left, or-right, or-elim, clash, refute, test, same-test, not-true-false}
-use Rattle.finite.proofs.Below.{le-or-lt, eq-or-ne, all-at, all-intro, count-ext, count-none, count-pos}
-use Rattle.table.specs.Table.{Table, places, exits, counters, exitPlace, counterPlace, inUse, kindOf, contentOf, ownBit, targetOf, linkBit, counterOf, stronglyLinked}
+use Rattle.finite.proofs.Below.{le-or-lt, eq-or-ne, all-at, all-intro, count-ext, count-le, count-none, count-pos, count-change, getD-tabulate, tabulate-set}
+use Rattle.finite.proofs.Loops.{and-true}
+use Rattle.finite.proofs.Packed.{count-past}
+use Rattle.table.specs.Table.{Table, places, exits, counters, cabinCount, exitPlace, counterPlace, inUse, kindOf, contentOf, ownBit, cabinOf, targetOf, linkBit, counterOf, stronglyLinked, stepsInUse}
+use Rattle.table.specs.Cabins.{quotasFit, chargesFit, charged, charge, freeSteps}
 use Rattle.table.specs.Sound.{Shape, Sound, capacityFits, contentFits, kindFits, sound}
-use Rattle.table.proofs.Sound.{sound-test, test-sound}
+use Rattle.table.proofs.Sound.{capacity-range, sound-test, test-sound}
 use Rattle.table.proofs.Links.{used-place, holds-target, empty-target, target-empty, linked-used, strongly-linked}
 use Rattle.table.proofs.Relink.{exit-place-below, counter-place-below}
 use Rattle.table.proofs.Formed.{Formed, sound-formed, formed-wired, formed-place}
+use Rattle.table.proofs.Cabins.{Shares, sound-shares, charged-used, formed-charges, quotas-pairs, quotas-together, quotas-test, charges-limit, charges-reserve, charges-test}
 use Rattle.table.proofs.Spine.{Spine, sound-spine, spine-sound}
+use Rattle.cabins.specs.Parts.{sharesFit}
+use Rattle.cabins.proofs.Laws.{shares-charges}
 use Rattle.withdraw.specs.Search.{slotAt, lands, isMarked, landing, landingKept, Ranged, Exact, Spans}
 use Rattle.withdraw.proofs.Slots.{lands-intro, landing-zero, exit-here, exit-place-step, slot-some, slot-zero, slot-below, lands-held, link-lands, landing-some, landing-linked, landing-links, shape-ranged, source-used, formed-ranged, formed-exact}
 use Rattle.withdraw.proofs.Found.{up-marked, kept-parent}
-use Rattle.soundness.specs.Parts.{numbersFit, alarmFits, fieldsAt, stepFits, exitFits, countersFit, freeAbove, arraysFit, emptyAt, faults, total}
-use Rattle.soundness.proofs.Parts.{fields-used, used-fields, fields-free, free-fields, link-fits, empty-fits, filled-fits, counts-free, used-counts, free-counts}
-use Rattle.soundness.proofs.Totals.{total-same, total-ext, total-landing}
+use Rattle.soundness.specs.Parts.{numbersFit, alarmFits, fieldsAt, stepFits, exitFits, countersFit, freeAbove, arraysFit, emptyAt, faults, hasCabin, cabinSteps, quotasHold}
+use Rattle.soundness.proofs.Parts.{Alarm, alarm-fields, fields-alarm, fields-used, used-fields, fields-free, free-fields, link-fits, empty-fits, filled-fits, counts-free, used-counts, free-counts}
+use Rattle.finite.proofs.Totals.{total-same, total-ext}
+use Rattle.soundness.proofs.Totals.{total-landing}
 
 -- the counter at place q
 abbrev counter : Table → ℕ → ℕ
 counter t q = getD (t .counts) q 0
 
-pub record Checked (t : Table) : Type 0 where
+-- the fields, each alone
+pub record Fitted (t : Table) : Type 0 where
   pub shape : Shape t
   pub numbers : numbersFit (t .capacity) (t .last) ≡ true
-  pub alarm : alarmFits (getD (t .used) 0 0) (kindOf t 0) (contentOf t 0) (ownBit t 0) (getD (t .counts) 0 0) ≡ true
+  pub alarm : alarmFits (getD (t .used) 0 0) (kindOf t 0) (contentOf t 0) (ownBit t 0) (getD (t .counts) 0 0) (cabinOf t 0) ≡ true
   pub arrays : arraysFit t ≡ true
+
+pub record Checked (t : Table) : Type 0 where
+  pub fitted : Fitted t
   pub sum : total (places * counters) (counter t) ≡ faults (places * exits) (emptyAt t)
+  pub quotas : quotasHold t ≡ true
 
 -- what the tests say
 record Facts (t : Table) : Type 0 where
@@ -47,58 +60,127 @@ record Facts (t : Table) : Type 0 where
   most : t .capacity ≤ places
   last : t .last < t .capacity
   alarm : inUse t 0 ≡ true
-  kind : kindOf t 0 ≡ 0
-  content : contentOf t 0 ≡ 0
-  own : ownBit t 0 < counters
-  first : getD (t .counts) 0 0 ≡ 0
+  fields : Alarm (getD (t .used) 0 0) (kindOf t 0) (contentOf t 0) (ownBit t 0) (getD (t .counts) 0 0) (cabinOf t 0)
   steps : (i : ℕ) → i < places → stepFits t i ≡ true
   links : (p : ℕ) → p < places * exits → exitFits t p ≡ true
   counts : (i : ℕ) → i < places → countersFit t i ≡ true
   above : (i : ℕ) → i < places → freeAbove t (t .capacity) i ≡ true
   sum : total (places * counters) (counter t) ≡ faults (places * exits) (emptyAt t)
+  quotas : quotasHold t ≡ true
 
 checked-facts : {t : Table} → Checked t → Facts t
-unfolding numbersFit capacityFits alarmFits arraysFit inUse
+unfolding numbersFit capacityFits arraysFit inUse
 checked-facts {t} k =
-    let range = and-left (capacityFits (t .capacity)) _ (k .numbers) in
-    let four = and-left (eqb (getD (t .used) 0 0) 1 && eqb (kindOf t 0) 0 && eqb (contentOf t 0) 0 && ltb (ownBit t 0) counters) _ (k .alarm) in
-    let three = and-left (eqb (getD (t .used) 0 0) 1 && eqb (kindOf t 0) 0 && eqb (contentOf t 0) 0) _ four in
-    let two = and-left (eqb (getD (t .used) 0 0) 1 && eqb (kindOf t 0) 0) _ three in
-    let lower = and-left (all places (stepFits t) && all (places * exits) (exitFits t) && all places (countersFit t)) _ (k .arrays) in
+    let f = k .fitted in
+    let range = and-left (capacityFits (t .capacity)) _ (f .numbers) in
+    let alarm = alarm-fields _ _ _ _ _ _ (f .alarm) in
+    let lower = and-left (all places (stepFits t) && all (places * exits) (exitFits t) && all places (countersFit t)) _ (f .arrays) in
     let lowest = and-left (all places (stepFits t) && all (places * exits) (exitFits t)) _ lower in
     record {
-      shape = k .shape;
+      shape = f .shape;
       least = leb-true _ _ (and-left (leb 1 (t .capacity)) _ range);
       most = leb-true _ _ (and-right (leb 1 (t .capacity)) _ range);
-      last = ltb-true _ _ (and-right (capacityFits (t .capacity)) _ (k .numbers));
-      alarm = and-left (eqb (getD (t .used) 0 0) 1) _ two;
-      kind = eqb-true _ _ (and-right (eqb (getD (t .used) 0 0) 1) _ two);
-      content = eqb-true _ _ (and-right (eqb (getD (t .used) 0 0) 1 && eqb (kindOf t 0) 0) _ three);
-      own = ltb-true _ _ (and-right (eqb (getD (t .used) 0 0) 1 && eqb (kindOf t 0) 0 && eqb (contentOf t 0) 0) _ four);
-      first =
-          eqb-true _ _
-          (and-right (eqb (getD (t .used) 0 0) 1 && eqb (kindOf t 0) 0 && eqb (contentOf t 0) 0 && ltb (ownBit t 0) counters) _ (k .alarm));
+      last = ltb-true _ _ (and-right (capacityFits (t .capacity)) _ (f .numbers));
+      alarm = alarm .inUse;
+      fields = alarm;
       steps = all-at places _ (and-left (all places (stepFits t)) _ lowest);
       links = all-at (places * exits) _ (and-right (all places (stepFits t)) _ lowest);
       counts = all-at places _ (and-right (all places (stepFits t) && all (places * exits) (exitFits t)) _ lower);
-      above = all-at places _ (and-right (all places (stepFits t) && all (places * exits) (exitFits t) && all places (countersFit t)) _ (k .arrays));
+      above = all-at places _ (and-right (all places (stepFits t) && all (places * exits) (exitFits t) && all places (countersFit t)) _ (f .arrays));
       sum = k .sum;
+      quotas = k .quotas;
     }
 
 facts-checked : {t : Table} → Facts t → Checked t
-unfolding numbersFit capacityFits alarmFits arraysFit inUse
+unfolding numbersFit capacityFits arraysFit
 facts-checked {t} k =
     record {
-      shape = k .shape;
-      numbers = and-intro (and-intro (le-leb _ _ (k .least)) (le-leb _ _ (k .most))) (lt-ltb _ _ (k .last));
-      alarm =
-          and-intro (and-intro (and-intro (and-intro (k .alarm) (eq-eqb _ _ (k .kind))) (eq-eqb _ _ (k .content))) (lt-ltb _ _ (k .own)))
-          (eq-eqb _ _ (k .first));
-      arrays =
-          and-intro (and-intro (and-intro (all-intro places _ (k .steps)) (all-intro (places * exits) _ (k .links))) (all-intro places _ (k .counts)))
-          (all-intro places _ (k .above));
+      fitted =
+          record {
+            shape = k .shape;
+            numbers = and-intro (and-intro (le-leb _ _ (k .least)) (le-leb _ _ (k .most))) (lt-ltb _ _ (k .last));
+            alarm = fields-alarm _ _ _ _ _ _ (k .fields);
+            arrays =
+                and-intro
+                (and-intro (and-intro (all-intro places _ (k .steps)) (all-intro (places * exits) _ (k .links))) (all-intro places _ (k .counts)))
+                (all-intro places _ (k .above));
+          };
       sum = k .sum;
+      quotas = k .quotas;
     }
+
+-- the list and the charges: the code's sum of claims says what soundness does
+charges-test-same : {t : Table} → Formed t → sharesFit (t .capacity) (t .quotas) (charge t) ≡ chargesFit (t .quotas) (charge t) (freeSteps t)
+unfolding freeSteps stepsInUse
+charges-test-same {t} g =
+    shares-charges (t .capacity) (stepsInUse t) (t .quotas) (charge t) (formed-charges g)
+    ∙ rw (le-leb (stepsInUse t) (t .capacity) (count-le (t .capacity) (inUse t)))
+
+holding-shares : {t : Table} → Formed t → quotasHold t ≡ true → Shares t
+unfolding quotasHold
+holding-shares {t} g h =
+    let q = and-left (quotasFit (t .capacity) (t .quotas)) _ h in
+    let c = sym (charges-test-same g) ∙ and-right (quotasFit (t .capacity) (t .quotas)) _ h in
+    record {
+      pairs = quotas-pairs (t .capacity) (t .quotas) q;
+      together = quotas-together (t .capacity) (t .quotas) q;
+      charges = charges-limit (t .quotas) (charge t) (freeSteps t) c;
+      reserve = charges-reserve (t .quotas) (charge t) (freeSteps t) c;
+    }
+
+shares-holding : {t : Table} → Formed t → Shares t → quotasHold t ≡ true
+unfolding quotasHold
+shares-holding {t} g s =
+    and-intro (quotas-test (t .capacity) (t .quotas) (s .pairs) (s .together))
+    (charges-test-same g ∙ charges-test (t .quotas) (charge t) (freeSteps t) (s .charges) (s .reserve))
+
+-- what a pass over the steps counts for each cabin: its charge, and for cabin 0 step 0 too
+module _ {t : Table} (k : Fitted t) where
+  fitted-range : (1 ≤ t .capacity) × (t .capacity ≤ places)
+  unfolding numbersFit
+  fitted-range = capacity-range (t .capacity) (and-left (capacityFits (t .capacity)) _ (k .numbers))
+
+  fitted-alarm : Alarm (getD (t .used) 0 0) (kindOf t 0) (contentOf t 0) (ownBit t 0) (getD (t .counts) 0 0) (cabinOf t 0)
+  fitted-alarm = alarm-fields _ _ _ _ _ _ (k .alarm)
+
+  alarm-used : inUse t 0 ≡ true
+  unfolding inUse
+  alarm-used = fitted-alarm .inUse
+
+  past-free : (i : ℕ) → t .capacity ≤ i → inUse t i ≡ false
+  unfolding arraysFit freeAbove inUse
+  past-free i g =
+      refute _
+      (λ u.
+      let l = used-place (k .shape) i u in
+      let above = and-right (all places (stepFits t) && all (places * exits) (exitFits t) && all places (countersFit t)) _ (k .arrays) in
+      ⊎-elim (λ h. let b = ltb-true i (t .capacity) h in omega arith)
+      (λ h. let z = eqb-true (getD (t .used) i 0) 0 h in let o = eqb-true (getD (t .used) i 0) 1 u in omega arith)
+      (or-elim (ltb i (t .capacity)) _ (all-at places _ above i l)))
+
+  steps-charge : (c : ℕ) → cabinSteps t c ≡ charge t c + one (eqb 0 c)
+  unfolding cabinSteps charge hasCabin
+  steps-charge c =
+      let past = count-past (t .capacity) places (hasCabin t c) (fitted-range .1) (λ i g. refute _ (λ h. clash (and-left (inUse t i) _ h) (past-free i g))) in
+      let change = count-change (t .capacity) (charged t c) (hasCabin t c) 0 (fitted-range .0) (λ i _ d. other i d) in
+      let none : one (charged t c 0) ≡ 0 = ap one (refute _ (λ h. charged-used t c 0 h .1 refl)) in
+      let here : one (hasCabin t c 0) ≡ one (eqb 0 c) = rw (alarm-used, fitted-alarm .noCabin) in
+      omega arith
+    where
+      other : (i : ℕ) → (i ≡ 0 → ⊥) → (inUse t i && eqb (cabinOf t i) c) ≡ charged t c i
+      other i d = unfold charged in rw (ne-eqb i 0 d) (ap (λ (b : Bool). b && eqb (cabinOf t i) c) (sym (and-true (inUse t i))))
+
+  pub charges-counted : (cabins : List ℕ) → cabins ≡ tabulate cabinCount (cabinSteps t) →
+      (1 ≤ getD cabins 0 0) × (set cabins 0 (getD cabins 0 0 - 1) ≡ tabulate cabinCount (charge t))
+  charges-counted cabins e =
+      let first : getD cabins 0 0 ≡ charge t 0 + 1 =
+      ap (λ (x : List ℕ). getD x 0 0) e ∙ getD-tabulate cabinCount (cabinSteps t) 0 0 (omega arith) ∙ steps-charge 0 in (
+        omega arith,
+        ap₂ (λ (x : List ℕ) (n : ℕ). set x 0 (n - 1)) e first
+            ∙ sym
+            (tabulate-set cabinCount 0 (charge t) (cabinSteps t) (charge t 0 + 1 - 1) (omega arith) (omega arith)
+            (λ c _ d. let o : one (eqb 0 c) ≡ 0 = ap one (ne-eqb 0 c (λ z. d (sym z))) in omega (arith, steps-charge c))),
+      )
 
 -- every link lands in one counter
 landing-total : (t : Table) → Ranged t → total (places * counters) (landing (slotAt t)) ≡ faults (places * exits) (emptyAt t)
@@ -113,22 +195,28 @@ module _ {t : Table} (k : Facts t) where
   unfolding exitFits
   link-at p l = link-fits _ _ (k .links p l)
 
-  used-step : (i : ℕ) → i < places → (i ≡ 0 → ⊥) → inUse t i ≡ true → (contentFits (kindOf t i) (contentOf t i) ≡ true) × (ownBit t i < counters)
+  used-step : (i : ℕ) → i < places → (i ≡ 0 → ⊥) → inUse t i ≡ true →
+      (contentFits (kindOf t i) (contentOf t i) ≡ true) × (ownBit t i < counters) × (cabinOf t i < cabinCount)
   unfolding fieldsAt stepFits inUse
   used-step i l d u =
-      ⊎-elim (λ z. absurd (d (eqb-true _ _ z))) (λ h. fields-used _ _ _ _ h u) (or-elim (eqb i 0) _ (k .steps i l))
+      ⊎-elim (λ z. absurd (d (eqb-true _ _ z))) (λ h. fields-used _ _ _ _ _ h u) (or-elim (eqb i 0) _ (k .steps i l))
 
-  free-step : (i : ℕ) → i < places → inUse t i ≡ false → (getD (t .used) i 0 ≡ 0) × (kindOf t i ≡ 0) × (contentOf t i ≡ 0) × (ownBit t i ≡ 0)
+  free-step : (i : ℕ) → i < places → inUse t i ≡ false →
+      (getD (t .used) i 0 ≡ 0) × (kindOf t i ≡ 0) × (contentOf t i ≡ 0) × (ownBit t i ≡ 0) × (cabinOf t i ≡ 0)
   unfolding fieldsAt stepFits inUse
   free-step i l f =
       ⊎-elim
       (λ z. let u : inUse t i ≡ true = rw (eqb-true i 0 z) (k .alarm) in clash u f)
-      (λ h. fields-free _ _ _ _ h f)
+      (λ h. fields-free _ _ _ _ _ h f)
       (or-elim (eqb i 0) _ (k .steps i l))
 
   checked-own : (i : ℕ) → inUse t i ≡ true → ownBit t i < counters
   checked-own i u =
-      ⊎-elim (λ (z : i ≡ 0). rw z (k .own)) (λ d. used-step i (used-place (k .shape) i u) d u .1) (eq-or-ne i 0)
+      ⊎-elim (λ (z : i ≡ 0). rw z (k .fields .bit)) (λ d. used-step i (used-place (k .shape) i u) d u .1) (eq-or-ne i 0)
+
+  checked-cabin : (i : ℕ) → inUse t i ≡ true → cabinOf t i < cabinCount
+  checked-cabin i u =
+      ⊎-elim (λ (z : i ≡ 0). rw (z, k .fields .noCabin) (omega arith)) (λ d. used-step i (used-place (k .shape) i u) d u .2) (eq-or-ne i 0)
 
   ranged : Ranged t
   ranged =
@@ -140,7 +228,7 @@ module _ {t : Table} (k : Facts t) where
   unfolding kindFits
   checked-kind i u =
       ⊎-elim
-      (λ (z : i ≡ 0). rw (z, k .kind, k .content))
+      (λ (z : i ≡ 0). rw (z, k .fields .isAlarm, k .fields .noContent))
       (λ (d : i ≡ 0 → ⊥). rw (ne-eqb i 0 d) (used-step i (used-place (k .shape) i u) d u .0))
       (eq-or-ne i 0)
 
@@ -183,7 +271,7 @@ module _ {t : Table} (k : Facts t) where
 
     counted-most : (q : ℕ) → q < places * counters → counter t q ≤ landing (slotAt t) q
     counted-most q l =
-        ⊎-elim (λ (z : q ≡ 0). rw (z, k .first) (omega arith)) (λ (d : q ≡ 0 → ⊥). let a = account q (omega arith) l in omega arith) (eq-or-ne q 0)
+        ⊎-elim (λ (z : q ≡ 0). rw (z, k .fields .noCount) (omega arith)) (λ (d : q ≡ 0 → ⊥). let a = account q (omega arith) l in omega arith) (eq-or-ne q 0)
 
     exact : Exact t (t .counts)
     exact =
@@ -267,7 +355,10 @@ module _ {t : Table} (k : Facts t) where
                     (λ y. absurd (y .0 (free-exit i e x l f)))
                     (link-at (exitPlace i e) (exit-place-below i e places x l));
                 counts = λ b x. free-counter i b l x f;
+                cabin = blank .4;
               };
+          cabins = checked-cabin;
+          alarmCabin = k .fields .noCabin;
           exact =
               λ j b l x.
               exact (counterPlace j b) (counter-place-below j b x l)
@@ -299,7 +390,7 @@ module _ {t : Table} (k : Facts t) where
         marked i u = sym (used-marked i (used-place (k .shape) i u)) ∙ u
 
     facts-sound : Sound t
-    facts-sound = spine-sound formed spine
+    facts-sound = spine-sound formed (holding-shares formed (k .quotas)) spine
 
 -- a sound table passes
 module _ {t : Table} (s : Sound t) where
@@ -330,10 +421,15 @@ module _ {t : Table} (s : Sound t) where
         most = g .most;
         last = g .last;
         alarm = g .alarm;
-        kind = eqb-true _ _ (and-left (eqb (kindOf t 0) 0) _ (g .kinds 0 (g .alarm)));
-        content = eqb-true _ _ (and-right (eqb (kindOf t 0) 0) _ (g .kinds 0 (g .alarm)));
-        own = g .own 0 (g .alarm);
-        first = counted 0 (omega arith) ∙ landing-zero (slotAt t);
+        fields =
+            record {
+              inUse = g .alarm;
+              isAlarm = eqb-true _ _ (and-left (eqb (kindOf t 0) 0) _ (g .kinds 0 (g .alarm)));
+              noContent = eqb-true _ _ (and-right (eqb (kindOf t 0) 0) _ (g .kinds 0 (g .alarm)));
+              bit = g .own 0 (g .alarm);
+              noCount = counted 0 (omega arith) ∙ landing-zero (slotAt t);
+              noCabin = g .alarmCabin;
+            };
         steps =
             λ i l.
             ⊎-elim
@@ -341,8 +437,8 @@ module _ {t : Table} (s : Sound t) where
             (λ (d : i ≡ 0 → ⊥).
             or-right (eqb i 0) _
             (⊎-elim
-            (λ (u : inUse t i ≡ true). used-fields _ _ _ _ u (rw (ne-eqb i 0 d) at (g .kinds i u)) (g .own i u))
-            (λ (f : inUse t i ≡ false). let b = g .free i l f in free-fields _ _ _ _ (b .used) (b .kind) (b .content) (b .own))
+            (λ (u : inUse t i ≡ true). used-fields _ _ _ _ _ u (rw (ne-eqb i 0 d) at (g .kinds i u)) (g .own i u) (g .cabins i u))
+            (λ (f : inUse t i ≡ false). let b = g .free i l f in free-fields _ _ _ _ _ (b .used) (b .kind) (b .content) (b .own) (b .cabin))
             (test (inUse t i))))
             (eq-or-ne i 0);
         links =
@@ -364,6 +460,7 @@ module _ {t : Table} (s : Sound t) where
             (λ (h : i < t .capacity). or-left (ltb i (t .capacity)) _ (lt-ltb _ _ h))
             (le-or-lt (t .capacity) i);
         sum = total-ext (places * counters) _ _ counted ∙ landing-total t in-range;
+        quotas = shares-holding g (sound-shares s);
       }
 
   module _ (r : Bool) (w : Spans t r) where

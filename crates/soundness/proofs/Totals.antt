@@ -1,7 +1,6 @@
 -- Faults and totals: loops that count what does not pass, and sums. Assumes nothing.
 --   no-faults one-fault       no fault exactly where all pass, and one where one must not
---   faults-none faults-pass faults-fail total-next   a loop that counts what does not pass, or sums: at the start, each time round
---   total-same      terms that are no higher, with the same total, are the same
+--   faults-none faults-pass faults-fail   a loop that counts what does not pass: at the start, each time round
 --   total-landing   every link lands in one counter: the totals of landings and of links are the same
 use mathlib.Core.Path.{_≡_, refl, sym, _∙_, ap}
 use mathlib.Core.Bool.{Bool, true, false, not}
@@ -12,13 +11,14 @@ use native.Mathlib.Numerals.{add-one}
 use native.Mathlib.Omega.{arith}
 use lib.Dec.{eqb}
 use borrow.Author.Tests.{eqb-true, eq-eqb, ne-eqb}
-use Rattle.finite.specs.Below.{one, all, count}
+use Rattle.finite.specs.Below.{one, all, count, total}
 use Rattle.finite.proofs.Bools.{refute, same-test}
 use Rattle.finite.proofs.Below.{eq-or-ne, below-suc, count-le, count-change, count-none}
 use Rattle.finite.proofs.Loops.{count-zero, count-hit, count-miss, none-fail}
+use Rattle.finite.proofs.Totals.{total-none, total-one, total-count}
 use Rattle.withdraw.specs.Search.{lands}
 use Rattle.withdraw.proofs.Slots.{lands-target, lands-intro}
-use Rattle.soundness.specs.Parts.{faults, total}
+use Rattle.soundness.specs.Parts.{faults}
 
 -- no fault is a test of all
 pub no-faults : (n : ℕ) (p : ℕ → Bool) (x : ℕ) → x ≡ faults n p → eqb x 0 ≡ all n p
@@ -61,49 +61,6 @@ pub faults-fail : (i : ℕ) (p : ℕ → Bool) (n x : ℕ) → n ≡ faults i p 
 unfolding faults
 faults-fail i p n x e f o = let h = count-hit i (λ k. not (p k)) (ap not f) in omega arith
 
-pub total-next : (n : ℕ) (f : ℕ → ℕ) → total (n + 1) f ≡ total n f + f n
-unfolding total
-total-next n f = rw (add-one n)
-
-pub total-same : (n : ℕ) (f g : ℕ → ℕ) → ((k : ℕ) → k < n → f k ≤ g k) → total n f ≡ total n g → (k : ℕ) → k < n → f k ≡ g k
-unfolding total
-total-same zero f g h e k l = absurd (not-suc-le-zero l)
-total-same (suc n) f g h e k l =
-    let below = total-le n f g (λ i b. h i (omega arith)) in
-    let last = h n (omega arith) in
-    ⊎-elim (λ (q : k ≡ n). rw q (omega arith)) (λ b. total-same n f g (λ i c. h i (omega arith)) (omega arith) k b) (below-suc l)
-  where
-    total-le : (n : ℕ) (f g : ℕ → ℕ) → ((k : ℕ) → k < n → f k ≤ g k) → total n f ≤ total n g
-    total-le zero f g h = omega arith
-    total-le (suc n) f g h = omega (arith, total-le n f g (λ k l. h k (omega arith)), h n (omega arith))
-
-total-add : (n : ℕ) (f g : ℕ → ℕ) → total n (λ k. f k + g k) ≡ total n f + total n g
-unfolding total
-total-add zero f g = refl
-total-add (suc n) f g = let h = total-add n f g in omega arith
-
-pub total-ext : (n : ℕ) (f g : ℕ → ℕ) → ((k : ℕ) → k < n → f k ≡ g k) → total n f ≡ total n g
-unfolding total
-total-ext zero f g h = refl
-total-ext (suc n) f g h = let r = total-ext n f g (λ k l. h k (omega arith)) in let s = h n (omega arith) in omega arith
-
--- the terms are 0 but for one
-total-none : (n : ℕ) (f : ℕ → ℕ) → ((k : ℕ) → k < n → f k ≡ 0) → total n f ≡ 0
-unfolding total
-total-none zero f h = refl
-total-none (suc n) f h = let r = total-none n f (λ k l. h k (omega arith)) in let s = h n (omega arith) in omega arith
-
-total-one : (n : ℕ) (f : ℕ → ℕ) (k : ℕ) → k < n → ((i : ℕ) → (i ≡ k → ⊥) → f i ≡ 0) → total n f ≡ f k
-unfolding total
-total-one zero f k l h = absurd (not-suc-le-zero l)
-total-one (suc n) f k l h =
-    ⊎-elim
-    (λ (q : k ≡ n).
-    let r = total-none n f (λ i b. h i (λ e. omega arith)) in
-    rw q (omega arith))
-    (λ b. let r = total-one n f k b h in let s = h n (λ e. omega arith) in omega arith)
-    (below-suc l)
-
 -- one link: it lands in the counter of its slot, or in none
 total-lands : (n : ℕ) (h : ℕ → ℕ) (p : ℕ) → h p < n → total n (λ q. one (lands h p q)) ≡ one (not (eqb (h p) 0))
 total-lands n h p l =
@@ -122,10 +79,4 @@ total-lands n h p l =
     none q z = refute _ (λ t. let r = lands-target h p q t in r .1 (sym (r .0) ∙ z))
 
 pub total-landing : (n m : ℕ) (h : ℕ → ℕ) → ((p : ℕ) → p < m → h p < n) → total n (λ q. count m (λ p. lands h p q)) ≡ count m (λ p. not (eqb (h p) 0))
-unfolding count
-total-landing n zero h l = total-none n _ (λ q b. refl)
-total-landing n (suc m) h l =
-    let add = total-add n (λ q. count m (λ p. lands h p q)) (λ q. one (lands h m q)) in
-    let less = total-landing n m h (λ p b. l p (omega arith)) in
-    let here = total-lands n h m (l m (omega arith)) in
-    add ∙ (omega arith)
+total-landing n m h l = total-count n m (lands h) (λ p. not (eqb (h p) 0)) (λ p b. total-lands n h p (l p b))

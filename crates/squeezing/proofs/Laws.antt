@@ -15,13 +15,13 @@ use Rattle.finite.specs.Below.{tabulate, tabulateFrom}
 use Rattle.finite.proofs.Bools.{clash}
 use Rattle.finite.proofs.Below.{le-or-lt, eq-or-ne, getD-tabulate}
 use Rattle.table.specs.declared.Fields.{Fields}
-use Rattle.table.specs.Table.{Table, places, exits, counters, inUse, kindOf, contentOf, ownBit, targetOf, linkBit, counterOf, stepsInUse, withLinks, withSteps, withNumbers}
+use Rattle.table.specs.Table.{Table, places, exits, counters, inUse, kindOf, contentOf, ownBit, cabinOf, targetOf, linkBit, counterOf, stepsInUse, withLinks, withSteps, withNumbers}
 use Rattle.table.specs.Sound.{Shape, Blank}
 use Rattle.table.specs.Calls.{fieldsOf, noFields}
 use Rattle.table.specs.Squeeze.{newNumber, squeezed}
 use Rattle.table.proofs.Links.{Wired, used-place, used-below}
 use Rattle.table.proofs.Formed.{Formed, formed-wired}
-use Rattle.table.proofs.Renumber.{new-used, new-free, new-most, new-rises, new-step, new-all, new-place, moved-new, moved-none, squeezed-shape, squeezed-entry, squeezed-kind, squeezed-content, squeezed-own, squeezed-target, squeezed-bit, squeezed-counter, squeezed-renumbered}
+use Rattle.table.proofs.Renumber.{new-used, new-free, new-most, new-rises, new-step, new-all, new-place, moved-new, moved-none, squeezed-shape, squeezed-entry, squeezed-kind, squeezed-content, squeezed-own, squeezed-cabin, squeezed-target, squeezed-bit, squeezed-counter, squeezed-renumbered}
 use Rattle.words.specs.Words.{withFields}
 use Rattle.words.proofs.Formed.{target-place}
 use Rattle.words.proofs.Fields.{stepAt, Sized, with-fields-here, with-fields-other, with-fields-shape, with-numbers-shape, with-numbers-step, table-ext}
@@ -37,6 +37,7 @@ stepFree = (0, noFields)
 pub record Staged (t u : Table) (i : ℕ) : Type 0 where
   pub capacity : u .capacity ≡ t .capacity
   pub last : u .last ≡ t .last
+  pub quotas : u .quotas ≡ t .quotas
   pub moved : (j : ℕ) → j < i → inUse t j ≡ true → stepAt u (newNumber t j) ≡ stepMoved t j
   pub left : (k : ℕ) → newNumber t i ≤ k → k < i → stepAt u k ≡ stepFree
   pub rest : (k : ℕ) → i ≤ k → k < places → stepAt u k ≡ stepAt t k
@@ -53,6 +54,7 @@ blank-free b n = (
     targets = b .targets 0 (omega arith) n ∷ b .targets 1 (omega arith) n ∷ b .targets 2 (omega arith) n ∷ b .targets 3 (omega arith) n ∷ [];
     bits = b .bits 0 (omega arith) n ∷ b .bits 1 (omega arith) n ∷ b .bits 2 (omega arith) n ∷ b .bits 3 (omega arith) n ∷ [];
     counts = b .counts 0 (omega arith) n ∷ b .counts 1 (omega arith) n ∷ [];
+    cabin = b .cabin n;
   },
 )
 
@@ -77,6 +79,7 @@ followed-same old new t i same place n =
           same _ (place 3 (omega arith)) n ∷ [];
       bits = tabulate exits (linkBit t i);
       counts = tabulate counters (counterOf t i);
+      cabin = cabinOf t i;
     }
 
 pub staged-none : (t : Table) → Staged t t 0
@@ -84,6 +87,7 @@ staged-none t =
     record {
       capacity = refl;
       last = refl;
+      quotas = refl;
       moved = λ j l u. absurd (omega arith);
       left = λ k g l. absurd (omega arith);
       rest = λ k g l. refl;
@@ -96,6 +100,7 @@ module _ {t u : Table} {i : ℕ} (w : Wired t) (g : Staged t u i) where
       record {
         capacity = g .capacity;
         last = g .last;
+        quotas = g .quotas;
         moved = λ j l v. g .moved j (let d : j ≡ i → ⊥ = λ e. clash (rw e at v) f in omega arith) v;
         left =
             λ k a l.
@@ -145,6 +150,10 @@ module _ {t u : Table} {i : ℕ} (w : Wired t) (g : Staged t u i) where
     unfolding movedStep withFields withLinks withSteps
     after-last = refl
 
+    after-quotas : movedStep (newNumber t) i u .quotas ≡ u .quotas
+    unfolding movedStep withFields withLinks withSteps
+    after-quotas = refl
+
     -- a step in use moves down or stays
     staged-used : Staged t (movedStep (newNumber t) i u) (i + 1)
     unfolding after
@@ -154,6 +163,7 @@ module _ {t u : Table} {i : ℕ} (w : Wired t) (g : Staged t u i) where
         record {
           capacity = after-capacity ∙ g .capacity;
           last = after-last ∙ g .last;
+          quotas = after-quotas ∙ g .quotas;
           moved =
               λ j l x.
               ⊎-elim (λ (e : j ≡ i). rw e at-number)
@@ -201,12 +211,12 @@ module _ {t u : Table} {i : ℕ} (f : Formed t) (g : Staged t u i) (place : i < 
         rw same (staged-used (formed-wired f) g s v)
 
 -- the same records in the squeezed table
-module _ {t : Table} (w : Wired t) (c : ℕ) where
-  squeezed-moved : (i : ℕ) → inUse t i ≡ true → stepAt (squeezed t c) (newNumber t i) ≡ stepMoved t i
+module _ {t : Table} (w : Wired t) (c : ℕ) (q : List ℕ) where
+  squeezed-moved : (i : ℕ) → inUse t i ≡ true → stepAt (squeezed t c q) (newNumber t i) ≡ stepMoved t i
   unfolding stepAt stepMoved followed fieldsOf tabulate tabulateFrom
   squeezed-moved i v n =
-      let r = squeezed-renumbered w c in (
-        (squeezed-entry t c _ (new-place w i v) ∙ moved-new w i (λ i. 1) v) n,
+      let r = squeezed-renumbered w c q in (
+        (squeezed-entry t c q _ (new-place w i v) ∙ moved-new w i (λ i. 1) v) n,
         record {
           kind = r .kind i v n;
           content = r .content i v n;
@@ -216,38 +226,42 @@ module _ {t : Table} (w : Wired t) (c : ℕ) where
               r .target i 3 v (omega arith) n ∷ [];
           bits = r .bit i 0 v (omega arith) n ∷ r .bit i 1 v (omega arith) n ∷ r .bit i 2 v (omega arith) n ∷ r .bit i 3 v (omega arith) n ∷ [];
           counts = r .counter i 0 v (omega arith) n ∷ r .counter i 1 v (omega arith) n ∷ [];
+          cabin = r .cabin i v n;
         },
       )
 
-  squeezed-free : (k : ℕ) → k < places → stepsInUse t ≤ k → stepAt (squeezed t c) k ≡ stepFree
+  squeezed-free : (k : ℕ) → k < places → stepsInUse t ≤ k → stepAt (squeezed t c q) k ≡ stepFree
   squeezed-free k l g =
       blank-free
       (record {
-        used = squeezed-entry t c k l ∙ moved-none t k _ g;
-        kind = squeezed-kind t c k l ∙ moved-none t k _ g;
-        content = squeezed-content t c k l ∙ moved-none t k _ g;
-        own = squeezed-own t c k l ∙ moved-none t k _ g;
-        targets = λ e h. squeezed-target t c k e l h ∙ moved-none t k _ g;
-        bits = λ e h. squeezed-bit t c k e l h ∙ moved-none t k _ g;
-        counts = λ b h. squeezed-counter t c k b l h ∙ moved-none t k _ g;
+        used = squeezed-entry t c q k l ∙ moved-none t k _ g;
+        kind = squeezed-kind t c q k l ∙ moved-none t k _ g;
+        content = squeezed-content t c q k l ∙ moved-none t k _ g;
+        own = squeezed-own t c q k l ∙ moved-none t k _ g;
+        targets = λ e h. squeezed-target t c q k e l h ∙ moved-none t k _ g;
+        bits = λ e h. squeezed-bit t c q k e l h ∙ moved-none t k _ g;
+        counts = λ b h. squeezed-counter t c q k b l h ∙ moved-none t k _ g;
+        cabin = squeezed-cabin t c q k l ∙ moved-none t k _ g;
       })
 
 module _ {t u : Table} (w : Wired t) (g : Staged t u (t .capacity)) where
-  all-moved : (k : ℕ) → k < places → stepAt u k ≡ stepAt (squeezed t (t .capacity)) k
+  all-moved : (k : ℕ) → k < places → stepAt u k ≡ stepAt (squeezed t (t .capacity) (t .quotas)) k
   all-moved k l =
       ⊎-elim
       (λ (a : stepsInUse t ≤ k).
       ⊎-elim (λ (b : t .capacity ≤ k). g .rest k b l ∙ blank-free (w .free k l (w .above k b l)))
       (λ (b : k < t .capacity). g .left k (rw (new-all t) a) b)
       (le-or-lt (t .capacity) k) ∙
-      sym (squeezed-free w (t .capacity) k l a))
+      sym (squeezed-free w (t .capacity) (t .quotas) k l a))
       (λ (a : k < stepsInUse t).
       let x = new-step t k a in
-      rw (x .2) at (g .moved (x .0) (used-below w (x .0) (x .1)) (x .1) ∙ sym (squeezed-moved w (t .capacity) (x .0) (x .1))))
+      rw (x .2) at (g .moved (x .0) (used-below w (x .0) (x .1)) (x .1) ∙ sym (squeezed-moved w (t .capacity) (t .quotas) (x .0) (x .1))))
       (le-or-lt (stepsInUse t) k)
 
   pub staged-done : Shape u → u ≡ squeezedSteps t
   unfolding squeezedSteps withNumbers
   staged-done s =
-      table-ext u (squeezedSteps t) s (with-numbers-shape (squeezed-shape t (t .capacity)) (t .capacity) (t .last)) (g .capacity) (g .last)
-      (λ k l. all-moved k l ∙ sym (with-numbers-step (squeezed t (t .capacity)) (t .capacity) (t .last) k))
+      let size = w .shape .quotas in
+      let shape = with-numbers-shape (squeezed-shape t (t .capacity) (t .quotas) size) (t .capacity) (t .last) (t .quotas) size in
+      table-ext u (squeezedSteps t) s shape (g .capacity) (g .last) (g .quotas)
+      (λ k l. all-moved k l ∙ sym (with-numbers-step (squeezed t (t .capacity) (t .quotas)) (t .capacity) (t .last) (t .quotas) k))

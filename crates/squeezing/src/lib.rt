@@ -1,5 +1,5 @@
-// Squeeze: a plan is moved to another capacity, on the lent table (document 02, W2). The steps in use get the lowest numbers, in their old order.
-// The table is written in place: no step moves up, so in ascending order no step is overwritten before it has moved.
+// Squeeze: a plan is moved to another capacity and other quotas, on the lent table (document 02, W2 and W5). The steps in use get the lowest numbers, in
+// their old order. The table is written in place: no step moves up, so in ascending order no step is overwritten before it has moved.
 ghost use mathlib.Core.Path.{_≡_};
 ghost use Prim.Native.Nat.{_<_};
 ghost use lib.ListN.{getD};
@@ -13,6 +13,7 @@ ghost use Rattle.squeezing.specs.Moves.{followed, movedStep, squeezedSte
 use table::Answer;
 use table::Fields;
 use words::PLACES;
+use words::QUOTAS;
 use words::WORDS;
 use words::wide;
 
@@ -64,6 +65,7 @@ fn moved_fields(t: &[u16; WORDS], i: usize, numbers: &[u16; PLACES]) -> Fields
         targets,
         bits,
         counts,
+        cabin: f.cabin,
     }
 }
 
@@ -78,7 +80,7 @@ fn move_step(t: &mut [u16; WORDS], i: usize, numbers: &[u16; PLACES])
     words::put_fields(t, k, 1, f);
 }
 
-// All steps in use are moved to their new numbers; the capacity and the last number given stay.
+// All steps in use are moved to their new numbers; the capacity, the last number given and the quotas stay.
 fn move_steps(t: &mut [u16; WORDS])
     requires { ⌜ Sound (tableOf (now t)) ⌝ }
     ensures { λ _. ⌜ Becomes (now (t .entry)) (now (t .exit)) (squeezedSteps (tableOf (now (t .entry)))) ⌝ }
@@ -97,37 +99,41 @@ fn move_steps(t: &mut [u16; WORDS])
 }
 
 // The refusal of squeeze, in its order, or 0.
-fn squeeze_refusal(t: &[u16; WORDS], capacity: u16) -> u16
-    ensures { λ r. ⌜ r ≡ squeezeRefusal (tableOf (now (t .entry))) capacity ⌝ }
+fn squeeze_refusal(t: &[u16; WORDS], capacity: u16, quotas: &[u16; QUOTAS]) -> u16
+    ensures { λ r. ⌜ r ≡ squeezeRefusal (tableOf (now (t .entry))) capacity (now (quotas .entry)) ⌝ }
 {
-    let refusal = soundness::table_refusal(t);
-    if refusal != 0 {
-        return refusal;
+    words::listed(quotas);
+    let found = soundness::check(t);
+    if !found.sound {
+        return words::NOT_SOUND;
     }
-    let in_range = soundness::capacity_fits(capacity);
-    let enough = edits::count_used(t) <= capacity;
-    if !in_range {
+    if !soundness::capacity_fits(capacity) {
         return words::BAD_CAPACITY;
     }
-    if !enough {
+    if !cabins::quotas_fit(capacity, quotas) {
+        return words::BAD_CABINS;
+    }
+    let charges = found.charges;
+    if !cabins::shares_fit(capacity, quotas, &charges) {
         return words::DOES_NOT_FIT;
     }
     0
 }
 
-// Squeeze: the steps in use are renumbered from 0 upward in their old order, and the table gets the capacity given. A refused one leaves the table
-// as it was.
-pub fn squeeze(t: &mut [u16; WORDS], capacity: u16) -> Answer
-    ensures answer { λ r. ⌜ r ≡ squeezeCall (tableOf (now (t .entry))) capacity .answer ⌝ }
-    ensures table { λ r. ⌜ now (t .exit) ≡ wordsOf (squeezeCall (tableOf (now (t .entry))) capacity .table) ⌝ }
+// Squeeze: the steps in use are renumbered from 0 upward in their old order, and the table gets the capacity and the quotas given. A refused one leaves
+// the table as it was.
+pub fn squeeze(t: &mut [u16; WORDS], capacity: u16, quotas: &[u16; QUOTAS]) -> Answer
+    ensures answer { λ r. ⌜ r ≡ squeezeCall (tableOf (now (t .entry))) capacity (now (quotas .entry)) .answer ⌝ }
+    ensures table { λ r. ⌜ now (t .exit) ≡ wordsOf (squeezeCall (tableOf (now (t .entry))) capacity (now (quotas .entry)) .table) ⌝ }
 {
     words::sized(t);
-    let refusal = squeeze_refusal(t, capacity);
+    let refusal = squeeze_refusal(t, capacity, quotas);
     if refusal != 0 {
         return Answer::Refused(refusal);
     }
     let steps = edits::count_used(t);
     move_steps(t);
     words::put_numbers(t, capacity, steps - 1);
+    words::put_quotas(t, quotas);
     Answer::Given(0, 0)
 }

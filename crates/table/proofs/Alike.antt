@@ -1,5 +1,5 @@
 -- Two tables with the same plain plan, field by field: what a repair keeps. Assumes nothing.
---   Alike t u     u has t's capacity, last number, steps in use, kinds, contents and targets; bits and counters may differ
+--   Alike t u     u has t's capacity, last number, quotas, steps in use, kinds, contents, targets and cabins; bits and counters may differ
 use mathlib.Core.Path.{_≡_, refl, sym, _∙_, ap, ap₂}
 use mathlib.Core.Bool.{Bool, _&&_}
 use Prim.Native.Nat.{ℕ}
@@ -14,9 +14,11 @@ pub record Alike (t u : Table) : Type 0 where
   pub kinds : u .kinds ≡ t .kinds
   pub contents : u .contents ≡ t .contents
   pub targets : u .targets ≡ t .targets
+  pub cabins : u .cabins ≡ t .cabins
+  pub quotas : u .quotas ≡ t .quotas
 
 pub alike-refl : (t : Table) → Alike t t
-alike-refl t = record { capacity = refl; last = refl; used = refl; kinds = refl; contents = refl; targets = refl }
+alike-refl t = record { capacity = refl; last = refl; used = refl; kinds = refl; contents = refl; targets = refl; cabins = refl; quotas = refl }
 
 pub alike-trans : {t u v : Table} → Alike t u → Alike u v → Alike t v
 alike-trans a b =
@@ -27,6 +29,8 @@ alike-trans a b =
       kinds = b .kinds ∙ a .kinds;
       contents = b .contents ∙ a .contents;
       targets = b .targets ∙ a .targets;
+      cabins = b .cabins ∙ a .cabins;
+      quotas = b .quotas ∙ a .quotas;
     }
 
 module _ {t u : Table} (a : Alike t u) where

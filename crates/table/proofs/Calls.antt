@@ -1,15 +1,15 @@
 -- Each call on a sound table, for any arguments: it is refused as its plan says, and where it is accepted the table handed back is sound and
 -- its plan is the plan's call. Assumes nothing.
---   first-zero      no condition of an order holds
+--   first-zero first-append   no condition of an order holds; two orders, one after the other
 --   add-refusal link-refusal clear-refusal read-refusal trial-refusal   the table's refusal is the plan's
 --   read-refused trial-refused   what a refused read and a refused trial do
 --   Accepted..      the conditions of an accepted call, as facts
 use mathlib.Core.Path.{_≡_, refl, sym, _∙_, ap, ap₂}
 use mathlib.Core.Bool.{Bool, true, false, _&&_, not, cond}
 use mathlib.Core.Logic.{⊎-elim}
-use mathlib.Core.List.{List, [], _∷_}
+use mathlib.Core.List.{List, [], _∷_, _++_}
 use mathlib.Core.Option.{some}
-use Prim.Native.Nat.{ℕ, zero, suc, _<_}
+use Prim.Native.Nat.{ℕ, zero, suc, _-_, _<_}
 use lib.ListN.{length, getD, set, replicate}
 use lib.Dec.{eqb}
 use borrow.Author.Tests.{eqb-false, eq-eqb, ne-eqb, leb-false}
@@ -17,7 +17,8 @@ use Rattle.finite.proofs.Bools.{and-left, and-right, test, not-true-false, not-
 use Rattle.finite.proofs.Below.{find-ext}
 use Rattle.table.specs.declared.Answer.the-variants.{Given, Refused}
 use Rattle.table.specs.declared.Tried.the-variants.{Refused as TrialRefused}
-use Rattle.table.specs.Table.{Table, exits, inUse, targetOf, holds, stepsInUse}
+use Rattle.table.specs.Table.{Table, exits, cabinCount, inUse, targetOf, holds, stepsInUse}
+use Rattle.table.specs.Cabins.{atLimit, noneToSpare, charge, freeSteps}
 use Rattle.table.specs.Sound.{Sound, contentFits, sound}
 use Rattle.table.specs.Answer.{Outcome, notSound, first, unless}
 use Rattle.table.specs.Calls.{numberGiven, withStep, addRefusal, addTable, weakBit, linkRefusal, linkTable, noFields, readRefusal, readCall}
@@ -29,7 +30,7 @@ use Rattle.table.proofs.Sound.{sound-test}
 use Rattle.table.proofs.Formed.{sound-formed, formed-wired}
 use Rattle.table.proofs.Edits.{number-given, sound-link, sound-add, formed-with-step, with-step-kept}
 use Rattle.table.proofs.Clear.{reached-in-use, Cleared, formed-emptied, cleared-stop, cleared-repair}
-use Rattle.table.proofs.Plan.{plan-capacity, plan-used, plan-target, plan-holds, plan-count, plan-relink, plan-with-step, plan-pruned}
+use Rattle.table.proofs.Plan.{plan-capacity, plan-used, plan-target, plan-holds, plan-count, plan-charge, plan-relink, plan-with-step, plan-pruned}
 
 -- two orders with the same conditions, each asked for only where those before it do not hold
 pub data Orders : List (Bool × ℕ) → List (Bool × ℕ) → Type 0 where
@@ -63,6 +64,19 @@ first-zero (x ∷ xs) z d (suc k) =
     first-zero xs (cond-zero (x .0) (x .1) (first xs) (and-left (not (eqb (x .1) 0)) (nonzero xs) d) z .1)
     (and-right (not (eqb (x .1) 0)) (nonzero xs) d)
     k
+
+-- two orders, one after the other
+pub first-append : (xs ys : List (Bool × ℕ)) → nonzero xs ≡ true → first (xs ++ ys) ≡ cond (eqb (first xs) 0) (first ys) (first xs)
+unfolding first nonzero
+first-append [] ys d = refl
+first-append (x ∷ xs) ys d =
+    turn (x .0) (ne-eqb (x .1) 0 (eqb-false (x .1) 0 (not-true-false _ (and-left (not (eqb (x .1) 0)) (nonzero xs) d))))
+    (first-append xs ys (and-right (not (eqb (x .1) 0)) (nonzero xs) d))
+  where
+    turn : (b : Bool) → eqb (x .1) 0 ≡ false → first (xs ++ ys) ≡ cond (eqb (first xs) 0) (first ys) (first xs) →
+        cond b (x .1) (first (xs ++ ys)) ≡ cond (eqb (cond b (x .1) (first xs)) 0) (first ys) (cond b (x .1) (first xs))
+    turn true z r = rw z
+    turn false z r = r
 
 pub unless-zero : (n : ℕ) (t : Table) (o : Outcome) → n ≡ 0 → unless n t o ≡ o
 unfolding unless
@@ -110,15 +124,21 @@ module _ {t : Table} (s : Sound t) where
   unfolding first
   past-sound xs = rw (sound-test t s)
 
-  pub add-refusal : (holder e kind content : ℕ) → addRefusal t holder e kind content ≡ planAddRefusal (planOf t) holder e kind content
-  unfolding addRefusal planAddRefusal
-  add-refusal holder e kind content =
+  pub add-refusal : (holder e kind content cabin : ℕ) →
+      addRefusal t holder e kind content cabin ≡ planAddRefusal (planOf t) holder e kind content cabin
+  unfolding addRefusal planAddRefusal freeSteps planOf
+  add-refusal holder e kind content cabin =
       past-sound _
       ∙ first-same
-      (next (ap not (sym (plan-used w holder)))
+      (next refl
+      (λ _. next (ap not (sym (plan-used w holder)))
       (λ _. next refl
       (λ l. next (sym (plan-holds w holder e (leb-false exits e l)))
-      (λ _. next refl (λ _. next (ap₂ eqb (sym (plan-count w)) (sym (plan-capacity t))) (λ _. done))))))
+      (λ _. next refl
+      (λ _. next (ap₂ eqb (sym (plan-count w)) (sym (plan-capacity t)))
+      (λ _. next (ap (λ (f : ℕ → ℕ). atLimit (t .quotas) f cabin) (sym (plan-charge w)))
+      (λ _. next (ap₂ (λ (f : ℕ → ℕ) (n : ℕ). noneToSpare (t .quotas) f (t .capacity - n) cabin) (sym (plan-charge w)) (sym (plan-count w)))
+      (λ _. done)))))))))
 
   pub link-refusal : (source e second f : ℕ) → linkRefusal t source e second f ≡ planLinkRefusal (planOf t) source e second f
   unfolding linkRefusal planLinkRefusal
@@ -148,12 +168,15 @@ module _ {t : Table} (s : Sound t) where
   trial-refusal limit results trace = past-sound _
 
 -- the conditions of an accepted call
-pub record AddFits (t : Table) (holder e kind content : ℕ) : Type 0 where
+pub record AddFits (t : Table) (holder e kind content cabin : ℕ) : Type 0 where
+  pub shared : cabin < cabinCount
   pub used : inUse t holder ≡ true
   pub exit : e < exits
   pub empty : holds t holder e ≡ false
   pub fits : contentFits kind content ≡ true
   pub room : stepsInUse t ≡ t .capacity → ⊥
+  pub limit : atLimit (t .quotas) (charge t) cabin ≡ false
+  pub spare : noneToSpare (t .quotas) (charge t) (freeSteps t) cabin ≡ false
 
 pub record LinkFits (t : Table) (source e second f : ℕ) : Type 0 where
   pub used : inUse t source ≡ true
@@ -168,16 +191,19 @@ pub record ClearFits (t : Table) (i e : ℕ) : Type 0 where
   pub exit : e < exits
   pub filled : holds t i e ≡ true
 
-pub add-fits : (t : Table) (holder e kind content : ℕ) → addRefusal t holder e kind content ≡ 0 → AddFits t holder e kind content
+pub add-fits : (t : Table) (holder e kind content cabin : ℕ) → addRefusal t holder e kind content cabin ≡ 0 → AddFits t holder e kind content cabin
 unfolding addRefusal nonzero
-add-fits t holder e kind content z =
+add-fits t holder e kind content cabin z =
     let at = first-zero _ z refl in
     record {
-      used = not-false-true _ (at 1);
-      exit = leb-false exits e (at 2);
-      empty = at 3;
-      fits = not-false-true _ (at 4);
-      room = eqb-false _ _ (at 5);
+      shared = leb-false cabinCount cabin (at 1);
+      used = not-false-true _ (at 2);
+      exit = leb-false exits e (at 3);
+      empty = at 4;
+      fits = not-false-true _ (at 5);
+      room = eqb-false _ _ (at 6);
+      limit = at 7;
+      spare = at 8;
     }
 
 pub link-fits : (t : Table) (source e second f : ℕ) → linkRefusal t source e second f ≡ 0 → LinkFits t source e second f
@@ -207,26 +233,26 @@ module _ {t : Table} (s : Sound t) where
       number-ext : (n last : ℕ) (p q : ℕ → Bool) → ((k : ℕ) → p k ≡ q k) → numberGiven n last p ≡ numberGiven n last q
       number-ext n last p q h = unfold numberGiven in find-ext n _ _ p q h
 
-  module _ (holder e kind content : ℕ) (f : AddFits t holder e kind content) where
+  module _ (holder e kind content cabin : ℕ) (f : AddFits t holder e kind content cabin) where
     abbrev n : ℕ
     n = numberGiven (t .capacity) (t .last) (λ k. not (inUse t k))
 
-    pub add-sound : Sound (addTable t holder e kind content n)
+    pub add-sound : Sound (addTable t holder e kind content cabin n)
     add-sound =
         let g = number-given s (f .room) in
-        sound-add t s holder e kind content n (f .used) (f .exit) (f .empty) (f .fits) (g .2) (g .1) (g .0)
+        sound-add t s holder e kind content cabin n (f .used) (f .exit) (f .empty) (f .fits) (f .shared) (f .limit) (f .spare) (g .2) (g .1) (g .0)
 
-    pub add-plan : planOf (addTable t holder e kind content n) ≡ planAdd (planOf t) holder e kind content
+    pub add-plan : planOf (addTable t holder e kind content cabin n) ≡ planAdd (planOf t) holder e kind content cabin
     unfolding addTable planAdd
     add-plan =
         let g = number-given s (f .room) in
-        let formed = formed-with-step t (sound-formed s) n kind content (g .2) (g .1) (g .0) (f .fits) in
-        let kept = with-step-kept t (sound-formed s) n kind content (g .2) (g .1) (g .0) (f .fits) holder (f .used) in
-        plan-relink (withStep t n kind content) formed holder e n 0 kept (f .exit)
-        ∙ ap (λ (p : Plan). withTarget p holder e n) (plan-with-step t (sound-formed s) n kind content (g .2) (g .1) (g .0) (f .fits))
+        let formed = formed-with-step t (sound-formed s) n kind content cabin (g .2) (g .1) (g .0) (f .fits) (f .shared) in
+        let kept = with-step-kept t (sound-formed s) n kind content cabin (g .2) (g .1) (g .0) (f .fits) (f .shared) holder (f .used) in
+        plan-relink (withStep t n kind content cabin) formed holder e n 0 kept (f .exit)
+        ∙ ap (λ (p : Plan). withTarget p holder e n) (plan-with-step t (sound-formed s) n kind content cabin (g .2) (g .1) (g .0) (f .fits) (f .shared))
         ∙ ap
         (λ (m : ℕ).
-        withTarget (replan (planOf t) m (set (planOf t .steps) m (some (record { kind = kind; content = content; targets = replicate exits 0 })))) holder e m)
+        withTarget (replan (planOf t) m (set (planOf t .steps) m (some (record { kind = kind; content = content; targets = replicate exits 0; cabin = cabin })))) holder e m)
         number-plan
 
   module _ (source e second f : ℕ) (g : LinkFits t source e second f) where
@@ -258,6 +284,8 @@ module _ {t : Table} (s : Sound t) where
         (c .kind)
         (c .content)
         (c .target)
+        (c .cabin)
+        (c .quotas)
         ∙ ap pruned (unfold emptied in plan-relink t (sound-formed s) i e 0 0 (g .used) (g .exit))
       where
         cleared-still : (k : ℕ) → inUse (cleared t i e .table) k ≡ true → inUse (emptied t i e) k ≡ true

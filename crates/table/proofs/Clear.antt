@@ -16,7 +16,7 @@ use Rattle.finite.specs.Reach.{Chain, start, then, marked, reach, reaches}
 use Rattle.finite.proofs.Bools.{and-intro, and-left, and-right, or-elim, clash, refute, test, same-test, not-true-false}
 use Rattle.finite.proofs.Below.{le-or-lt, count-ext, count-le, count-none, count-some, count-split, length-tabulate, getD-tabulate}
 use Rattle.finite.proofs.Reach.{chain-map, chain-keeps, reach-sound, reach-complete, reach-closed, reach-start, reach-below}
-use Rattle.table.specs.Table.{Table, exits, counters, inUse, kindOf, contentOf, ownBit, targetOf, linkBit, holds, strong, linked, stronglyLinked, countsAt, linksTo, stepsInUse, withLinks}
+use Rattle.table.specs.Table.{Table, exits, counters, inUse, kindOf, contentOf, ownBit, cabinOf, targetOf, linkBit, holds, strong, linked, stronglyLinked, countsAt, linksTo, stepsInUse, withLinks}
 use Rattle.table.specs.Sound.{Sound}
 use Rattle.table.specs.Calls.{relink}
 use Rattle.table.specs.Clear.{Repair, emptied, heldStrongly, stops, doubtful, repair, release, size}
@@ -24,7 +24,8 @@ use Rattle.table.proofs.Links.{Wired, sound-wired, holder-used, target-
 use Rattle.table.proofs.Relink.{exit-place-split, relink-target}
 use Rattle.table.proofs.Formed.{Formed, at-exit, sound-formed, formed-wired, formed-place, formed-below, formed-relink}
 use Rattle.table.proofs.Spine.{Spine, sound-spine, spine-sound, spine-fewer, spine-ext, strong-below}
-use Rattle.table.proofs.Edits.{strong-same, relink-strongly, relink-strongly-other}
+use Rattle.table.proofs.Cabins.{Shares, sound-shares, shares-fewer}
+use Rattle.table.proofs.Edits.{strong-same, shares-relink, relink-strongly, relink-strongly-other}
 use Rattle.table.proofs.Alike.{alike-refl, alike-used, alike-target}
 use Rattle.table.proofs.Repair.{keptIn, Repairing, Repaired, repair-done, no-link-out, kept-reached}
 use Rattle.table.proofs.Release.{Released, released}
@@ -52,6 +53,8 @@ pub record Cleared (u : Table) (doubts freed : ℕ) (v : Table) : Type 0 where
   pub used : (k : ℕ) → inUse v k ≡ reaches (linked u) (u .capacity) 0 k
   pub kind : (k : ℕ) → inUse v k ≡ true → kindOf v k ≡ kindOf u k
   pub content : (k : ℕ) → inUse v k ≡ true → contentOf v k ≡ contentOf u k
+  pub cabin : (k : ℕ) → inUse v k ≡ true → cabinOf v k ≡ cabinOf u k
+  pub quotas : v .quotas ≡ u .quotas
   pub target : (k e : ℕ) → e < exits → inUse v k ≡ true → targetOf v k e ≡ targetOf u k e
   pub doubtfuls : doubts ≡ count (u .capacity) (λ k. inUse u k && not (reaches (stronglyLinked u) (u .capacity) 0 k))
   pub fall : stepsInUse v + freed ≡ stepsInUse u
@@ -117,11 +120,15 @@ module _ (t : Table) (s : Sound t) (i e : ℕ) (ui : inUse t i ≡ true) (le : e
       let filled = target-holds u a f (λ z. d (sym at ∙ z)) in
       (a, sym (emptied-used t i e a) ∙ holder-used (formed-wired g) a f lf filled, exit-strongly u a j f lf (bit-strong u a f filled (bit ∙ sym (ap (ownBit u) at))) at)
 
+  shares-emptied : Shares u
+  unfolding emptied
+  shares-emptied = shares-relink t i e 0 0 (sound-formed s) formed-emptied (sound-shares s)
+
   -- Rule 1 stops: every step keeps a parent.
   stop-sound : stops t i e ≡ true → Sound u
   unfolding stops
   stop-sound x =
-      spine-sound formed-emptied
+      spine-sound formed-emptied shares-emptied
       (spine-ext (λ k. sym (emptied-used t i e k))
       (spine-fewer (sound-spine s) u (λ k y. emptied-used t i e k ∙ y) emptied-fewer
       (λ j y d.
@@ -145,6 +152,8 @@ module _ (t : Table) (s : Sound t) (i e : ℕ) (ui : inUse t i ≡ true) (le : e
         used = sound-reached v;
         kind = λ k y. refl;
         content = λ k y. refl;
+        cabin = λ k y. refl;
+        quotas = refl;
         target = λ k f l y. refl;
         doubtfuls =
             sym
@@ -279,10 +288,26 @@ module _ (t : Table) (s : Sound t) (i e : ℕ) (ui : inUse t i ≡ true) (le : e
   unfolding keptIn
   kept-same k = sym (freed .used k)
 
+  same-cabin : (k : ℕ) → cabinOf (ended .table) k ≡ cabinOf u k
+  unfolding cabinOf
+  same-cabin k = rw (repaired-ended .repairing .alike .cabins)
+
+  kept-cabin : (k : ℕ) → inUse v k ≡ true → cabinOf v k ≡ cabinOf u k
+  kept-cabin k y = freed .cabin k (kept-used k y .1) ∙ same-cabin k
+
+  -- the charges of the steps freed go
+  shares-released : Shares v
+  shares-released =
+      let r = repaired-ended .repairing in
+      shares-fewer formed-emptied (freed .formed) (freed .capacity ∙ r .alike .capacity) (freed .quotas ∙ r .alike .quotas)
+      (λ k y. sym (alike-used (r .alike) k) ∙ kept-used k y .0)
+      kept-cabin
+      shares-emptied
+
   released-sound : Sound v
   released-sound =
       let p = repaired-ended .repairing .spine in
-      spine-sound (freed .formed)
+      spine-sound (freed .formed) shares-released
       (spine-ext kept-same
       (spine-fewer p v (λ k y. sym (kept-same k) ∙ y) released-fewer
       (λ j y d. let q = p .parent j y d in (q .0, q .1, released-keeps (q .0) j (sym (kept-same (q .0)) ∙ q .1) (q .2)))))
@@ -324,6 +349,8 @@ module _ (t : Table) (s : Sound t) (i e : ℕ) (ui : inUse t i ≡ true) (le : e
         used = λ k. sym (kept-same k) ∙ kept-reached ended repaired-ended k;
         kind = λ k y. freed .kind k (kept-used k y .1) ∙ same-kind k;
         content = λ k y. freed .content k (kept-used k y .1) ∙ same-content k;
+        cabin = kept-cabin;
+        quotas = freed .quotas ∙ r .alike .quotas;
         target = λ k f l y. freed .target k f l (kept-used k y .1) ∙ alike-target (r .alike) k f;
         doubtfuls = (unfold size in count-ext (u .capacity) _ _ (λ k l. doubtful-at k));
         fall = freed-fall;

@@ -6,6 +6,7 @@ use mathlib.Core.Bool.{Bool, true, false, _&&_, _||_, not, cond}
 use mathlib.Core.Logic.{_⊎_, inl, inr, ⊎-elim}
 use Prim.Native.Nat.{ℕ, zero, suc, _+_, _*_, _-_, _≤_, _<_}
 use native.Mathlib.Omega.{arith}
+use mathlib.Core.List.{List}
 use lib.ListN.{length, getD, set, replicate, length-set}
 use lib.Seq.{getD-set-same, getD-set-other}
 use lib.Dec.{eqb, ltb}
@@ -13,12 +14,14 @@ use borrow.Author.Tests.{eqb-true, eqb-false, eq-eqb, ne-eqb, lt-ltb, le-ltb}
 use Rattle.finite.specs.Below.{count, find}
 use Rattle.finite.proofs.Bools.{and-intro, and-left, and-right, clash, refute, test, same-test, or-left, or-right, or-elim, not-true-false}
 use Rattle.finite.proofs.Below.{le-or-lt, eq-or-ne, count-none, count-gap, walk, walk-add, find-reaches, find-keeps}
-use Rattle.table.specs.Table.{Table, places, exits, counters, exitPlace, counterPlace, inUse, kindOf, contentOf, ownBit, targetOf, linkBit, counterOf, holds, strong, leads, stronglyLinked, countsAt, linksTo, stepsInUse, withLinks, withSteps}
+use Rattle.table.specs.Table.{Table, places, exits, counters, cabinCount, quotaNumbers, exitPlace, counterPlace, inUse, kindOf, contentOf, ownBit, cabinOf, targetOf, linkBit, counterOf, holds, strong, leads, stronglyLinked, countsAt, linksTo, stepsInUse, withLinks, withSteps}
+use Rattle.table.specs.Cabins.{listFits, atLimit, noneToSpare, charge, freeSteps}
 use Rattle.table.specs.Sound.{Shape, Blank, Sound, kindFits, contentFits, sound}
 use Rattle.table.specs.Calls.{freshTable, after, numberGiven, relink, withStep, addTable, weakBit, linkTable}
 use Rattle.table.proofs.Links.{holds-target, target-holds, empty-target, target-empty, strong-holds, bit-strong, strong-bit, strongly-exit, exit-strongly}
-use Rattle.table.proofs.Relink.{relink-target, relink-bit, relink-target-other, relink-bit-other}
+use Rattle.table.proofs.Relink.{relink-cabin, relink-target, relink-bit, relink-target-other, relink-bit-other}
 use Rattle.table.proofs.Formed.{Formed, Fit, at-exit, sound-formed, formed-place, formed-below, formed-relink}
+use Rattle.table.proofs.Cabins.{Shares, sound-shares, shares-fewer, Adds, shares-more, shares-alone}
 use Rattle.table.proofs.Spine.{Spine, Joins, sound-spine, spine-sound, spine-fewer, spine-more, spine-ext}
 
 -- strength is a matter of the target, the link's bit and the target's own bit
@@ -66,6 +69,11 @@ module _ (t : Table) (g : Formed t) (i e j b : ℕ) (u : inUse t i ≡ true) (le
       ((k ≡ i) × (m ≡ j) × (strong (relink t i e j b) i e ≡ true)) ⊎ (stronglyLinked t k m ≡ true)
   relink-strongly k m h = let r = strongly-exit (relink t i e j b) k m h in strongly-at k m (r .0) (r .1) (r .2) (r .3)
 
+-- an exit is no matter of the quotas
+pub shares-relink : (t : Table) (i e j b : ℕ) → Formed t → Formed (relink t i e j b) → Shares t → Shares (relink t i e j b)
+unfolding relink withLinks inUse cabinOf
+shares-relink t i e j b g h s = shares-fewer g h refl refl (λ k u. u) (λ k u. refl) s
+
 -- Link: the copy is weak, so the strong links are what they were
 module _ (t : Table) (s : Sound t) (i e k f : ℕ) (ui : inUse t i ≡ true) (le : e < exits) (h : holds t i e ≡ true)
     (uk : inUse t k ≡ true) (lf : f < exits) (free : holds t k f ≡ false) where
@@ -94,7 +102,7 @@ module _ (t : Table) (s : Sound t) (i e k f : ℕ) (ui : inUse t i ≡ true) (le
       let u = relink t k f j (weakBit t j) in
       let formed = formed-relink t g k f j (weakBit t j) uk lf link-fit in
       let used : (x : ℕ) → inUse u x ≡ inUse t x = λ x. unfold relink withLinks inUse in refl in
-      spine-sound formed
+      spine-sound formed (shares-relink t k f j (weakBit t j) g formed (sound-shares s))
       (spine-ext (λ x. sym (used x))
       (spine-fewer (sound-spine s) u (λ x v. used x ∙ v)
       (λ x y v. ⊎-elim (λ n. clash (n .2) link-weak) (λ o. o) (relink-strongly t g k f j (weakBit t j) uk lf x y v))
@@ -183,58 +191,66 @@ unfolding kindFits
 fits-added i kind content d h = rw (ne-eqb i 0 d) h
 
 -- a free step n taken into use: the fields are in order, and no link leads to it yet
-module _ (t : Table) (g : Formed t) (n kind content : ℕ) (low : n < t .capacity) (nonzero : n ≡ 0 → ⊥)
-    (free : inUse t n ≡ false) (fits : contentFits kind content ≡ true) where
+module _ (t : Table) (g : Formed t) (n kind content cabin : ℕ) (low : n < t .capacity) (nonzero : n ≡ 0 → ⊥)
+    (free : inUse t n ≡ false) (fits : contentFits kind content ≡ true) (shared : cabin < cabinCount) where
   place : n < places
   place = omega (arith, g .most)
 
-  pub with-step-new : inUse (withStep t n kind content) n ≡ true
+  pub with-step-new : inUse (withStep t n kind content cabin) n ≡ true
   unfolding withStep withSteps inUse
   with-step-new = rw (getD-set-same (t .used) n 1 0 (rw (g .shape .used) place))
 
-  pub with-step-other : (i : ℕ) → (i ≡ n → ⊥) → inUse (withStep t n kind content) i ≡ inUse t i
+  pub with-step-other : (i : ℕ) → (i ≡ n → ⊥) → inUse (withStep t n kind content cabin) i ≡ inUse t i
   unfolding withStep withSteps inUse
   with-step-other i d = rw (getD-set-other (t .used) n i 1 0 d)
 
-  pub with-step-kept : (i : ℕ) → inUse t i ≡ true → inUse (withStep t n kind content) i ≡ true
+  pub with-step-kept : (i : ℕ) → inUse t i ≡ true → inUse (withStep t n kind content cabin) i ≡ true
   with-step-kept i h = with-step-other i (λ q. clash h (rw q free)) ∙ h
 
   -- a statement about the steps in use: of the new step, and of those that were
-  each : (P : ℕ → Type 0) → P n → ((i : ℕ) → inUse t i ≡ true → P i) → (i : ℕ) → inUse (withStep t n kind content) i ≡ true → P i
+  each : (P : ℕ → Type 0) → P n → ((i : ℕ) → inUse t i ≡ true → P i) → (i : ℕ) → inUse (withStep t n kind content cabin) i ≡ true → P i
   each P here there i h =
       ⊎-elim (λ q. subst P (sym q) here) (λ d. there i (sym (with-step-other i d) ∙ h)) (eq-or-ne i n)
 
-  still-free : (i : ℕ) → inUse (withStep t n kind content) i ≡ false → (i ≡ n → ⊥) × (inUse t i ≡ false)
+  still-free : (i : ℕ) → inUse (withStep t n kind content cabin) i ≡ false → (i ≡ n → ⊥) × (inUse t i ≡ false)
   still-free i h =
       let d : i ≡ n → ⊥ = λ q. clash with-step-new (rw q at h) in
       (d, sym (with-step-other i d) ∙ h)
 
-  pub kind-new : kindOf (withStep t n kind content) n ≡ kind
+  pub kind-new : kindOf (withStep t n kind content cabin) n ≡ kind
   unfolding withStep withSteps kindOf
   kind-new = getD-set-same (t .kinds) n kind 0 (rw (g .shape .kinds) place)
 
-  pub content-new : contentOf (withStep t n kind content) n ≡ content
+  pub content-new : contentOf (withStep t n kind content cabin) n ≡ content
   unfolding withStep withSteps contentOf
   content-new = getD-set-same (t .contents) n content 0 (rw (g .shape .contents) place)
 
-  pub kind-other : (i : ℕ) → (i ≡ n → ⊥) → kindOf (withStep t n kind content) i ≡ kindOf t i
+  pub kind-other : (i : ℕ) → (i ≡ n → ⊥) → kindOf (withStep t n kind content cabin) i ≡ kindOf t i
   unfolding withStep withSteps kindOf
   kind-other i d = getD-set-other (t .kinds) n i kind 0 d
 
-  pub content-other : (i : ℕ) → (i ≡ n → ⊥) → contentOf (withStep t n kind content) i ≡ contentOf t i
+  pub content-other : (i : ℕ) → (i ≡ n → ⊥) → contentOf (withStep t n kind content cabin) i ≡ contentOf t i
   unfolding withStep withSteps contentOf
   content-other i d = getD-set-other (t .contents) n i content 0 d
 
-  kinds-fit : (i : ℕ) → inUse (withStep t n kind content) i ≡ true →
-      kindFits i (kindOf (withStep t n kind content) i) (contentOf (withStep t n kind content) i) ≡ true
+  pub cabin-new : cabinOf (withStep t n kind content cabin) n ≡ cabin
+  unfolding withStep withSteps cabinOf
+  cabin-new = getD-set-same (t .cabins) n cabin 0 (rw (g .shape .cabins) place)
+
+  pub cabin-other : (i : ℕ) → (i ≡ n → ⊥) → cabinOf (withStep t n kind content cabin) i ≡ cabinOf t i
+  unfolding withStep withSteps cabinOf
+  cabin-other i d = getD-set-other (t .cabins) n i cabin 0 d
+
+  kinds-fit : (i : ℕ) → inUse (withStep t n kind content cabin) i ≡ true →
+      kindFits i (kindOf (withStep t n kind content cabin) i) (contentOf (withStep t n kind content cabin) i) ≡ true
   kinds-fit =
-      each (λ i. kindFits i (kindOf (withStep t n kind content) i) (contentOf (withStep t n kind content) i) ≡ true)
+      each (λ i. kindFits i (kindOf (withStep t n kind content cabin) i) (contentOf (withStep t n kind content cabin) i) ≡ true)
       (rw (kind-new, content-new) (fits-added n kind content nonzero fits))
       (λ i v.
       let d : i ≡ n → ⊥ = λ q. clash v (rw q free) in
       rw (kind-other i d, content-other i d) (g .kinds i v))
 
-  pub formed-with-step : Formed (withStep t n kind content)
+  pub formed-with-step : Formed (withStep t n kind content cabin)
   unfolding withStep withSteps ownBit targetOf linkBit holds counterOf linksTo countsAt
   formed-with-step =
       let blank = g .free n place free in
@@ -248,6 +264,8 @@ module _ (t : Table) (g : Formed t) (n kind content : ℕ) (low : n < t .capacit
               targets = g .shape .targets;
               bits = g .shape .bits;
               counts = g .shape .counts;
+              cabins = length-set (t .cabins) _ _ ∙ g .shape .cabins;
+              quotas = g .shape .quotas;
             };
         least = g .least;
         most = g .most;
@@ -261,7 +279,7 @@ module _ (t : Table) (g : Formed t) (n kind content : ℕ) (low : n < t .capacit
             each (λ i. linkBit t i e < 2) (rw (blank .bits e l) (omega arith)) (λ i v. g .bits i e v l) i v;
         targets =
             λ i e v l h.
-            each (λ i. holds t i e ≡ true → inUse (withStep t n kind content) (targetOf t i e) ≡ true)
+            each (λ i. holds t i e ≡ true → inUse (withStep t n kind content cabin) (targetOf t i e) ≡ true)
             (λ f. absurd (holds-target t n e f (blank .targets e l)))
             (λ i v f. with-step-kept (targetOf t i e) (g .targets i e v l f))
             i
@@ -282,26 +300,32 @@ module _ (t : Table) (g : Formed t) (n kind content : ℕ) (low : n < t .capacit
               targets = b .targets;
               bits = b .bits;
               counts = b .counts;
+              cabin = cabin-other i (r .0) ∙ b .cabin;
             };
+        cabins =
+            each (λ i. cabinOf (withStep t n kind content cabin) i < cabinCount) (rw cabin-new shared)
+            (λ i v. let d : i ≡ n → ⊥ = λ q. clash v (rw q free) in rw (cabin-other i d) (g .cabins i v));
+        alarmCabin = cabin-other 0 (λ q. nonzero (sym q)) ∙ g .alarmCabin;
         exact = g .exact;
       }
 
 -- Add: the new step hangs by a strong link from its holder, and leads nowhere
-module _ (t : Table) (s : Sound t) (i e kind content n : ℕ) (ui : inUse t i ≡ true) (le : e < exits) (empty : holds t i e ≡ false)
-    (fits : contentFits kind content ≡ true) (low : n < t .capacity) (nonzero : n ≡ 0 → ⊥) (free : inUse t n ≡ false) where
+module _ (t : Table) (s : Sound t) (i e kind content cabin n : ℕ) (ui : inUse t i ≡ true) (le : e < exits) (empty : holds t i e ≡ false)
+    (fits : contentFits kind content ≡ true) (shared : cabin < cabinCount) (limit : atLimit (t .quotas) (charge t) cabin ≡ false)
+    (spare : noneToSpare (t .quotas) (charge t) (freeSteps t) cabin ≡ false) (low : n < t .capacity) (nonzero : n ≡ 0 → ⊥) (free : inUse t n ≡ false) where
   abbrev stepped : Table
-  stepped = withStep t n kind content
+  stepped = withStep t n kind content cabin
 
   stepped-formed : Formed stepped
-  stepped-formed = formed-with-step t (sound-formed s) n kind content low nonzero free fits
+  stepped-formed = formed-with-step t (sound-formed s) n kind content cabin low nonzero free fits shared
 
   holder-stays : inUse stepped i ≡ true
-  holder-stays = with-step-kept t (sound-formed s) n kind content low nonzero free fits i ui
+  holder-stays = with-step-kept t (sound-formed s) n kind content cabin low nonzero free fits shared i ui
 
   new-used : inUse stepped n ≡ true
-  new-used = with-step-new t (sound-formed s) n kind content low nonzero free fits
+  new-used = with-step-new t (sound-formed s) n kind content cabin low nonzero free fits shared
 
-  pub formed-add : Formed (addTable t i e kind content n)
+  pub formed-add : Formed (addTable t i e kind content cabin n)
   unfolding addTable
   formed-add = formed-relink stepped stepped-formed i e n 0 holder-stays le (inr (new-used, nonzero, omega arith))
 
@@ -321,32 +345,32 @@ module _ (t : Table) (s : Sound t) (i e kind content n : ℕ) (ui : inUse t i �
   unfolding withStep withSteps stronglyLinked leads strong holds targetOf linkBit ownBit
   before k m = refl
 
-  used-add : (k : ℕ) → inUse (addTable t i e kind content n) k ≡ inUse stepped k
+  used-add : (k : ℕ) → inUse (addTable t i e kind content cabin n) k ≡ inUse stepped k
   unfolding addTable relink withLinks inUse
   used-add k = refl
 
-  new-target : targetOf (addTable t i e kind content n) i e ≡ n
+  new-target : targetOf (addTable t i e kind content cabin n) i e ≡ n
   unfolding addTable
   new-target = relink-target stepped (stepped-formed .shape) i e n 0 (formed-place stepped-formed i holder-stays) le
 
-  new-strong : strong (addTable t i e kind content n) i e ≡ true
+  new-strong : strong (addTable t i e kind content cabin n) i e ≡ true
   new-strong =
-      bit-strong (addTable t i e kind content n) i e
-      (target-holds (addTable t i e kind content n) i e (λ z. nonzero (sym new-target ∙ z)))
-      (bit ∙ sym (ap (ownBit (addTable t i e kind content n)) new-target ∙ own))
+      bit-strong (addTable t i e kind content cabin n) i e
+      (target-holds (addTable t i e kind content cabin n) i e (λ z. nonzero (sym new-target ∙ z)))
+      (bit ∙ sym (ap (ownBit (addTable t i e kind content cabin n)) new-target ∙ own))
     where
-      bit : linkBit (addTable t i e kind content n) i e ≡ 0
+      bit : linkBit (addTable t i e kind content cabin n) i e ≡ 0
       bit = unfold addTable in relink-bit stepped (stepped-formed .shape) i e n 0 (formed-place stepped-formed i holder-stays) le
 
-      own : ownBit (addTable t i e kind content n) n ≡ 0
+      own : ownBit (addTable t i e kind content cabin n) n ≡ 0
       own = unfold addTable relink withLinks withStep withSteps ownBit in blank .own
 
-  joins : Joins t (addTable t i e kind content n) (inUse t) n
+  joins : Joins t (addTable t i e kind content cabin n) (inUse t) n
   unfolding addTable
   joins =
       record {
         new = free;
-        used = λ k v. used-add k ∙ with-step-kept t (sound-formed s) n kind content low nonzero free fits k v;
+        used = λ k v. used-add k ∙ with-step-kept t (sound-formed s) n kind content cabin low nonzero free fits shared k v;
         user = used-add n ∙ new-used;
         old =
             λ k m v h.
@@ -359,7 +383,7 @@ module _ (t : Table) (s : Sound t) (i e kind content n : ℕ) (ui : inUse t i �
             (λ q. clash (filled k (r .0) q (strong-holds t k (r .0) (r .2))) empty)
             (before-strong k (r .0) ∙ r .2)
             (before-target k (r .0) ∙ r .3);
-        parent = (i, ui, exit-strongly (addTable t i e kind content n) i n e le new-strong new-target);
+        parent = (i, ui, exit-strongly (addTable t i e kind content cabin n) i n e le new-strong new-target);
         still =
             λ m h.
             ⊎-elim (λ r. clash ui (rw (r .0) at free))
@@ -372,16 +396,33 @@ module _ (t : Table) (s : Sound t) (i e kind content n : ℕ) (ui : inUse t i �
       filled : (a b : ℕ) → (a ≡ i) × (b ≡ e) → holds t a b ≡ true → holds t i e ≡ true
       filled a b q v = rw (q .0, q .1) at v
 
-  pub sound-add : Sound (addTable t i e kind content n)
+  pub adds : Adds t (addTable t i e kind content cabin n) n cabin
+  adds =
+      record {
+        size = (unfold addTable relink withLinks withStep withSteps in refl);
+        quotas = (unfold addTable relink withLinks withStep withSteps in refl);
+        low = low;
+        nonzero = nonzero;
+        free = free;
+        used = used-add n ∙ new-used;
+        cabin = cabin-add n ∙ cabin-new t (sound-formed s) n kind content cabin low nonzero free fits shared;
+        used-other = λ k d. used-add k ∙ with-step-other t (sound-formed s) n kind content cabin low nonzero free fits shared k d;
+        cabin-other = λ k d. cabin-add k ∙ cabin-other t (sound-formed s) n kind content cabin low nonzero free fits shared k d;
+      }
+    where
+      cabin-add : (k : ℕ) → cabinOf (addTable t i e kind content cabin n) k ≡ cabinOf stepped k
+      cabin-add k = unfold addTable in relink-cabin stepped i e n 0 k
+
+  pub sound-add : Sound (addTable t i e kind content cabin n)
   sound-add =
-      spine-sound formed-add
+      spine-sound formed-add (shares-more adds (sound-formed s) formed-add shared limit spare (sound-shares s))
       (spine-ext
       (λ k.
       same-test _ _
       (λ h. ⊎-elim (λ a. joins .used k a) (λ b. rw (eqb-true k n b) (joins .user)) (or-elim (inUse t k) _ h))
       (λ h.
       ⊎-elim (λ q. or-right (inUse t k) _ (eq-eqb k n q))
-      (λ d. or-left (inUse t k) _ (sym (with-step-other t (sound-formed s) n kind content low nonzero free fits k d) ∙ sym (used-add k) ∙ h))
+      (λ d. or-left (inUse t k) _ (sym (with-step-other t (sound-formed s) n kind content cabin low nonzero free fits shared k d) ∙ sym (used-add k) ∙ h))
       (eq-or-ne k n)))
       (spine-more (sound-spine s) joins))
 
@@ -402,8 +443,8 @@ getD-zeros zero i = refl
 getD-zeros (suc n) zero = refl
 getD-zeros (suc n) (suc i) = getD-zeros n i
 
-module _ (c : ℕ) where
-  pub fresh-used : (i : ℕ) → inUse (freshTable c) i ≡ true → i ≡ 0
+module _ (c : ℕ) (q : List ℕ) where
+  pub fresh-used : (i : ℕ) → inUse (freshTable c q) i ≡ true → i ≡ 0
   unfolding freshTable inUse
   fresh-used i h =
       ⊎-elim (λ q. q)
@@ -413,18 +454,18 @@ module _ (c : ℕ) where
       absurd (omega arith))
       (eq-or-ne i 0)
 
-  pub fresh-target : (i e : ℕ) → targetOf (freshTable c) i e ≡ 0
+  pub fresh-target : (i e : ℕ) → targetOf (freshTable c q) i e ≡ 0
   unfolding freshTable targetOf
   fresh-target i e = getD-zeros (places * exits) (exitPlace i e)
 
-  fresh-unlinked : (i j : ℕ) → stronglyLinked (freshTable c) i j ≡ true → ⊥
+  fresh-unlinked : (i j : ℕ) → stronglyLinked (freshTable c q) i j ≡ true → ⊥
   fresh-unlinked i j h =
-      let r = strongly-exit (freshTable c) i j h in
-      holds-target (freshTable c) i (r .0) (strong-holds (freshTable c) i (r .0) (r .2)) (fresh-target i (r .0))
+      let r = strongly-exit (freshTable c q) i j h in
+      holds-target (freshTable c q) i (r .0) (strong-holds (freshTable c q) i (r .0) (r .2)) (fresh-target i (r .0))
 
-  fresh-formed : 1 ≤ c → c ≤ places → Formed (freshTable c)
-  unfolding freshTable inUse kindOf contentOf ownBit linkBit counterOf kindFits
-  fresh-formed least most =
+  fresh-formed : 1 ≤ c → c ≤ places → length q ≡ quotaNumbers → Formed (freshTable c q)
+  unfolding freshTable inUse kindOf contentOf ownBit cabinOf linkBit counterOf kindFits
+  fresh-formed least most size =
       record {
         shape =
             record {
@@ -435,6 +476,8 @@ module _ (c : ℕ) where
               targets = refl;
               bits = refl;
               counts = refl;
+              cabins = refl;
+              quotas = size;
             };
         least = least;
         most = most;
@@ -444,7 +487,7 @@ module _ (c : ℕ) where
         kinds = λ i h. let z = fresh-used i h in rw z refl;
         own = λ i h. rw (getD-zeros places i) (omega arith);
         bits = λ i e h l. rw (getD-zeros (places * exits) (exitPlace i e)) (omega arith);
-        targets = λ i e h l f. absurd (holds-target (freshTable c) i e f (fresh-target i e));
+        targets = λ i e h l f. absurd (holds-target (freshTable c q) i e f (fresh-target i e));
         empty = λ i e h l f. getD-zeros (places * exits) (exitPlace i e);
         free =
             λ i l f.
@@ -456,17 +499,21 @@ module _ (c : ℕ) where
               targets = λ e x. fresh-target i e;
               bits = λ e x. getD-zeros (places * exits) (exitPlace i e);
               counts = λ b x. getD-zeros (places * counters) (counterPlace i b);
+              cabin = getD-zeros places i;
             };
+        cabins = λ i h. rw (getD-zeros places i) (omega arith);
+        alarmCabin = getD-zeros places 0;
         exact = λ k b l x. getD-zeros (places * counters) (counterPlace k b) ∙ sym (none k b);
       }
     where
-      none : (k b : ℕ) → linksTo (freshTable c) k b ≡ 0
-      none k b = unlinked-count (freshTable c) k b (λ p. unfold freshTable in getD-zeros (places * exits) p)
+      none : (k b : ℕ) → linksTo (freshTable c q) k b ≡ 0
+      none k b = unlinked-count (freshTable c q) k b (λ p. unfold freshTable in getD-zeros (places * exits) p)
 
-  pub sound-fresh : 1 ≤ c → c ≤ places → Sound (freshTable c)
-  sound-fresh least most =
-      let g = fresh-formed least most in
-      spine-sound g
+  pub sound-fresh : 1 ≤ c → c ≤ places → listFits c q ≡ true → Sound (freshTable c q)
+  unfolding listFits
+  sound-fresh least most h =
+      let g = fresh-formed least most (eqb-true _ _ (and-left (eqb (length q) quotaNumbers) _ h)) in
+      spine-sound g (shares-alone g fresh-used (unfold freshTable in and-right (eqb (length q) quotaNumbers) _ h))
       (record {
         rank = λ i. 0;
         top = 1;

@@ -14,7 +14,7 @@ use borrow.Author.Tests.{eqb-true, eqb-false, eq-eqb, ne-eqb}
 use Rattle.finite.specs.Below.{count}
 use Rattle.finite.proofs.Bools.{and-intro, and-left, and-right, clash, refute, test, not-true-false}
 use Rattle.finite.proofs.Below.{eq-or-ne, count-none}
-use Rattle.table.specs.Table.{Table, places, exits, counters, exitPlace, inUse, kindOf, contentOf, ownBit, targetOf, linkBit, counterOf, holds, strong, countsAt, linksTo, withLinks, withSteps}
+use Rattle.table.specs.Table.{Table, places, exits, counters, cabinCount, exitPlace, inUse, kindOf, contentOf, ownBit, cabinOf, targetOf, linkBit, counterOf, holds, strong, countsAt, linksTo, withLinks, withSteps}
 use Rattle.table.specs.Sound.{Shape, Blank, Sound, kindFits}
 use Rattle.table.specs.Calls.{relink}
 use Rattle.table.specs.Clear.{flipped}
@@ -34,6 +34,8 @@ pub record Formed (t : Table) : Type 0 where
   pub targets : (i e : ℕ) → inUse t i ≡ true → e < exits → holds t i e ≡ true → inUse t (targetOf t i e) ≡ true
   pub empty : (i e : ℕ) → inUse t i ≡ true → e < exits → holds t i e ≡ false → linkBit t i e ≡ 0
   pub free : (i : ℕ) → i < places → inUse t i ≡ false → Blank t i
+  pub cabins : (i : ℕ) → inUse t i ≡ true → cabinOf t i < cabinCount
+  pub alarmCabin : cabinOf t 0 ≡ 0
   pub exact : Exact t
 
 -- no exit leads to k: no link to it is counted
@@ -74,6 +76,8 @@ sound-formed {t} s =
       targets = s .targets;
       empty = s .empty;
       free = s .free;
+      cabins = s .cabins;
+      alarmCabin = s .alarmCabin;
       exact =
           λ k c l b.
           ⊎-elim (λ u. s .counts k c u b)
@@ -118,7 +122,7 @@ module _ (t : Table) (g : Formed t) (i e j b : ℕ) (u : inUse t i ≡ true) (le
       (at-exit i e k f)
 
   pub formed-relink : Formed (relink t i e j b)
-  unfolding relink withLinks inUse kindOf contentOf ownBit
+  unfolding relink withLinks inUse kindOf contentOf ownBit cabinOf
   formed-relink =
       let li = formed-place g i u in
       let w = formed-wired g in
@@ -164,13 +168,16 @@ module _ (t : Table) (g : Formed t) (i e j b : ℕ) (u : inUse t i ≡ true) (le
               targets = λ e′ x. relink-target-other t (g .shape) i e j b li le k e′ x (apart e′) ∙ blank .targets e′ x;
               bits = λ e′ x. relink-bit-other t (g .shape) i e j b li le k e′ x (apart e′) ∙ blank .bits e′ x;
               counts = λ c x. exact k c l x ∙ no-links (relink t i e j b) lead k c f;
+              cabin = blank .cabin;
             };
+        cabins = g .cabins;
+        alarmCabin = g .alarmCabin;
         exact = exact;
       }
 
 -- the step's own bit changes no link and no counter
 pub formed-flipped : (t : Table) → Formed t → (k : ℕ) → inUse t k ≡ true → Formed (flipped t k)
-unfolding flipped withSteps inUse kindOf contentOf ownBit targetOf linkBit holds counterOf linksTo countsAt
+unfolding flipped withSteps inUse kindOf contentOf ownBit cabinOf targetOf linkBit holds counterOf linksTo countsAt
 formed-flipped t g k u =
     let lk : k < length (t .own) = rw (g .shape .own) (formed-place g k u) in
     record {
@@ -183,6 +190,8 @@ formed-flipped t g k u =
             targets = g .shape .targets;
             bits = g .shape .bits;
             counts = g .shape .counts;
+            cabins = g .shape .cabins;
+            quotas = g .shape .quotas;
           };
       least = g .least;
       most = g .most;
@@ -210,6 +219,9 @@ formed-flipped t g k u =
             targets = blank .targets;
             bits = blank .bits;
             counts = blank .counts;
+            cabin = blank .cabin;
           };
+      cabins = g .cabins;
+      alarmCabin = g .alarmCabin;
       exact = g .exact;
     }

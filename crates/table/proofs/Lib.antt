@@ -3,6 +3,7 @@ pub mod Links
 pub mod Sound
 pub mod Relink
 pub mod Formed
+pub mod Cabins
 pub mod Spine
 pub mod Edits
 pub mod Alike

@@ -1,6 +1,6 @@
 -- The plain plan of a table, read and redrawn: what a table says of its steps its plan says too, and each edit of a table is the plan's edit.
 -- Assumes nothing.
---   plan-used plan-target plan-holds plan-linked plan-count   the plan says what the table says
+--   plan-used plan-target plan-holds plan-linked plan-count plan-charge   the plan says what the table says
 --   plan-fresh plan-relink plan-with-step plan-cleared        the plan after an edit
 use mathlib.Core.Path.{_≡_, refl, sym, _∙_, ap, ap₂, subst, fun-ext}
 use mathlib.Core.Bool.{Bool, true, false, _&&_, not, cond}
@@ -16,41 +16,49 @@ use Rattle.finite.specs.Below.{any, count, tabulate, tabulateFrom}
 use Rattle.finite.specs.Reach.{marked, reach, reaches}
 use Rattle.finite.proofs.Bools.{clash, refute, test, same-test}
 use Rattle.finite.proofs.Below.{le-or-lt, eq-or-ne, any-ext, count-ext, length-tabulate, getD-tabulate, tabulate-ext, tabulate-set}
-use Rattle.table.specs.Table.{Table, places, exits, inUse, kindOf, contentOf, targetOf, holds, leads, linked, stepsInUse, withLinks, withSteps}
+use Rattle.table.specs.Table.{Table, places, exits, cabinCount, inUse, kindOf, contentOf, cabinOf, targetOf, holds, leads, linked, stepsInUse, withLinks, withSteps}
+use Rattle.table.specs.Cabins.{charged, charge}
 use Rattle.table.specs.Sound.{Shape, Blank, contentFits}
 use Rattle.table.specs.Calls.{freshTable, relink, withStep}
-use Rattle.table.specs.Plan.{Plan, PlanStep, planStep, planOf, stepOf, isStep, stepTarget, planInUse, planTarget, planHolds, planLinked, planCount, freshPlan, retargeted, replan, withTarget, pruned}
+use Rattle.table.specs.Plan.{Plan, PlanStep, planStep, planOf, stepOf, isStep, stepTarget, stepOfCabin, planInUse, planTarget, planHolds, planLinked, planCount, planCharge, freshPlan, retargeted, replan, withTarget, pruned}
 use Rattle.table.proofs.Links.{Wired, used-below, holder-used, target-holds}
-use Rattle.table.proofs.Relink.{relink-used, relink-kind, relink-content, relink-target, relink-target-other}
+use Rattle.table.proofs.Relink.{relink-used, relink-kind, relink-content, relink-cabin, relink-target, relink-target-other}
 use Rattle.table.proofs.Formed.{Formed, formed-wired, formed-place, formed-below}
-use Rattle.table.proofs.Edits.{fresh-used, fresh-target, with-step-new, with-step-other, kind-new, kind-other, content-new, content-other}
+use Rattle.table.proofs.Edits.{fresh-used, fresh-target, with-step-new, with-step-other, kind-new, kind-other, content-new, content-other, cabin-new, cabin-other}
 
 -- what a plan keeps of a step, by its parts
-abbrev entry : Bool → ℕ → ℕ → (ℕ → ℕ) → Option PlanStep
-entry u k c target = cond u (some (record { kind = k; content = c; targets = tabulate exits target })) none
+abbrev entry : Bool → ℕ → ℕ → (ℕ → ℕ) → ℕ → Option PlanStep
+entry u k c target cabin = cond u (some (record { kind = k; content = c; targets = tabulate exits target; cabin = cabin })) none
 
-plan-step-entry : (t : Table) (i : ℕ) → planStep t i ≡ entry (inUse t i) (kindOf t i) (contentOf t i) (targetOf t i)
+plan-step-entry : (t : Table) (i : ℕ) → planStep t i ≡ entry (inUse t i) (kindOf t i) (contentOf t i) (targetOf t i) (cabinOf t i)
 unfolding planStep
 plan-step-entry t i = refl
 
-pub step-path : {k k′ c c′ : ℕ} {l l′ : List ℕ} → k ≡ k′ → c ≡ c′ → l ≡ l′ →
-    _≡_ {A = PlanStep} (record { kind = k; content = c; targets = l }) (record { kind = k′; content = c′; targets = l′ })
-step-path x y z = λ i. record { kind = x i; content = y i; targets = z i }
+pub step-path : {k k′ c c′ b b′ : ℕ} {l l′ : List ℕ} → k ≡ k′ → c ≡ c′ → l ≡ l′ → b ≡ b′ →
+    _≡_ {A = PlanStep} (record { kind = k; content = c; targets = l; cabin = b }) (record { kind = k′; content = c′; targets = l′; cabin = b′ })
+step-path x y z w = λ i. record { kind = x i; content = y i; targets = z i; cabin = w i }
 
 -- entries with the same parts are the same
-entry-same : (u u′ : Bool) (k k′ c c′ : ℕ) (f f′ : ℕ → ℕ) → u ≡ u′ → (u ≡ true → k ≡ k′) → (u ≡ true → c ≡ c′) →
-    (u ≡ true → (e : ℕ) → e < exits → f e ≡ f′ e) → entry u k c f ≡ entry u′ k′ c′ f′
-entry-same true u′ k k′ c c′ f f′ q a b g =
-    rw (sym q) (ap some (step-path (a refl) (b refl) (tabulate-ext exits f f′ (g refl))))
-entry-same false u′ k k′ c c′ f f′ q a b g = rw (sym q)
+entry-same : (u u′ : Bool) (k k′ c c′ : ℕ) (f f′ : ℕ → ℕ) (b b′ : ℕ) → u ≡ u′ → (u ≡ true → k ≡ k′) → (u ≡ true → c ≡ c′) →
+    (u ≡ true → (e : ℕ) → e < exits → f e ≡ f′ e) → (u ≡ true → b ≡ b′) → entry u k c f b ≡ entry u′ k′ c′ f′ b′
+entry-same true u′ k k′ c c′ f f′ b b′ q x y g z =
+    rw (sym q) (ap some (step-path (x refl) (y refl) (tabulate-ext exits f f′ (g refl)) (z refl)))
+entry-same false u′ k k′ c c′ f f′ b b′ q x y g z = rw (sym q)
 
-is-entry : (u : Bool) (k c : ℕ) (f : ℕ → ℕ) → isStep (entry u k c f) ≡ u
-is-entry true k c f = refl
-is-entry false k c f = refl
+is-entry : (u : Bool) (k c : ℕ) (f : ℕ → ℕ) (b : ℕ) → isStep (entry u k c f b) ≡ u
+is-entry true k c f b = refl
+is-entry false k c f b = refl
 
-entry-target : (u : Bool) (k c : ℕ) (f : ℕ → ℕ) (e : ℕ) → e < exits → (u ≡ false → f e ≡ 0) → stepTarget (entry u k c f) e ≡ f e
-entry-target true k c f e l z = getD-tabulate exits f 0 e l
-entry-target false k c f e l z = sym (z refl)
+entry-target : (u : Bool) (k c : ℕ) (f : ℕ → ℕ) (b e : ℕ) → e < exits → (u ≡ false → f e ≡ 0) → stepTarget (entry u k c f b) e ≡ f e
+entry-target true k c f b e l z = getD-tabulate exits f 0 e l
+entry-target false k c f b e l z = sym (z refl)
+
+-- a step charged to a cabin: the same said of a plan's entry
+entry-cabin : (u n : Bool) (k c : ℕ) (f : ℕ → ℕ) (b d : ℕ) → (n && stepOfCabin d (entry u k c f b)) ≡ (u && n && eqb b d)
+entry-cabin true true k c f b d = refl
+entry-cabin true false k c f b d = refl
+entry-cabin false true k c f b d = refl
+entry-cabin false false k c f b d = refl
 
 pub plan-capacity : (t : Table) → planOf t .capacity ≡ t .capacity
 unfolding planOf
@@ -70,13 +78,13 @@ module _ {t : Table} (w : Wired t) where
 
   pub plan-used : (i : ℕ) → planInUse (planOf t) i ≡ inUse t i
   unfolding planInUse
-  plan-used i = ap isStep (plan-step i ∙ plan-step-entry t i) ∙ is-entry (inUse t i) _ _ _
+  plan-used i = ap isStep (plan-step i ∙ plan-step-entry t i) ∙ is-entry (inUse t i) _ _ _ _
 
   pub plan-target : (i e : ℕ) → e < exits → planTarget (planOf t) i e ≡ targetOf t i e
   unfolding planTarget
   plan-target i e l =
       ap (λ (s : Option PlanStep). stepTarget s e) (plan-step i ∙ plan-step-entry t i)
-      ∙ entry-target (inUse t i) _ _ (targetOf t i) e l
+      ∙ entry-target (inUse t i) _ _ (targetOf t i) _ e l
       (λ f. ⊎-elim (λ z. z) (λ d. clash (holder-used w i e l (target-holds t i e d)) f) (eq-or-ne (targetOf t i e) 0))
 
   pub plan-holds : (i e : ℕ) → e < exits → planHolds (planOf t) i e ≡ holds t i e
@@ -92,43 +100,62 @@ module _ {t : Table} (w : Wired t) where
   unfolding planCount planOf stepsInUse
   plan-count = count-ext (t .capacity) _ _ (λ i l. plan-used i)
 
--- a plan is its three parts
-pub plan-path : {p q : Plan} → p .capacity ≡ q .capacity → p .last ≡ q .last → p .steps ≡ q .steps → p ≡ q
-plan-path x y z = λ i. record { capacity = x i; last = y i; steps = z i }
+  -- the charges that a plan says are the table's
+  pub plan-charge : planCharge (planOf t) ≡ charge t
+  unfolding planCharge charge charged planOf
+  plan-charge =
+      fun-ext
+      (λ c.
+      count-ext (t .capacity) _ _
+      (λ i l.
+      ap (λ (s : Option PlanStep). not (eqb i 0) && stepOfCabin c s) (plan-step i ∙ plan-step-entry t i)
+      ∙ entry-cabin (inUse t i) (not (eqb i 0)) _ _ _ (cabinOf t i) c))
+
+-- a plan is its four parts
+pub plan-path : {p q : Plan} → p .capacity ≡ q .capacity → p .last ≡ q .last → p .steps ≡ q .steps → p .quotas ≡ q .quotas → p ≡ q
+plan-path x y z w = λ i. record { capacity = x i; last = y i; steps = z i; quotas = w i }
 
 zeros : _≡_ {A = List ℕ} (tabulate exits (λ e. 0)) (replicate exits 0)
 unfolding tabulate tabulateFrom
 zeros = refl
 
-fresh-steps : (c i : ℕ) → planStep (freshTable c) i ≡ cond (eqb i 0) (some (record { kind = 0; content = 0; targets = replicate exits 0 })) none
-fresh-steps c i =
-    plan-step-entry (freshTable c) i
-    ∙ entry-same (inUse (freshTable c) i) (eqb i 0) _ 0 _ 0 _ (λ e. 0) used (λ u. zero-kind i (fresh-used c i u)) (λ u. zero-content i (fresh-used c i u)) (λ u e l. fresh-target c i e)
-    ∙ ap (λ (l : List ℕ). cond (eqb i 0) (some (record { kind = 0; content = 0; targets = l })) none) zeros
+fresh-steps : (c : ℕ) (q : List ℕ) (i : ℕ) →
+    planStep (freshTable c q) i ≡ cond (eqb i 0) (some (record { kind = 0; content = 0; targets = replicate exits 0; cabin = 0 })) none
+fresh-steps c q i =
+    plan-step-entry (freshTable c q) i
+    ∙ entry-same (inUse (freshTable c q) i) (eqb i 0) _ 0 _ 0 _ (λ e. 0) _ 0 used (λ u. zero-kind i (fresh-used c q i u)) (λ u. zero-content i (fresh-used c q i u))
+    (λ u e l. fresh-target c q i e)
+    (λ u. zero-cabin i (fresh-used c q i u))
+    ∙ ap (λ (l : List ℕ). cond (eqb i 0) (some (record { kind = 0; content = 0; targets = l; cabin = 0 })) none) zeros
   where
-    used : inUse (freshTable c) i ≡ eqb i 0
-    used = same-test _ _ (λ u. eq-eqb i 0 (fresh-used c i u)) (λ q. let z = eqb-true i 0 q in rw z (unfold freshTable inUse in refl))
+    used : inUse (freshTable c q) i ≡ eqb i 0
+    used = same-test _ _ (λ u. eq-eqb i 0 (fresh-used c q i u)) (λ h. let z = eqb-true i 0 h in rw z (unfold freshTable inUse in refl))
 
-    zero-kind : (i : ℕ) → i ≡ 0 → kindOf (freshTable c) i ≡ 0
+    zero-kind : (i : ℕ) → i ≡ 0 → kindOf (freshTable c q) i ≡ 0
     zero-kind i z = rw z (unfold freshTable kindOf in refl)
 
-    zero-content : (i : ℕ) → i ≡ 0 → contentOf (freshTable c) i ≡ 0
+    zero-content : (i : ℕ) → i ≡ 0 → contentOf (freshTable c q) i ≡ 0
     zero-content i z = rw z (unfold freshTable contentOf in refl)
 
-pub plan-fresh : (c : ℕ) → planOf (freshTable c) ≡ freshPlan c
+    zero-cabin : (i : ℕ) → i ≡ 0 → cabinOf (freshTable c q) i ≡ 0
+    zero-cabin i z = rw z (unfold freshTable cabinOf in refl)
+
+pub plan-fresh : (c : ℕ) (q : List ℕ) → planOf (freshTable c q) ≡ freshPlan c q
 unfolding planOf freshPlan
-plan-fresh c =
-    plan-path (unfold freshTable in refl) (unfold freshTable in refl) (unfold freshTable in tabulate-ext c _ _ (λ i l. fresh-steps c i))
+plan-fresh c q =
+    plan-path (unfold freshTable in refl) (unfold freshTable in refl) (unfold freshTable in tabulate-ext c _ _ (λ i l. fresh-steps c q i))
+    (unfold freshTable in refl)
 
 -- one exit of a table is one target of its plan
 module _ (t : Table) (g : Formed t) (i e j b : ℕ) (u : inUse t i ≡ true) (le : e < exits) where
   relinked-step : (k : ℕ) → (k ≡ i → ⊥) → planStep (relink t i e j b) k ≡ planStep t k
   relinked-step k d =
       plan-step-entry (relink t i e j b) k
-      ∙ entry-same _ (inUse t k) _ (kindOf t k) _ (contentOf t k) _ (targetOf t k) (relink-used t i e j b k)
+      ∙ entry-same _ (inUse t k) _ (kindOf t k) _ (contentOf t k) _ (targetOf t k) _ (cabinOf t k) (relink-used t i e j b k)
       (λ x. relink-kind t i e j b k)
       (λ x. relink-content t i e j b k)
       (λ x f l. relink-target-other t (g .shape) i e j b (formed-place g i u) le k f l (λ q. d (q .0)))
+      (λ x. relink-cabin t i e j b k)
       ∙ sym (plan-step-entry t k)
 
   relinked-here : planStep (relink t i e j b) i ≡ retargeted e j (planStep t i)
@@ -137,22 +164,24 @@ module _ (t : Table) (g : Formed t) (i e j b : ℕ) (u : inUse t i ≡ true) (le
       ∙ here (inUse (relink t i e j b) i) (relink-used t i e j b i ∙ u)
       ∙ sym (ap (retargeted e j) (plan-step-entry t i ∙ there (inUse t i) u))
     where
-      there : (v : Bool) → v ≡ true → entry v (kindOf t i) (contentOf t i) (targetOf t i) ≡ some (record { kind = kindOf t i; content = contentOf t i; targets = tabulate exits (targetOf t i) })
+      there : (v : Bool) → v ≡ true → entry v (kindOf t i) (contentOf t i) (targetOf t i) (cabinOf t i) ≡ some (record { kind = kindOf t i; content = contentOf t i; targets = tabulate exits (targetOf t i); cabin = cabinOf t i })
       there v q = rw q
 
-      here : (v : Bool) → v ≡ true → entry v (kindOf (relink t i e j b) i) (contentOf (relink t i e j b) i) (targetOf (relink t i e j b) i) ≡ some (record { kind = kindOf t i; content = contentOf t i; targets = set (tabulate exits (targetOf t i)) e j })
+      here : (v : Bool) → v ≡ true → entry v (kindOf (relink t i e j b) i) (contentOf (relink t i e j b) i) (targetOf (relink t i e j b) i) (cabinOf (relink t i e j b) i) ≡
+          some (record { kind = kindOf t i; content = contentOf t i; targets = set (tabulate exits (targetOf t i)) e j; cabin = cabinOf t i })
       here v q =
           rw q
           (ap some
           (step-path (relink-kind t i e j b i) (relink-content t i e j b i)
           (tabulate-set exits e (targetOf (relink t i e j b) i) (targetOf t i) j le
           (relink-target t (g .shape) i e j b (formed-place g i u) le)
-          (λ f l d. relink-target-other t (g .shape) i e j b (formed-place g i u) le i f l (λ q. d (q .1))))))
+          (λ f l d. relink-target-other t (g .shape) i e j b (formed-place g i u) le i f l (λ q. d (q .1))))
+          (relink-cabin t i e j b i)))
 
   pub plan-relink : planOf (relink t i e j b) ≡ withTarget (planOf t) i e j
   unfolding withTarget replan planOf relink withLinks
   plan-relink =
-      plan-path refl refl (steps (formed-below g i u))
+      plan-path refl refl (steps (formed-below g i u)) refl
     where
       steps : i < t .capacity → planOf (relink t i e j b) .steps ≡ set (planOf t .steps) i (retargeted e j (stepOf (planOf t) i))
       steps l =
@@ -161,48 +190,52 @@ module _ (t : Table) (g : Formed t) (i e j b : ℕ) (u : inUse t i ≡ true) (le
           (λ k x d. relinked-step k d)
 
 -- a free step taken into use is a step put into the plan
-module _ (t : Table) (g : Formed t) (n kind content : ℕ) (low : n < t .capacity) (nonzero : n ≡ 0 → ⊥)
-    (free : inUse t n ≡ false) (fits : contentFits kind content ≡ true) where
-  stepped-other : (k : ℕ) → (k ≡ n → ⊥) → planStep (withStep t n kind content) k ≡ planStep t k
+module _ (t : Table) (g : Formed t) (n kind content cabin : ℕ) (low : n < t .capacity) (nonzero : n ≡ 0 → ⊥)
+    (free : inUse t n ≡ false) (fits : contentFits kind content ≡ true) (shared : cabin < cabinCount) where
+  stepped-other : (k : ℕ) → (k ≡ n → ⊥) → planStep (withStep t n kind content cabin) k ≡ planStep t k
   stepped-other k d =
-      plan-step-entry (withStep t n kind content) k
-      ∙ entry-same _ (inUse t k) _ (kindOf t k) _ (contentOf t k) _ (targetOf t k)
-      (with-step-other t g n kind content low nonzero free fits k d)
-      (λ x. kind-other t g n kind content low nonzero free fits k d)
-      (λ x. content-other t g n kind content low nonzero free fits k d)
+      plan-step-entry (withStep t n kind content cabin) k
+      ∙ entry-same _ (inUse t k) _ (kindOf t k) _ (contentOf t k) _ (targetOf t k) _ (cabinOf t k)
+      (with-step-other t g n kind content cabin low nonzero free fits shared k d)
+      (λ x. kind-other t g n kind content cabin low nonzero free fits shared k d)
+      (λ x. content-other t g n kind content cabin low nonzero free fits shared k d)
       (λ x e l. target-same k e)
+      (λ x. cabin-other t g n kind content cabin low nonzero free fits shared k d)
       ∙ sym (plan-step-entry t k)
     where
-      target-same : (k e : ℕ) → targetOf (withStep t n kind content) k e ≡ targetOf t k e
+      target-same : (k e : ℕ) → targetOf (withStep t n kind content cabin) k e ≡ targetOf t k e
       target-same k e = unfold withStep withSteps targetOf in refl
 
-  stepped-here : planStep (withStep t n kind content) n ≡ some (record { kind = kind; content = content; targets = replicate exits 0 })
+  stepped-here : planStep (withStep t n kind content cabin) n ≡ some (record { kind = kind; content = content; targets = replicate exits 0; cabin = cabin })
   stepped-here =
-      plan-step-entry (withStep t n kind content) n
-      ∙ entry-same _ true _ kind _ content _ (λ e. 0)
-      (with-step-new t g n kind content low nonzero free fits)
-      (λ x. kind-new t g n kind content low nonzero free fits)
-      (λ x. content-new t g n kind content low nonzero free fits)
+      plan-step-entry (withStep t n kind content cabin) n
+      ∙ entry-same _ true _ kind _ content _ (λ e. 0) _ cabin
+      (with-step-new t g n kind content cabin low nonzero free fits shared)
+      (λ x. kind-new t g n kind content cabin low nonzero free fits shared)
+      (λ x. content-new t g n kind content cabin low nonzero free fits shared)
       (λ x e l. target-zero e l)
-      ∙ ap (λ (l : List ℕ). some (record { kind = kind; content = content; targets = l })) zeros
+      (λ x. cabin-new t g n kind content cabin low nonzero free fits shared)
+      ∙ ap (λ (l : List ℕ). some (record { kind = kind; content = content; targets = l; cabin = cabin })) zeros
     where
-      target-zero : (e : ℕ) → e < exits → targetOf (withStep t n kind content) n e ≡ 0
+      target-zero : (e : ℕ) → e < exits → targetOf (withStep t n kind content cabin) n e ≡ 0
       target-zero e l = unfold withStep withSteps targetOf in g .free n (omega (arith, g .most)) free .targets e l
 
-  pub plan-with-step : planOf (withStep t n kind content) ≡
-      replan (planOf t) n (set (planOf t .steps) n (some (record { kind = kind; content = content; targets = replicate exits 0 })))
+  pub plan-with-step : planOf (withStep t n kind content cabin) ≡
+      replan (planOf t) n (set (planOf t .steps) n (some (record { kind = kind; content = content; targets = replicate exits 0; cabin = cabin })))
   unfolding replan planOf withStep withSteps
   plan-with-step =
       plan-path refl refl
-      (tabulate-set (t .capacity) n (planStep (withStep t n kind content)) (planStep t) _ low stepped-here (λ k x d. stepped-other k d))
+      (tabulate-set (t .capacity) n (planStep (withStep t n kind content cabin)) (planStep t) _ low stepped-here (λ k x d. stepped-other k d))
+      refl
 
 -- v holds just the steps of u that links reach, as they were: its plan is u's plan pruned
 pub plan-pruned : (u v : Table) → Wired u → v .capacity ≡ u .capacity → v .last ≡ u .last →
     ((k : ℕ) → inUse v k ≡ reaches (linked u) (u .capacity) 0 k) → ((k : ℕ) → inUse v k ≡ true → inUse u k ≡ true) →
     ((k : ℕ) → inUse v k ≡ true → kindOf v k ≡ kindOf u k) → ((k : ℕ) → inUse v k ≡ true → contentOf v k ≡ contentOf u k) →
-    ((k e : ℕ) → e < exits → inUse v k ≡ true → targetOf v k e ≡ targetOf u k e) → planOf v ≡ pruned (planOf u)
+    ((k e : ℕ) → e < exits → inUse v k ≡ true → targetOf v k e ≡ targetOf u k e) → ((k : ℕ) → inUse v k ≡ true → cabinOf v k ≡ cabinOf u k) →
+    v .quotas ≡ u .quotas → planOf v ≡ pruned (planOf u)
 unfolding pruned replan planOf reaches
-plan-pruned u v w size last used still kind content target =
+plan-pruned u v w size last used still kind content target cabin quotas =
     plan-path size last
     (ap (λ (n : ℕ). tabulate n (planStep v)) size
     ∙ tabulate-ext (u .capacity) _ _
@@ -216,9 +249,11 @@ plan-pruned u v w size last used still kind content target =
     (sym
     (plan-step w k
     ∙ plan-step-entry u k
-    ∙ entry-same (inUse u k) true (kindOf u k) (kindOf v k) (contentOf u k) (contentOf v k) (targetOf u k) (targetOf v k) (still k y)
+    ∙ entry-same (inUse u k) true (kindOf u k) (kindOf v k) (contentOf u k) (contentOf v k) (targetOf u k) (targetOf v k) (cabinOf u k) (cabinOf v k) (still k y)
     (λ x. sym (kind k y))
     (λ x. sym (content k y))
-    (λ x e b. sym (target k e b y)))))
+    (λ x e b. sym (target k e b y))
+    (λ x. sym (cabin k y)))))
     (λ (y : inUse v k ≡ false). rw (m, y))
     (test (inUse v k))))
+    quotas

@@ -14,7 +14,7 @@ use Rattle.finite.specs.Below.{rounds}
 use Rattle.finite.specs.Reach.{marked}
 use Rattle.finite.proofs.Bools.{and-right, clash, refute, test, not-true-false}
 use Rattle.finite.proofs.Below.{le-or-lt, eq-or-ne, below-suc, rounds-induct}
-use Rattle.table.specs.Table.{Table, places, exits, counters, exitPlace, counterPlace, inUse, kindOf, contentOf, ownBit, targetOf, linkBit, counterOf, holds, linked, countsAt, linksTo, withLinks, withSteps}
+use Rattle.table.specs.Table.{Table, places, exits, counters, exitPlace, counterPlace, inUse, kindOf, contentOf, ownBit, cabinOf, targetOf, linkBit, counterOf, holds, linked, countsAt, linksTo, withLinks, withSteps}
 use Rattle.table.specs.Sound.{Shape, Blank}
 use Rattle.table.specs.Calls.{relink}
 use Rattle.table.specs.Clear.{unlinked, blanked, eachDoubtful, release}
@@ -30,9 +30,11 @@ pub record SameSteps (t u : Table) : Type 0 where
   pub kinds : u .kinds ≡ t .kinds
   pub contents : u .contents ≡ t .contents
   pub own : u .own ≡ t .own
+  pub cabins : u .cabins ≡ t .cabins
+  pub quotas : u .quotas ≡ t .quotas
 
 same-refl : (t : Table) → SameSteps t t
-same-refl t = record { capacity = refl; last = refl; used = refl; kinds = refl; contents = refl; own = refl }
+same-refl t = record { capacity = refl; last = refl; used = refl; kinds = refl; contents = refl; own = refl; cabins = refl; quotas = refl }
 
 same-trans : {t u v : Table} → SameSteps t u → SameSteps u v → SameSteps t v
 same-trans a b =
@@ -43,6 +45,8 @@ same-trans a b =
       kinds = b .kinds ∙ a .kinds;
       contents = b .contents ∙ a .contents;
       own = b .own ∙ a .own;
+      cabins = b .cabins ∙ a .cabins;
+      quotas = b .quotas ∙ a .quotas;
     }
 
 same-used : {t u : Table} → SameSteps t u → (i : ℕ) → inUse u i ≡ inUse t i
@@ -66,7 +70,7 @@ module _ (t : Table) (g : Formed t) (k : ℕ) (u : inUse t k ≡ true) where
       let lk = formed-place f k uk in
       record {
         formed = formed-relink v f k m 0 0 uk l (inl (refl, refl));
-        same = same-trans (r .same) (unfold relink withLinks in record { capacity = refl; last = refl; used = refl; kinds = refl; contents = refl; own = refl });
+        same = same-trans (r .same) (unfold relink withLinks in record { capacity = refl; last = refl; used = refl; kinds = refl; contents = refl; own = refl; cabins = refl; quotas = refl });
         target =
             λ e x.
             ⊎-elim (λ (q : e ≡ m). rw q (relink-target v (f .shape) k m 0 0 lk l))
@@ -125,6 +129,10 @@ module _ (t : Table) (g : Formed t) (k : ℕ) (u : inUse t k ≡ true) (nonzero 
   unfolding ownBit blanked withLinks withSteps
   blanked-own-other i d = getD-set-other (t .own) k i 0 0 d
 
+  blanked-cabin-other : (i : ℕ) → (i ≡ k → ⊥) → cabinOf (blanked t k) i ≡ cabinOf t i
+  unfolding cabinOf blanked withLinks withSteps
+  blanked-cabin-other i d = getD-set-other (t .cabins) k i 0 0 d
+
   -- the counters of the step are set to 0, those of others stay
   blanked-counter : (b : ℕ) → b < counters → counterOf (blanked t k) k b ≡ 0
   unfolding counterOf blanked withLinks withSteps
@@ -160,7 +168,7 @@ module _ (t : Table) (g : Formed t) (k : ℕ) (u : inUse t k ≡ true) (nonzero 
       (d, sym (blanked-used-other i d) ∙ h)
 
   pub formed-blanked : Formed (blanked t k)
-  unfolding blanked withLinks withSteps targetOf linkBit holds kindOf contentOf ownBit
+  unfolding blanked withLinks withSteps targetOf linkBit holds kindOf contentOf ownBit cabinOf
   formed-blanked =
       record {
         shape =
@@ -172,6 +180,8 @@ module _ (t : Table) (g : Formed t) (k : ℕ) (u : inUse t k ≡ true) (nonzero 
               targets = g .shape .targets;
               bits = g .shape .bits;
               counts = length-set (set (t .counts) (counterPlace k 0) 0) _ _ ∙ length-set (t .counts) _ _ ∙ g .shape .counts;
+              cabins = length-set (t .cabins) _ _ ∙ g .shape .cabins;
+              quotas = g .shape .quotas;
             };
         least = g .least;
         most = g .most;
@@ -202,6 +212,7 @@ module _ (t : Table) (g : Formed t) (k : ℕ) (u : inUse t k ≡ true) (nonzero 
               targets = no-target;
               bits = no-bit;
               counts = blanked-counter;
+              cabin = getD-set-same (t .cabins) k 0 0 (rw (g .shape .cabins) place);
             }))
             (λ d.
             let b = g .free i l (sym (blanked-used-other i d) ∙ h) in
@@ -213,8 +224,11 @@ module _ (t : Table) (g : Formed t) (k : ℕ) (u : inUse t k ≡ true) (nonzero 
               targets = b .targets;
               bits = b .bits;
               counts = λ c x. blanked-counter-other i c d x ∙ b .counts c x;
+              cabin = blanked-cabin-other i d ∙ b .cabin;
             })
             (eq-or-ne i k);
+        cabins = λ i h. let r = still i h in rw (blanked-cabin-other i (r .0)) (g .cabins i (r .1));
+        alarmCabin = blanked-cabin-other 0 (λ q. nonzero (sym q)) ∙ g .alarmCabin;
         exact =
             λ i c l x.
             ⊎-elim
@@ -233,6 +247,8 @@ pub record Released (t : Table) (d : List Bool) (v : Table) : Type 0 where
   pub kind : (i : ℕ) → marked d i ≡ false → kindOf v i ≡ kindOf t i
   pub content : (i : ℕ) → marked d i ≡ false → contentOf v i ≡ contentOf t i
   pub own : (i : ℕ) → marked d i ≡ false → ownBit v i ≡ ownBit t i
+  pub cabin : (i : ℕ) → marked d i ≡ false → cabinOf v i ≡ cabinOf t i
+  pub quotas : v .quotas ≡ t .quotas
   pub target : (i e : ℕ) → e < exits → marked d i ≡ false → targetOf v i e ≡ targetOf t i e
   pub bit : (i e : ℕ) → e < exits → marked d i ≡ false → linkBit v i e ≡ linkBit t i e
 
@@ -323,6 +339,8 @@ module _ (t : Table) (g : Formed t) (d : List Bool) (doubted : (i : ℕ) → mar
     kind : (i : ℕ) → marked d i ≡ false → kindOf v i ≡ kindOf t i
     content : (i : ℕ) → marked d i ≡ false → contentOf v i ≡ contentOf t i
     own : (i : ℕ) → marked d i ≡ false → ownBit v i ≡ ownBit t i
+    cabin : (i : ℕ) → marked d i ≡ false → cabinOf v i ≡ cabinOf t i
+    quotas : v .quotas ≡ t .quotas
 
   target-in : (v : Table) → v .targets ≡ parted .targets → (i e : ℕ) → targetOf v i e ≡ targetOf parted i e
   unfolding targetOf
@@ -360,6 +378,8 @@ module _ (t : Table) (g : Formed t) (d : List Bool) (doubted : (i : ℕ) → mar
             kind = λ i h. blanked-kind-other v f m u nonzero alone no-target no-bit i (apart i h) ∙ r .kind i h;
             content = λ i h. blanked-content-other v f m u nonzero alone no-target no-bit i (apart i h) ∙ r .content i h;
             own = λ i h. blanked-own-other v f m u nonzero alone no-target no-bit i (apart i h) ∙ r .own i h;
+            cabin = λ i h. blanked-cabin-other v f m u nonzero alone no-target no-bit i (apart i h) ∙ r .cabin i h;
+            quotas = (unfold blanked withLinks withSteps in r .quotas);
           }
 
       stay : marked d m ≡ false → Blanking (suc m) v
@@ -376,6 +396,8 @@ module _ (t : Table) (g : Formed t) (d : List Bool) (doubted : (i : ℕ) → mar
             kind = r .kind;
             content = r .content;
             own = r .own;
+            cabin = r .cabin;
+            quotas = r .quotas;
           }
 
   same-kind : (i : ℕ) → kindOf parted i ≡ kindOf t i
@@ -389,6 +411,10 @@ module _ (t : Table) (g : Formed t) (d : List Bool) (doubted : (i : ℕ) → mar
   same-own : (i : ℕ) → ownBit parted i ≡ ownBit t i
   unfolding ownBit
   same-own i = rw (left .same .own)
+
+  same-cabin : (i : ℕ) → cabinOf parted i ≡ cabinOf t i
+  unfolding cabinOf
+  same-cabin i = rw (left .same .cabins)
 
   blanks : Blanking (parted .capacity) (release t d)
   unfolding release eachDoubtful
@@ -406,6 +432,8 @@ module _ (t : Table) (g : Formed t) (d : List Bool) (doubted : (i : ℕ) → mar
         kind = λ i h. same-kind i;
         content = λ i h. same-content i;
         own = λ i h. same-own i;
+        cabin = λ i h. same-cabin i;
+        quotas = left .same .quotas;
       })
 
   pub released : Released t d (release t d)
@@ -425,6 +453,8 @@ module _ (t : Table) (g : Formed t) (d : List Bool) (doubted : (i : ℕ) → mar
         kind = blanks .kind;
         content = blanks .content;
         own = blanks .own;
+        cabin = blanks .cabin;
+        quotas = blanks .quotas;
         target = λ i e l h. target-in (release t d) (blanks .targets) i e ∙ left .target-kept i e l h;
         bit = λ i e l h. bit-in (release t d) (blanks .bits) i e ∙ left .bit-kept i e l h;
       }

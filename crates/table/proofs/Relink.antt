@@ -13,7 +13,7 @@ use borrow.Author.Tests.{eqb-true, eqb-false, eq-eqb, ne-eqb}
 use Rattle.finite.specs.Below.{count, one}
 use Rattle.finite.proofs.Bools.{and-intro, and-left, and-right, clash, refute, test, same-test, not-true-false}
 use Rattle.finite.proofs.Below.{eq-or-ne, count-change, count-pos}
-use Rattle.table.specs.Table.{Table, places, exits, counters, exitPlace, counterPlace, inUse, kindOf, contentOf, ownBit, targetOf, linkBit, counterOf, holds, strong, countsAt, linksTo, withLinks}
+use Rattle.table.specs.Table.{Table, places, exits, counters, exitPlace, counterPlace, inUse, kindOf, contentOf, ownBit, cabinOf, targetOf, linkBit, counterOf, holds, strong, countsAt, linksTo, withLinks}
 use Rattle.table.specs.Sound.{Shape}
 use Rattle.table.specs.Calls.{lowered, raised, relink}
 
@@ -141,6 +141,10 @@ module _ (t : Table) (i e j b k : ℕ) where
   unfolding relink withLinks contentOf
   relink-content = refl
 
+  pub relink-cabin : cabinOf (relink t i e j b) k ≡ cabinOf t k
+  unfolding relink withLinks cabinOf
+  relink-cabin = refl
+
 module _ (t : Table) (s : Shape t) (i e j b : ℕ) (li : i < places) (le : e < exits) where
   pub relink-shape : Shape (relink t i e j b)
   unfolding relink withLinks
@@ -153,6 +157,8 @@ module _ (t : Table) (s : Shape t) (i e j b : ℕ) (li : i < places) (le : e < e
         targets = length-set (t .targets) _ _ ∙ s .targets;
         bits = length-set (t .bits) _ _ ∙ s .bits;
         counts = length-raised j b _ ∙ length-lowered _ _ (t .counts) ∙ s .counts;
+        cabins = s .cabins;
+        quotas = s .quotas;
       }
 
   pub relink-target : targetOf (relink t i e j b) i e ≡ j

@@ -9,7 +9,8 @@ use mathlib.Core.Bool.{Bool, true, false, _&&_, cond}
 use mathlib.Core.Logic.{⊎-elim}
 use Prim.Native.Nat.{ℕ, _+_, _*_, _≤_, _<_}
 use native.Mathlib.Omega.{arith}
-use lib.ListN.{getD, List·getD-eq-default}
+use mathlib.Core.List.{List}
+use lib.ListN.{length, getD, List·getD-eq-default}
 use lib.Dec.{eqb, ltb}
 use borrow.Author.Tests.{eqb-true, eq-eqb, lt-ltb, le-ltb}
 use Rattle.finite.proofs.Bools.{and-intro, and-left, and-right}
@@ -17,7 +18,7 @@ use Rattle.finite.proofs.Below.{le-or-lt, count-le, length-tabulate, getD-tabul
 use Rattle.finite.proofs.Packed.{tabulate-blocks}
 use Rattle.finite.proofs.Loops.{count-zero, count-hit, count-miss}
 use Rattle.finite.proofs.Select.{select, count-rises, count-injective, lowest-only}
-use Rattle.table.specs.Table.{Table, places, exits, counters, exitPlace, counterPlace, inUse, kindOf, contentOf, ownBit, targetOf, linkBit, counterOf, stepsInUse}
+use Rattle.table.specs.Table.{Table, places, exits, counters, quotaNumbers, exitPlace, counterPlace, inUse, kindOf, contentOf, ownBit, cabinOf, targetOf, linkBit, counterOf, stepsInUse}
 use Rattle.table.specs.Sound.{Shape}
 use Rattle.table.specs.Squeeze.{newNumber, oldNumber, moved, squeezed, Renumbered}
 use Rattle.table.proofs.Links.{Wired, used-below}
@@ -88,10 +89,10 @@ module _ {t : Table} (w : Wired t) where
   new-place i u = let l = new-below i u in omega (arith, used-most t, w .most)
 
 -- the fields of the squeezed table
-module _ (t : Table) (c : ℕ) where
-  pub squeezed-shape : Shape (squeezed t c)
+module _ (t : Table) (c : ℕ) (q : List ℕ) where
+  pub squeezed-shape : length q ≡ quotaNumbers → Shape (squeezed t c q)
   unfolding squeezed
-  squeezed-shape =
+  squeezed-shape size =
       record {
         used = length-tabulate places _;
         kinds = length-tabulate places _;
@@ -100,59 +101,69 @@ module _ (t : Table) (c : ℕ) where
         targets = length-tabulate (places * exits) _;
         bits = length-tabulate (places * exits) _;
         counts = length-tabulate (places * counters) _;
+        cabins = length-tabulate places _;
+        quotas = size;
       }
 
-  pub squeezed-kind : (k : ℕ) → k < places → kindOf (squeezed t c) k ≡ moved t k (kindOf t)
+  pub squeezed-kind : (k : ℕ) → k < places → kindOf (squeezed t c q) k ≡ moved t k (kindOf t)
   unfolding kindOf squeezed
   squeezed-kind k l = getD-tabulate places _ 0 k l
 
-  pub squeezed-content : (k : ℕ) → k < places → contentOf (squeezed t c) k ≡ moved t k (contentOf t)
+  pub squeezed-content : (k : ℕ) → k < places → contentOf (squeezed t c q) k ≡ moved t k (contentOf t)
   unfolding contentOf squeezed
   squeezed-content k l = getD-tabulate places _ 0 k l
 
-  pub squeezed-own : (k : ℕ) → k < places → ownBit (squeezed t c) k ≡ moved t k (ownBit t)
+  pub squeezed-own : (k : ℕ) → k < places → ownBit (squeezed t c q) k ≡ moved t k (ownBit t)
   unfolding ownBit squeezed
   squeezed-own k l = getD-tabulate places _ 0 k l
 
-  pub squeezed-target : (k e : ℕ) → k < places → e < exits → targetOf (squeezed t c) k e ≡ moved t k (λ i. newNumber t (targetOf t i e))
+  pub squeezed-cabin : (k : ℕ) → k < places → cabinOf (squeezed t c q) k ≡ moved t k (cabinOf t)
+  unfolding cabinOf squeezed
+  squeezed-cabin k l = getD-tabulate places _ 0 k l
+
+  pub squeezed-target : (k e : ℕ) → k < places → e < exits → targetOf (squeezed t c q) k e ≡ moved t k (λ i. newNumber t (targetOf t i e))
   unfolding targetOf exitPlace squeezed
   squeezed-target k e l h = tabulate-blocks places exits (λ k e. moved t k (λ i. newNumber t (targetOf t i e))) k e l h
 
-  pub squeezed-bit : (k e : ℕ) → k < places → e < exits → linkBit (squeezed t c) k e ≡ moved t k (λ i. linkBit t i e)
+  pub squeezed-bit : (k e : ℕ) → k < places → e < exits → linkBit (squeezed t c q) k e ≡ moved t k (λ i. linkBit t i e)
   unfolding linkBit exitPlace squeezed
   squeezed-bit k e l h = tabulate-blocks places exits (λ k e. moved t k (λ i. linkBit t i e)) k e l h
 
-  pub squeezed-counter : (k b : ℕ) → k < places → b < counters → counterOf (squeezed t c) k b ≡ moved t k (λ i. counterOf t i b)
+  pub squeezed-counter : (k b : ℕ) → k < places → b < counters → counterOf (squeezed t c q) k b ≡ moved t k (λ i. counterOf t i b)
   unfolding counterOf counterPlace squeezed
   squeezed-counter k b l h = tabulate-blocks places counters (λ k b. moved t k (λ i. counterOf t i b)) k b l h
 
-  pub squeezed-entry : (k : ℕ) → k < places → getD (squeezed t c .used) k 0 ≡ moved t k (λ i. 1)
+  pub squeezed-entry : (k : ℕ) → k < places → getD (squeezed t c q .used) k 0 ≡ moved t k (λ i. 1)
   unfolding squeezed
   squeezed-entry k l = getD-tabulate places _ 0 k l
 
-  pub squeezed-used : stepsInUse t ≤ places → (k : ℕ) → inUse (squeezed t c) k ≡ ltb k (stepsInUse t)
+  pub squeezed-used : stepsInUse t ≤ places → (k : ℕ) → inUse (squeezed t c q) k ≡ ltb k (stepsInUse t)
   unfolding inUse moved
   squeezed-used most k =
       ⊎-elim
       (λ (g : places ≤ k).
-      let z : getD (squeezed t c .used) k 0 ≡ 0 = List·getD-eq-default (squeezed t c .used) 0 {n = k} (rw (squeezed-shape .used) g) in
+      let z : getD (squeezed t c q .used) k 0 ≡ 0 = List·getD-eq-default (squeezed t c q .used) 0 {n = k} (rw squeezed-length g) in
       rw (z, le-ltb k (stepsInUse t) (omega arith)))
       (λ (l : k < places). ap (λ (n : ℕ). eqb n 1) (squeezed-entry k l) ∙ one-or-none (ltb k (stepsInUse t)))
       (le-or-lt places k)
     where
+      squeezed-length : length (squeezed t c q .used) ≡ places
+      squeezed-length = unfold squeezed in length-tabulate places _
+
       one-or-none : (b : Bool) → eqb (cond b 1 0) 1 ≡ b
       one-or-none true = refl
       one-or-none false = refl
 
-pub squeezed-renumbered : {t : Table} → Wired t → (c : ℕ) → Renumbered t (squeezed t c)
-squeezed-renumbered {t} w c =
+pub squeezed-renumbered : {t : Table} → Wired t → (c : ℕ) (q : List ℕ) → Renumbered t (squeezed t c q)
+squeezed-renumbered {t} w c q =
     let place = new-place w in
     record {
-      used = squeezed-used t c (let m = used-most t in omega (arith, w .most));
-      kind = λ i u. squeezed-kind t c _ (place i u) ∙ moved-new w i _ u;
-      content = λ i u. squeezed-content t c _ (place i u) ∙ moved-new w i _ u;
-      target = λ i e u l. squeezed-target t c _ e (place i u) l ∙ moved-new w i _ u;
-      own = λ i u. squeezed-own t c _ (place i u) ∙ moved-new w i _ u;
-      bit = λ i e u l. squeezed-bit t c _ e (place i u) l ∙ moved-new w i _ u;
-      counter = λ i b u l. squeezed-counter t c _ b (place i u) l ∙ moved-new w i _ u;
+      used = squeezed-used t c q (let m = used-most t in omega (arith, w .most));
+      kind = λ i u. squeezed-kind t c q _ (place i u) ∙ moved-new w i _ u;
+      content = λ i u. squeezed-content t c q _ (place i u) ∙ moved-new w i _ u;
+      target = λ i e u l. squeezed-target t c q _ e (place i u) l ∙ moved-new w i _ u;
+      own = λ i u. squeezed-own t c q _ (place i u) ∙ moved-new w i _ u;
+      bit = λ i e u l. squeezed-bit t c q _ e (place i u) l ∙ moved-new w i _ u;
+      counter = λ i b u l. squeezed-counter t c q _ b (place i u) l ∙ moved-new w i _ u;
+      cabin = λ i u. squeezed-cabin t c q _ (place i u) ∙ moved-new w i _ u;
     }

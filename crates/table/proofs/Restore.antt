@@ -65,6 +65,8 @@ module _ (t : Table) (g : Formed t) (k e : ℕ) (u : inUse t k ≡ true) (le : e
         kinds = refl;
         contents = refl;
         targets = set-getD (t .targets) (exitPlace k e) 0;
+        cabins = refl;
+        quotas = refl;
       }
 
   -- what one weakening does, whichever way it goes
@@ -117,7 +119,7 @@ module _ (t : Table) (g : Formed t) (k : ℕ) (u : inUse t k ≡ true) where
         formed = formed-flipped t g k u;
         alike =
             (unfold flipped withSteps in
-            record { capacity = refl; last = refl; used = refl; kinds = refl; contents = refl; targets = refl });
+            record { capacity = refl; last = refl; used = refl; kinds = refl; contents = refl; targets = refl; cabins = refl; quotas = refl });
         own = (unfold flipped withSteps in refl);
         weak = λ e l. absurd (omega arith);
         other = λ i f l d. unfold flipped withSteps linkBit in refl;

@@ -11,7 +11,9 @@ use Rattle.finite.proofs.Bools.{passes-at, and-intro, and-left, and-right, clas
 use Rattle.finite.proofs.Below.{all-at, all-intro}
 use Rattle.finite.proofs.Reach.{chain-head, reach-sound, reach-complete, chain-first}
 use Rattle.table.specs.Table.{Table, places, exits, counters, inUse, holds, stronglyLinked}
+use Rattle.table.specs.Cabins.{charge, freeSteps}
 use Rattle.table.specs.Sound.{Shape, Blank, Sound, capacityFits, eachUsed, shapeTests, blankTests, ringless, soundTests, sound}
+use Rattle.table.proofs.Cabins.{quotas-pairs, quotas-together, quotas-test, charges-limit, charges-reserve, charges-test}
 use Rattle.table.proofs.Links.{Wired, sound-wired, used-below, used-place, linked-below, strongly-linked}
 
 pub each-used-at : (t : Table) (p : ℕ → Bool) → eachUsed t p ≡ true → (i : ℕ) → i < places → inUse t i ≡ true → p i ≡ true
@@ -34,6 +36,8 @@ tests-shape t h =
       targets = eqb-true _ _ (at 4);
       bits = eqb-true _ _ (at 5);
       counts = eqb-true _ _ (at 6);
+      cabins = eqb-true _ _ (at 7);
+      quotas = eqb-true _ _ (at 8);
     }
 
 shape-tests : (t : Table) → Shape t → passes (shapeTests t) ≡ true
@@ -44,7 +48,8 @@ shape-tests t s =
     (and-intro (eq-eqb _ _ (s .contents))
     (and-intro (eq-eqb _ _ (s .own))
     (and-intro (eq-eqb _ _ (s .targets))
-    (and-intro (eq-eqb _ _ (s .bits)) (and-intro (eq-eqb _ _ (s .counts)) refl))))))
+    (and-intro (eq-eqb _ _ (s .bits))
+    (and-intro (eq-eqb _ _ (s .counts)) (and-intro (eq-eqb _ _ (s .cabins)) (and-intro (eq-eqb _ _ (s .quotas)) refl))))))))
 
 tests-blank : (t : Table) (i : ℕ) → passes (blankTests t i) ≡ true → Blank t i
 unfolding blankTests
@@ -58,6 +63,7 @@ tests-blank t i h =
       targets = λ e l. eqb-true _ _ (all-at exits _ (at 4) e l);
       bits = λ e l. eqb-true _ _ (all-at exits _ (at 5) e l);
       counts = λ b l. eqb-true _ _ (all-at counters _ (at 6) b l);
+      cabin = eqb-true _ _ (at 7);
     }
 
 blank-tests : (t : Table) (i : ℕ) → Blank t i → passes (blankTests t i) ≡ true
@@ -69,7 +75,7 @@ blank-tests t i s =
     (and-intro (eq-eqb _ _ (s .own))
     (and-intro (all-intro exits _ (λ e l. eq-eqb _ _ (s .targets e l)))
     (and-intro (all-intro exits _ (λ e l. eq-eqb _ _ (s .bits e l)))
-    (and-intro (all-intro counters _ (λ b l. eq-eqb _ _ (s .counts b l))) refl))))))
+    (and-intro (all-intro counters _ (λ b l. eq-eqb _ _ (s .counts b l))) (and-intro (eq-eqb _ _ (s .cabin)) refl)))))))
 
 -- a capacity in range
 pub capacity-range : (c : ℕ) → capacityFits c ≡ true → (1 ≤ c) × (c ≤ places)
@@ -120,6 +126,12 @@ module _ (t : Table) where
             λ i u.
             let r = reach-sound (stronglyLinked t) (t .capacity) 0 i (each-used-at t _ (at 13) i (used-place (w .shape) i u) u) in
             (r .0, record { begins = at 4; row = r .1 });
+        pairs = quotas-pairs (t .capacity) (t .quotas) (at 14);
+        together = quotas-together (t .capacity) (t .quotas) (at 14);
+        cabins = λ i u. ltb-true _ _ (each-used-at t _ (at 15) i (used-place (w .shape) i u) u);
+        alarmCabin = eqb-true _ _ (at 16);
+        charges = charges-limit (t .quotas) (charge t) (freeSteps t) (at 17);
+        reserve = charges-reserve (t .quotas) (charge t) (freeSteps t) (at 17);
       }
 
   pub sound-test : Sound t → sound t ≡ true
@@ -153,4 +165,7 @@ module _ (t : Table) where
       s .acyclic i (c .0) (record { begins = u; row = chain-first h (c .1) })))))))
       (and-intro
       (each-used-intro t _ (λ i u. let c = s .reached i u in reach-complete (stronglyLinked t) (t .capacity) edge (s .least) (c .1 .row)))
-      refl)))))))))))))
+      (and-intro (quotas-test (t .capacity) (t .quotas) (s .pairs) (s .together))
+      (and-intro (each-used-intro t _ (λ i u. lt-ltb _ _ (s .cabins i u)))
+      (and-intro (eq-eqb _ _ (s .alarmCabin))
+      (and-intro (charges-test (t .quotas) (charge t) (freeSteps t) (s .charges) (s .reserve)) refl)))))))))))))))))

@@ -1,5 +1,5 @@
 -- The strong links of a table as local facts: a rank that they raise, a parent for each step, nothing led out of the set. With a table in
--- order (`Formed`) they are soundness; the chains of the definitions are derived from them here and nowhere else. Assumes nothing.
+-- order (`Formed`) and charges within the quotas (`Shares`) they are soundness; the chains of the definitions are derived from them here and nowhere else. Assumes nothing.
 --   Spine t K          the strong links hold the set of steps K together
 --   spine-fewer        fewer strong links, a parent left for each step: still a spine
 --   spine-more         one step more, led to from the set and leading nowhere: a spine of the larger set
@@ -21,6 +21,7 @@ use Rattle.table.specs.Table.{Table, places, inUse, stronglyLinked, step
 use Rattle.table.specs.Sound.{Sound}
 use Rattle.table.proofs.Links.{Wired, sound-wired, used-below, linked-used, linked-below, linked-not-alarm, strongly-linked}
 use Rattle.table.proofs.Formed.{Formed, formed-wired, formed-place}
+use Rattle.table.proofs.Cabins.{Shares}
 
 pub record Spine (t : Table) (K : ℕ → Bool) : Type 0 where
   pub rank : ℕ → ℕ
@@ -54,8 +55,8 @@ strong-used {t} w i j h = linked-used w i j (strongly-linked t i j h)
 pub strong-below : {t : Table} → Wired t → (i j : ℕ) → stronglyLinked t i j ≡ true → j < t .capacity
 strong-below {t} w i j h = linked-below w i j (strongly-linked t i j h)
 
-pub spine-sound : {t : Table} → Formed t → Spine t (inUse t) → Sound t
-spine-sound {t} g s =
+pub spine-sound : {t : Table} → Formed t → Shares t → Spine t (inUse t) → Sound t
+spine-sound {t} g shares s =
     record {
       shape = g .shape;
       least = g .least;
@@ -76,6 +77,12 @@ spine-sound {t} g s =
           let r = chain-raises (s .rank) (λ a b h. s .rising a b (strong-used w a b h .0) h) (c .row) in
           omega arith;
       reached = λ i u. let c = spine-chain s i u in (c .0, record { begins = g .alarm; row = c .1 });
+      pairs = shares .pairs;
+      together = shares .together;
+      cabins = g .cabins;
+      alarmCabin = g .alarmCabin;
+      charges = shares .charges;
+      reserve = shares .reserve;
     }
 
 -- how many steps lead to i by strong chains, i itself among them: each strong link raises it

@@ -1,70 +1,76 @@
--- Squeeze on a sound table, for any capacity (document 02, W2). Assumes nothing.
+-- Squeeze on a sound table, for any capacity and quotas (document 02, W2 and W5). Assumes nothing.
+--   Roomy SqueezeFits   the conditions of an accepted squeeze, as facts: those before the charges are looked at, and all
+--   charge-same       each cabin is charged what it was
 --   squeeze-refusal   it is refused as the plan says
---   SqueezeFits       the conditions of an accepted squeeze, as facts
 --   squeeze-made squeeze-answer   a squeeze that is not refused, and two that are refused alike
 --   squeeze-sound     the squeezed table is sound
 --   squeeze-plan      its plain plan is the plan's squeeze
-use mathlib.Core.Path.{_≡_, refl, sym, _∙_, ap, ap₂, subst}
-use mathlib.Core.Bool.{true, false}
+use mathlib.Core.Path.{_≡_, refl, sym, _∙_, ap, ap₂, subst, fun-ext}
+use mathlib.Core.Bool.{true, false, _||_, not}
 use mathlib.Core.Logic.{⊎-elim}
 use mathlib.Core.List.{List, [], _∷_, _++_, map, append-nil}
 use mathlib.Core.Option.{Option, none, some}
 use Prim.Native.Nat.{ℕ, zero, suc, _+_, _-_, _≤_, _<_}
 use native.Mathlib.Omega.{arith}
 use lib.ListN.{length, replicate, length-map}
-use lib.Dec.{ltb}
-use borrow.Author.Tests.{ne-eqb, ltb-false, le-ltb}
-use Rattle.finite.proofs.Bools.{test, not-false-true}
+use lib.Dec.{eqb, ltb}
+use borrow.Author.Tests.{eqb-true, ne-eqb, ltb-false, le-ltb}
+use Rattle.finite.proofs.Bools.{and-left, and-right, or-false-left, or-false-right, test, same-test, not-false-true}
 use Rattle.finite.proofs.Below.{eq-or-ne, length-tabulate, tabulate-ext}
 use Rattle.finite.proofs.Packed.{tabulate-next, tabulate-past, take-tabulate, map-tabulate, map-append}
 use Rattle.finite.specs.Below.{tabulate, tabulateFrom}
 use Rattle.finite.specs.Reach.{Chain}
 use Rattle.table.specs.declared.Answer.the-variants.{Given}
-use Rattle.table.specs.Table.{Table, places, exits, inUse, kindOf, contentOf, ownBit, targetOf, linkBit, counterOf, holds, stronglyLinked, linksTo, stepsInUse, StrongChain}
-use Rattle.table.specs.Sound.{Blank, Sound, contentFits, kindFits}
+use Rattle.table.specs.Table.{Table, places, exits, cabinCount, quotaNumbers, inUse, kindOf, contentOf, ownBit, cabinOf, targetOf, linkBit, counterOf, holds, stronglyLinked, linksTo, stepsInUse, StrongChain}
+use Rattle.table.specs.Cabins.{quotasFit, listFits, chargesFit, charged, charge, freeSteps}
+use Rattle.table.specs.Sound.{Blank, Sound, capacityFits, contentFits, kindFits, sound}
 use Rattle.table.specs.Squeeze.{newNumber, squeezed, squeezeRefusal, squeezeCall, Renumbered}
 use Rattle.table.specs.Plan.{PlanStep, planStep, planOf, packed, planRank, followed, planSqueeze, planSqueezeRefusal}
-use Rattle.table.proofs.Sound.{capacity-range}
+use Rattle.table.proofs.Cabins.{quotas-pairs, quotas-together, charges-limit, charges-reserve, charges-test, charged-used, used-charged}
+use Rattle.table.proofs.Sound.{capacity-range, test-sound, sound-test}
 use Rattle.table.proofs.Links.{Wired, sound-wired, empty-target, used-below}
-use Rattle.table.proofs.Renumber.{new-zero, new-used, new-free, new-all, new-once, new-below, moved-none, squeezed-shape, squeezed-entry, squeezed-kind, squeezed-content, squeezed-own, squeezed-target, squeezed-bit, squeezed-counter, squeezed-renumbered}
-use Rattle.table.proofs.Follow.{Follows, renumbered-follows, new-nonzero, used-new-step, new-used-step, follow-holds, follow-chain, follow-chain-back, follow-links}
-use Rattle.table.proofs.Plan.{step-path, plan-path, plan-count}
+use Rattle.table.proofs.Renumber.{new-zero, new-used, new-free, new-all, new-once, new-below, moved-none, squeezed-shape, squeezed-entry, squeezed-kind, squeezed-content, squeezed-own, squeezed-cabin, squeezed-target, squeezed-bit, squeezed-counter, squeezed-renumbered}
+use Rattle.table.proofs.Follow.{Follows, renumbered-follows, new-nonzero, used-new-step, new-used-step, follow-holds, follow-chain, follow-chain-back, follow-links, follow-used, follow-count}
+use Rattle.table.proofs.Plan.{step-path, plan-path, plan-count, plan-charge}
 use Rattle.table.proofs.Calls.{done, next, first-same, nonzero, first-zero, unless-zero, unless-answer, past-sound}
 
-pub squeeze-refusal : {t : Table} → Sound t → (c : ℕ) → squeezeRefusal t c ≡ planSqueezeRefusal (planOf t) c
-unfolding squeezeRefusal planSqueezeRefusal
-squeeze-refusal s c = past-sound s _ ∙ first-same (next refl (λ _. next (ap (ltb c) (sym (plan-count (sound-wired s)))) (λ _. done)))
-
-pub record SqueezeFits (t : Table) (c : ℕ) : Type 0 where
+-- what a squeeze asks of its arguments and of the steps in use, and then of the charges
+pub record Roomy (t : Table) (c : ℕ) (q : List ℕ) : Type 0 where
   pub least : 1 ≤ c
   pub most : c ≤ places
+  pub list : listFits c q ≡ true
   pub room : stepsInUse t ≤ c
 
-pub squeeze-fits : (t : Table) (c : ℕ) → squeezeRefusal t c ≡ 0 → SqueezeFits t c
-unfolding squeezeRefusal nonzero
-squeeze-fits t c z =
-    let at = first-zero _ z refl in
-    let r = capacity-range c (not-false-true _ (at 1)) in
-    record { least = r .0; most = r .1; room = ltb-false c _ (at 2) }
+pub record SqueezeFits (t : Table) (c : ℕ) (q : List ℕ) : Type 0 where
+  pub roomy : Roomy t c q
+  pub charges : chargesFit q (charge t) (c - stepsInUse t) ≡ true
+
+pub list-size : (c : ℕ) (q : List ℕ) → listFits c q ≡ true → length q ≡ quotaNumbers
+unfolding listFits
+list-size c q h = eqb-true _ _ (and-left (eqb (length q) quotaNumbers) _ h)
+
+pub list-quotas : (c : ℕ) (q : List ℕ) → listFits c q ≡ true → quotasFit c q ≡ true
+unfolding listFits
+list-quotas c q h = and-right (eqb (length q) quotaNumbers) _ h
 
 -- a squeeze that is not refused, and two that are refused alike
-pub squeeze-made : (t : Table) (c : ℕ) → squeezeRefusal t c ≡ 0 → squeezeCall t c ≡ record { answer = Given 0 0; table = squeezed t c }
+pub squeeze-made : (t : Table) (c : ℕ) (q : List ℕ) → squeezeRefusal t c q ≡ 0 → squeezeCall t c q ≡ record { answer = Given 0 0; table = squeezed t c q }
 unfolding squeezeCall
-squeeze-made t c z = unless-zero _ t _ z
+squeeze-made t c q z = unless-zero _ t _ z
 
-pub squeeze-answer : (t u : Table) (c : ℕ) → squeezeRefusal t c ≡ squeezeRefusal u c → squeezeCall t c .answer ≡ squeezeCall u c .answer
+pub squeeze-answer : (t u : Table) (c : ℕ) (q : List ℕ) → squeezeRefusal t c q ≡ squeezeRefusal u c q → squeezeCall t c q .answer ≡ squeezeCall u c q .answer
 unfolding squeezeCall
-squeeze-answer t u c q = unless-answer t u _ _ q refl
+squeeze-answer t u c q e = unless-answer t u _ _ e refl
 
-module _ {t : Table} (s : Sound t) (c : ℕ) (fit : SqueezeFits t c) where
+module _ {t : Table} (s : Sound t) (c : ℕ) (q : List ℕ) (fit : Roomy t c q) where
   abbrev u : Table
-  u = squeezed t c
+  u = squeezed t c q
 
   w : Wired t
   w = sound-wired s
 
   r : Renumbered t u
-  r = squeezed-renumbered w c
+  r = squeezed-renumbered w c q
 
   -- a number that no step gets is free, with all fields zero
   blank : (k : ℕ) → k < places → inUse u k ≡ false → Blank u k
@@ -72,13 +78,14 @@ module _ {t : Table} (s : Sound t) (c : ℕ) (fit : SqueezeFits t c) where
       let most = ltb-false k (stepsInUse t) (sym (r .used k) ∙ h) in
       let none : (field : ℕ → ℕ) → _ = λ field. moved-none t k field most in
       record {
-        used = squeezed-entry t c k l ∙ none _;
-        kind = squeezed-kind t c k l ∙ none _;
-        content = squeezed-content t c k l ∙ none _;
-        own = squeezed-own t c k l ∙ none _;
-        targets = λ e x. squeezed-target t c k e l x ∙ none _;
-        bits = λ e x. squeezed-bit t c k e l x ∙ none _;
-        counts = λ b x. squeezed-counter t c k b l x ∙ none _;
+        used = squeezed-entry t c q k l ∙ none _;
+        kind = squeezed-kind t c q k l ∙ none _;
+        content = squeezed-content t c q k l ∙ none _;
+        own = squeezed-own t c q k l ∙ none _;
+        targets = λ e x. squeezed-target t c q k e l x ∙ none _;
+        bits = λ e x. squeezed-bit t c q k e l x ∙ none _;
+        counts = λ b x. squeezed-counter t c q k b l x ∙ none _;
+        cabin = squeezed-cabin t c q k l ∙ none _;
       }
 
   -- a statement of each step of u, by the step of t that became it
@@ -94,7 +101,7 @@ module _ {t : Table} (s : Sound t) (c : ℕ) (fit : SqueezeFits t c) where
   unfolding squeezed
   squeezed-wired =
       record {
-        shape = squeezed-shape t c;
+        shape = squeezed-shape t c q (list-size c q (fit .list));
         most = fit .most;
         above = λ k l p. r .used k ∙ le-ltb k (stepsInUse t) (let m = fit .room in omega arith);
         targets =
@@ -139,11 +146,40 @@ module _ {t : Table} (s : Sound t) (c : ℕ) (fit : SqueezeFits t c) where
         record { begins = rw (new-zero t) at (new-used-step w (s .alarm) f 0 (s .alarm)); row = rw (new-zero t) at row },
       ))
 
-  pub squeeze-sound : Sound u
+  -- each cabin is charged what it was
+  pub used-same : stepsInUse u ≡ stepsInUse t
+  used-same = follow-used w (s .alarm) f squeezed-wired
+
+  pub charge-same : charge u ≡ charge t
+  unfolding charge
+  charge-same =
+      fun-ext
+      (λ d.
+      follow-count w (s .alarm) f squeezed-wired (charged t d) (charged u d)
+      (λ i x. charged-there d i x)
+      (λ i y. charged-used t d i y .0)
+      (λ k y. charged-used u d k y .0))
+    where
+      charged-there : (d i : ℕ) → inUse t i ≡ true → charged u d (newNumber t i) ≡ charged t d i
+      charged-there d i x =
+          same-test _ _
+          (λ y.
+          let z = charged-used u d (newNumber t i) y in
+          used-charged t d i x (λ e. z .1 (ap (newNumber t) e ∙ new-zero t)) (sym (r .cabin i x) ∙ z .2))
+          (λ y.
+          let z = charged-used t d i y in
+          used-charged u d (newNumber t i) (new-used-step w (s .alarm) f i x) (new-nonzero t (s .alarm) i (z .1)) (r .cabin i x ∙ z .2))
+
+  free-same : freeSteps u ≡ c - stepsInUse t
+  unfolding freeSteps
+  free-same = ap (λ (n : ℕ). u .capacity - n) used-same ∙ (unfold squeezed in refl)
+
+  pub squeeze-sound : chargesFit q (charge t) (c - stepsInUse t) ≡ true → Sound u
   unfolding squeezed
-  squeeze-sound =
+  squeeze-sound charges =
+      let shared : chargesFit q (charge u) (freeSteps u) ≡ true = ap₂ (chargesFit q) charge-same free-same ∙ charges in
       record {
-        shape = squeezed-shape t c;
+        shape = squeezed-shape t c q (list-size c q (fit .list));
         least = fit .least;
         most = fit .most;
         last = last-below;
@@ -168,10 +204,63 @@ module _ {t : Table} (s : Sound t) (c : ℕ) (fit : SqueezeFits t c) where
             y;
         acyclic = acyclic;
         reached = reached;
+        pairs = quotas-pairs c q (list-quotas c q (fit .list));
+        together = quotas-together c q (list-quotas c q (fit .list));
+        cabins = each (λ k. cabinOf u k < cabinCount) (λ i x. rw (r .cabin i x) (s .cabins i x));
+        alarmCabin = rw (new-zero t) at (r .cabin 0 (s .alarm)) ∙ s .alarmCabin;
+        charges = charges-limit q (charge u) (freeSteps u) shared;
+        reserve = charges-reserve q (charge u) (freeSteps u) shared;
       }
     where
       last-below : stepsInUse t - 1 < c
       last-below = let a = new-below w 0 (s .alarm) in let b = fit .room in omega arith
+
+  -- a squeeze can spoil nothing but that the charges fit
+  pub squeeze-test : sound u ≡ chargesFit q (charge t) (c - stepsInUse t)
+  squeeze-test =
+      same-test _ _
+      (λ y.
+      let v = test-sound u y in
+      rw (← charge-same, ← free-same)
+      (charges-test q (charge u) (freeSteps u) (λ d l. unfold squeezed in v .charges d l) (unfold squeezed in v .reserve)))
+      (λ y. sound-test u (squeeze-sound y))
+
+module _ {t : Table} (s : Sound t) (c : ℕ) (q : List ℕ) where
+  -- the last condition, after the capacity and the list
+  pub does-not-fit : not (capacityFits c) ≡ false → not (listFits c q) ≡ false →
+      (ltb c (stepsInUse t) || not (sound (squeezed t c q))) ≡ (ltb c (stepsInUse t) || not (chargesFit q (charge t) (c - stepsInUse t)))
+  does-not-fit a b =
+      ⊎-elim
+      (λ (y : ltb c (stepsInUse t) ≡ true). rw y)
+      (λ (n : ltb c (stepsInUse t) ≡ false).
+      let range = capacity-range c (not-false-true _ a) in
+      let roomy : Roomy t c q = record { least = range .0; most = range .1; list = not-false-true _ b; room = ltb-false c _ n } in
+      rw n (ap not (squeeze-test s c q roomy)))
+      (test (ltb c (stepsInUse t)))
+
+  pub squeeze-refusal : squeezeRefusal t c q ≡ planSqueezeRefusal (planOf t) c q
+  unfolding squeezeRefusal planSqueezeRefusal
+  squeeze-refusal =
+      let w = sound-wired s in
+      past-sound s _
+      ∙ first-same
+      (next refl
+      (λ a. next refl
+      (λ b. next
+      (does-not-fit a b
+      ∙ ap₂ (λ (f : ℕ → ℕ) (n : ℕ). ltb c n || not (chargesFit q f (c - n))) (sym (plan-charge w)) (sym (plan-count w)))
+      (λ _. done))))
+
+  pub squeeze-fits : squeezeRefusal t c q ≡ 0 → SqueezeFits t c q
+  unfolding squeezeRefusal nonzero
+  squeeze-fits z =
+      let at = first-zero _ z refl in
+      let range = capacity-range c (not-false-true _ (at 1)) in
+      let last = sym (does-not-fit (at 1) (at 2)) ∙ at 3 in
+      record {
+        roomy = record { least = range .0; most = range .1; list = not-false-true _ (at 2); room = ltb-false c _ (or-false-left (ltb c (stepsInUse t)) _ last) };
+        charges = not-false-true _ (or-false-right (ltb c (stepsInUse t)) _ last);
+      }
 
 -- The steps of a plan without the gaps between them.
 packed-append : (xs ys : List (Option PlanStep)) → packed (xs ++ ys) ≡ packed xs ++ packed ys
@@ -183,7 +272,7 @@ packed-append (some s ∷ xs) ys = ap {B = List PlanStep} (λ l. s ∷ l) (packe
 module _ (t : Table) where
   -- what the plan keeps of a step in use
   stepKept : ℕ → PlanStep
-  stepKept i = record { kind = kindOf t i; content = contentOf t i; targets = tabulate exits (targetOf t i) }
+  stepKept i = record { kind = kindOf t i; content = contentOf t i; targets = tabulate exits (targetOf t i); cabin = cabinOf t i }
 
   plan-step-used : (i : ℕ) → inUse t i ≡ true → planStep t i ≡ some (stepKept i)
   unfolding planStep stepKept
@@ -223,19 +312,20 @@ module _ (t : Table) where
       ∙ ap length (packed-new {B = ℕ} (λ s. 0) (λ k. 0) (λ k x. refl) i)
       ∙ length-tabulate {A = ℕ} (newNumber t i) (λ k. 0)
 
-module _ {t : Table} (s : Sound t) (c : ℕ) (fit : SqueezeFits t c) where
-  followed-step : (i : ℕ) → inUse t i ≡ true → some (followed (planOf t) (stepKept t i)) ≡ planStep (squeezed t c) (newNumber t i)
+module _ {t : Table} (s : Sound t) (c : ℕ) (q : List ℕ) (fit : Roomy t c q) where
+  followed-step : (i : ℕ) → inUse t i ≡ true → some (followed (planOf t) (stepKept t i)) ≡ planStep (squeezed t c q) (newNumber t i)
   followed-step i x =
       let w = sound-wired s in
-      let r = squeezed-renumbered w c in
+      let r = squeezed-renumbered w c q in
       sym
-      (plan-step-used (squeezed t c) (newNumber t i) (new-used-step w (s .alarm) (renumbered-follows r) i x)
+      (plan-step-used (squeezed t c q) (newNumber t i) (new-used-step w (s .alarm) (renumbered-follows r) i x)
       ∙ ap some
       (unfold followed stepKept in
       step-path (r .kind i x) (r .content i x)
       (tabulate-ext exits _ _
       (λ e l. r .target i e x l ∙ sym (plan-rank t (targetOf t i e) (target-low w e l)))
-      ∙ sym (map-tabulate (planRank (planOf t)) exits (targetOf t i)))))
+      ∙ sym (map-tabulate (planRank (planOf t)) exits (targetOf t i)))
+      (r .cabin i x)))
     where
       target-low : Wired t → (e : ℕ) → e < exits → targetOf t i e ≤ t .capacity
       target-low w e l =
@@ -243,14 +333,15 @@ module _ {t : Table} (s : Sound t) (c : ℕ) (fit : SqueezeFits t c) where
           (λ (h : holds t i e ≡ false). rw (empty-target t i e h) (omega arith))
           (test (holds t i e))
 
-  pub squeeze-plan : planOf (squeezed t c) ≡ planSqueeze (planOf t) c
+  pub squeeze-plan : planOf (squeezed t c q) ≡ planSqueeze (planOf t) c q
   unfolding planSqueeze planOf squeezed
   squeeze-plan =
       let n = plan-count (sound-wired s) in
       plan-path refl (ap (λ (k : ℕ). k - 1) (sym n))
-      (tabulate-past (stepsInUse t) c (planStep (squeezed t c)) none (fit .room)
-      (λ k l. plan-step-free (squeezed t c) k (squeezed-renumbered (sound-wired s) c .used k ∙ le-ltb k (stepsInUse t) l))
+      (tabulate-past (stepsInUse t) c (planStep (squeezed t c q)) none (fit .room)
+      (λ k l. plan-step-free (squeezed t c q) k (squeezed-renumbered (sound-wired s) c q .used k ∙ le-ltb k (stepsInUse t) l))
       ∙ ap₂ _++_
-      (ap (λ (k : ℕ). tabulate k (planStep (squeezed t c))) (sym (new-all t))
-      ∙ sym (packed-new t (λ s. some (followed (planOf t) s)) (planStep (squeezed t c)) followed-step (t .capacity)))
+      (ap (λ (k : ℕ). tabulate k (planStep (squeezed t c q))) (sym (new-all t))
+      ∙ sym (packed-new t (λ s. some (followed (planOf t) s)) (planStep (squeezed t c q)) followed-step (t .capacity)))
       (ap (λ (k : ℕ). replicate (c - k) none) (sym n)))
+      refl

@@ -4,6 +4,7 @@
 use mathlib.Core.Path.{_≡_, refl, sym, _∙_, ap, ap₂}
 use mathlib.Core.Bool.{Bool, true, _&&_, not}
 use mathlib.Core.Logic.{⊎-elim}
+use mathlib.Core.List.{List}
 use Prim.Native.Nat.{ℕ, _<_}
 use native.Mathlib.Omega.{arith}
 use lib.Dec.{ltb}
@@ -36,9 +37,9 @@ module _ (t : Table) (i e : ℕ) where
   unfolding ownBit emptied relink withLinks
   emptied-own k = refl
 
-module _ {t : Table} (s : Sound t) (c : ℕ) (fit : SqueezeFits t c) (i e : ℕ) (used : inUse t i ≡ true) where
+module _ {t : Table} (s : Sound t) (c : ℕ) (q : List ℕ) (fit : SqueezeFits t c q) (i e : ℕ) (used : inUse t i ≡ true) where
   abbrev u : Table
-  u = squeezed t c
+  u = squeezed t c q
 
   abbrev k : ℕ
   k = newNumber t i
@@ -47,10 +48,10 @@ module _ {t : Table} (s : Sound t) (c : ℕ) (fit : SqueezeFits t c) (i e : ℕ)
   w = sound-wired s
 
   v : Sound u
-  v = squeeze-sound s c fit
+  v = squeeze-sound s c q (fit .roomy) (fit .charges)
 
   f : Follows t u
-  f = renumbered-follows (squeezed-renumbered w c)
+  f = renumbered-follows (squeezed-renumbered w c q)
 
   used′ : inUse u k ≡ true
   used′ = new-used-step w (s .alarm) f i used

@@ -1,8 +1,8 @@
 -- What a squeezed table does as the old one did (document 02, W2). Assumes nothing.
 --   squeeze-twice     squeezing twice is squeezing once
 --   squeeze-trial     trials end alike under the new numbers, trace included
-use mathlib.Core.Path.{_≡_, refl, sym, _∙_, ap}
-use mathlib.Core.Bool.{true, false}
+use mathlib.Core.Path.{_≡_, refl, sym, _∙_, ap, ap₂}
+use mathlib.Core.Bool.{true, false, _||_, not}
 use mathlib.Core.Logic.{⊎-elim}
 use mathlib.Core.List.{List, [], _∷_, _++_, map, map-append}
 use Prim.Native.Nat.{ℕ, suc, _+_, _*_, _-_, _/_, _%_, _≤_, _<_}
@@ -15,27 +15,27 @@ use borrow.Author.Tests.{eqb-false, lt-ltb}
 use Rattle.finite.proofs.Bools.{test}
 use Rattle.finite.proofs.Below.{eq-or-ne, le-or-lt, tabulate-ext}
 use Rattle.finite.proofs.Packed.{count-every}
-use Rattle.table.specs.Table.{Table, places, exits, counters, inUse, kindOf, contentOf, ownBit, targetOf, linkBit, counterOf, holds, stepsInUse}
-use Rattle.table.specs.Sound.{Sound}
+use Rattle.table.specs.Table.{Table, places, exits, counters, inUse, kindOf, contentOf, ownBit, cabinOf, targetOf, linkBit, counterOf, holds, stepsInUse}
+use Rattle.table.specs.Sound.{Sound, sound}
 use Rattle.table.specs.Answer.{movesOf}
 use Rattle.table.specs.Trial.{TrialOutcome, isContact, exitOf, resultsAfter, noResult, tryFrom, trialRefusal, trialCall, triedUnder, underNumbers}
 use Rattle.table.specs.Squeeze.{newNumber, oldNumber, moved, squeezed, squeezeRefusal, Renumbered}
 use Rattle.table.proofs.Links.{Wired, sound-wired, empty-target}
 use Rattle.table.proofs.Renumber.{new-zero, new-step, new-below, moved-step, moved-none, moved-new, old-new, squeezed-renumbered}
-use Rattle.table.proofs.Follow.{Follows, renumbered-follows, follow-holds, follow-used}
+use Rattle.table.proofs.Follow.{Follows, renumbered-follows, follow-holds}
 use Rattle.table.proofs.Calls.{done, next, first-same, past-sound, trial-refusal, trial-refused, trial-made}
 use Rattle.table.proofs.Trials.{results-at, try-spent, try-open, try-stopped, try-move, try-rule, trial-fit}
-use Rattle.table.proofs.Squeeze.{SqueezeFits, squeezed-wired, squeeze-sound}
+use Rattle.table.proofs.Squeeze.{SqueezeFits, squeezed-wired, used-same, squeeze-sound}
 
 -- a field of each step of u is that of the steps of t that were moved there
 abbrev MovedSame : Table → Table → Type 0
 MovedSame t u =
     (k : ℕ) (field field′ : ℕ → ℕ) → ((i : ℕ) → inUse t i ≡ true → field (newNumber t i) ≡ field′ i) → moved u k field ≡ moved t k field′
 
-squeezed-same : (t u : Table) (d : ℕ) → Renumbered t u → stepsInUse u ≡ stepsInUse t → MovedSame t u →
-    ((i e : ℕ) → inUse t i ≡ true → e < exits → newNumber u (targetOf u (newNumber t i) e) ≡ newNumber t (targetOf t i e)) → squeezed u d ≡ squeezed t d
+squeezed-same : (t u : Table) (d : ℕ) (p : List ℕ) → Renumbered t u → stepsInUse u ≡ stepsInUse t → MovedSame t u →
+    ((i e : ℕ) → inUse t i ≡ true → e < exits → newNumber u (targetOf u (newNumber t i) e) ≡ newNumber t (targetOf t i e)) → squeezed u d p ≡ squeezed t d p
 unfolding squeezed
-squeezed-same t u d r n same target =
+squeezed-same t u d l r n same target =
     let used = tabulate-ext places _ _ (λ k _. same k (λ i. 1) (λ i. 1) (λ i x. refl)) in
     let kinds = tabulate-ext places _ _ (λ k _. same k (kindOf u) (kindOf t) (r .kind)) in
     let contents = tabulate-ext places _ _ (λ k _. same k (contentOf u) (contentOf t) (r .content)) in
@@ -46,6 +46,7 @@ squeezed-same t u d r n same target =
     (λ p _. same (p / exits) (λ i. linkBit u i (p % exits)) (λ i. linkBit t i (p % exits)) (λ i x. r .bit i (p % exits) x (omega arith))) in
     let counts = tabulate-ext (places * counters) _ _
     (λ q _. same (q / counters) (λ i. counterOf u i (q % counters)) (λ i. counterOf t i (q % counters)) (λ i x. r .counter i (q % counters) x (omega arith))) in
+    let cabins = tabulate-ext places _ _ (λ k _. same k (cabinOf u) (cabinOf t) (r .cabin)) in
     λ j.
     record {
       capacity = d;
@@ -57,30 +58,31 @@ squeezed-same t u d r n same target =
       targets = targets j;
       bits = bits j;
       counts = counts j;
+      cabins = cabins j;
+      quotas = l;
     }
 
-module _ {t : Table} (s : Sound t) (c : ℕ) (fit : SqueezeFits t c) where
+module _ {t : Table} (s : Sound t) (c : ℕ) (q : List ℕ) (fit : SqueezeFits t c q) where
   abbrev u : Table
-  u = squeezed t c
+  u = squeezed t c q
 
   w : Wired t
   w = sound-wired s
 
   v : Wired u
-  v = squeezed-wired s c fit
+  v = squeezed-wired s c q (fit .roomy)
 
   r : Renumbered t u
-  r = squeezed-renumbered w c
+  r = squeezed-renumbered w c q
 
   f : Follows t u
   f = renumbered-follows r
 
   used : stepsInUse u ≡ stepsInUse t
-  used = follow-used w (s .alarm) f v
+  used = used-same s c q (fit .roomy)
 
-  pub squeeze-refusal-same : (d : ℕ) → squeezeRefusal u d ≡ squeezeRefusal t d
-  unfolding squeezeRefusal
-  squeeze-refusal-same d = past-sound (squeeze-sound s c fit) _ ∙ first-same (next refl (λ _. next (ap (ltb d) used) (λ _. done))) ∙ sym (past-sound s _)
+  sound-under : Sound u
+  sound-under = squeeze-sound s c q (fit .roomy) (fit .charges)
 
   -- the numbers in use have no gap: each stays as it is
   stays : (k : ℕ) → k ≤ stepsInUse t → newNumber u k ≡ k
@@ -107,8 +109,17 @@ module _ {t : Table} (s : Sound t) (c : ℕ) (fit : SqueezeFits t c) where
       (λ (h : holds t i e ≡ false). rw (empty-target t i e h, new-zero t) (omega arith))
       (test (holds t i e)))
 
-  pub squeeze-twice : (d : ℕ) → squeezed (squeezed t c) d ≡ squeezed t d
-  squeeze-twice d = squeezed-same t u d r used moved-same target-stays
+  pub squeeze-twice : (d : ℕ) (l : List ℕ) → squeezed (squeezed t c q) d l ≡ squeezed t d l
+  squeeze-twice d l = squeezed-same t u d l r used moved-same target-stays
+
+  pub squeeze-refusal-same : (d : ℕ) (l : List ℕ) → squeezeRefusal u d l ≡ squeezeRefusal t d l
+  unfolding squeezeRefusal
+  squeeze-refusal-same d l =
+      past-sound sound-under _
+      ∙ first-same
+      (next refl
+      (λ _. next refl (λ _. next (ap₂ (λ (n : ℕ) (x : Table). ltb d n || not (sound x)) used (squeeze-twice d l)) (λ _. done))))
+      ∙ sym (past-sound s _)
 
   -- a step in use is a contact under its new number too, and its exit leads on there or does not
   contact-under : (i : ℕ) → inUse t i ≡ true → isContact u (newNumber t i) ≡ isContact t i
@@ -201,7 +212,7 @@ module _ {t : Table} (s : Sound t) (c : ℕ) (fit : SqueezeFits t c) where
       })
 
   trial-refusal-same : (limit : ℕ) (results trace : List ℕ) → trialRefusal u limit results trace ≡ trialRefusal t limit results trace
-  trial-refusal-same limit results trace = trial-refusal (squeeze-sound s c fit) limit results trace ∙ sym (trial-refusal s limit results trace)
+  trial-refusal-same limit results trace = trial-refusal sound-under limit results trace ∙ sym (trial-refusal s limit results trace)
 
   trial-made-under : (limit : ℕ) (results trace : List ℕ) → trialRefusal t limit results trace ≡ 0 →
       trialCall u limit results trace ≡ underNumbers (newNumber t) (trialCall t limit results trace)

@@ -1,4 +1,4 @@
--- Refusals and answers by the paper's numbers (document 01, "Reasons for no"). Assumes nothing.
+-- Refusals and answers by the paper's numbers (document 01, "Reasons for no"; document 02). Assumes nothing.
 --   first tests     the number of the first condition that holds, in the order listed; 0 where none does
 --   Outcome         the answer of a call, and the table handed back
 --   refusalOf firstOf secondOf   the paper's numbers for each case of an answer: the refusal or 0, then two numbers, zero where refused
@@ -56,6 +56,17 @@ notAccepted = 12
 -- document 02, W2
 abbrev pub doesNotFit : ℕ
 doesNotFit = 13
+
+-- document 02, W5
+abbrev pub cabinAtLimit : ℕ
+cabinAtLimit = 14
+
+abbrev pub stepsReserved : ℕ
+stepsReserved = 15
+
+-- a cabin above 7, or a bad list of guarantees and limits
+abbrev pub badCabins : ℕ
+badCabins = 16
 
 unfoldable pub first : List (Bool × ℕ) → ℕ
 first [] = 0

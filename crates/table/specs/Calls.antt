@@ -1,8 +1,10 @@
--- The calls fresh, add, link and read (document 01, "Calls"); clear is in Clear, the trial in Trial. Each is the answer and the table handed back,
--- for every input; the refused ones too. Assumes nothing.
+-- The calls fresh, add, link and read (document 01, "Calls"; document 02, W5); clear is in Clear, the trial in Trial. Each is the answer and the
+-- table handed back, for every input; the refused ones too. Assumes nothing.
 --   tableTests t    what every call on a table asks first: 1
---   addConditions .. the conditions of a call's refusals with their numbers, in the order of document 01; addRefusal .. the first that holds
---   freshTable c    only step 0 in use, all bits 0, last number 0
+--   addConditions .. the conditions of a call's refusals with their numbers, in the documents' order; addRefusal .. the first that holds
+--   stepConditions  those of add in document 01, after 1
+--   freshTable c q  only step 0 in use, all bits 0, last number 0
+--   refusedTable    what a refused fresh or load hands back
 --   relink t i e j b   exit e of step i gets a link to j with bit b, or is emptied where j is 0; the counters follow
 --   numberGiven     the number that add gives: the first free one of a circle; on a full table, where add is refused, it is not used
 --   freshCall addCall linkCall readCall   the calls
@@ -15,17 +17,19 @@ use Rattle.finite.specs.Below.{find, tabulate}
 use Rattle.table.specs.declared.Answer.the-variants.{Given}
 use Rattle.table.specs.declared.Fields.{Fields}
 use Rattle.table.specs.declared.Reading.{Reading}
-use Rattle.table.specs.Table.{Table, places, exits, exitPlaces, counters, exitPlace, counterPlace, inUse, kindOf, contentOf, ownBit, targetOf, linkBit, counterOf, holds, stepsInUse, withLinks, withSteps}
+use Rattle.table.specs.Table.{Table, places, exits, exitPlaces, counters, cabinCount, exitPlace, counterPlace, inUse, kindOf, contentOf, ownBit, cabinOf, targetOf, linkBit, counterOf, holds, stepsInUse, withLinks, withSteps}
+use Rattle.table.specs.Cabins.{listFits, soleQuotas, atLimit, noneToSpare, charge, freeSteps}
 use Rattle.table.specs.Sound.{capacityFits, contentFits, sound}
-use Rattle.table.specs.Answer.{Outcome, notSound, badCapacity, notInUse, badExit, exitFilled, exitEmpty, badKind, full, first, unless}
+use Rattle.table.specs.Answer.{Outcome, notSound, badCapacity, notInUse, badExit, exitFilled, exitEmpty, badKind, full, cabinAtLimit, stepsReserved, badCabins, first, unless}
 
 -- what is asked of the table itself, before all else: that it is sound
 abbrev pub tableTests : Table → List (Bool × ℕ)
 tableTests t = (not (sound t), notSound) ∷ []
 
--- Fresh: "a capacity; only step 0 in use, all bits 0, last number 0". Step 0 is of kind 0 with content 0.
-unfoldable pub freshTable : ℕ → Table
-freshTable c =
+-- Fresh: "a capacity; only step 0 in use, all bits 0, last number 0". Step 0 is of kind 0 with content 0. W5: it "is given for each cabin a guarantee
+-- and a limit"; step 0 has no cabin, "its field is zero".
+unfoldable pub freshTable : ℕ → List ℕ → Table
+freshTable c quotas =
     record {
       capacity = c;
       last = 0;
@@ -36,16 +40,24 @@ freshTable c =
       targets = replicate (exitPlaces places) 0;
       bits = replicate (exitPlaces places) 0;
       counts = replicate (places * counters) 0;
+      cabins = replicate places 0;
+      quotas = quotas;
     }
 
-abbrev pub freshConditions : ℕ → List (Bool × ℕ)
-freshConditions c = (not (capacityFits c), badCapacity) ∷ []
+abbrev pub freshConditions : ℕ → List ℕ → List (Bool × ℕ)
+freshConditions c quotas =
+    (not (capacityFits c), badCapacity) ∷
+    (not (listFits c quotas), badCabins) ∷
+    []
 
--- "Refused fresh and load hand back a fresh table of capacity 1."
-unfoldable pub freshCall : ℕ → Outcome
-freshCall c =
-    unless (first (freshConditions c)) (freshTable 1)
-    (record { answer = Given 0 0; table = freshTable c })
+-- "Refused fresh and load hand back a fresh table of capacity 1." W5: it has the list of an edition 1 image of that capacity.
+unfoldable pub refusedTable : Table
+refusedTable = freshTable 1 (soleQuotas 1)
+
+unfoldable pub freshCall : ℕ → List ℕ → Outcome
+freshCall c quotas =
+    unless (first (freshConditions c quotas)) refusedTable
+    (record { answer = Given 0 0; table = freshTable c quotas })
 
 -- the counters with counter b of step j one lower, or one higher; step 0 stands for no step
 unfoldable pub lowered : ℕ → ℕ → List ℕ → List ℕ
@@ -67,32 +79,42 @@ after capacity k = cond (ltb (k + 1) capacity) (k + 1) 1
 unfoldable pub numberGiven : ℕ → ℕ → (ℕ → Bool) → ℕ
 numberGiven capacity last free = find capacity (after capacity) (after capacity last) free
 
-abbrev pub addConditions : Table → ℕ → ℕ → ℕ → ℕ → List (Bool × ℕ)
-addConditions t holder e kind content =
-    tableTests t ++
-    ((not (inUse t holder), notInUse) ∷
+-- what document 01 asks of the holder, its exit, the kind and the room; W5 has 16 before it, 14 and 15 after it
+abbrev pub stepConditions : Table → ℕ → ℕ → ℕ → ℕ → List (Bool × ℕ)
+stepConditions t holder e kind content =
+    (not (inUse t holder), notInUse) ∷
     (leb exits e, badExit) ∷
     (holds t holder e, exitFilled) ∷
     (not (contentFits kind content), badKind) ∷
     (eqb (stepsInUse t) (t .capacity), full) ∷
-    [])
+    []
 
-unfoldable pub addRefusal : Table → ℕ → ℕ → ℕ → ℕ → ℕ
-addRefusal t holder e kind content = first (addConditions t holder e kind content)
+abbrev pub addConditions : Table → ℕ → ℕ → ℕ → ℕ → ℕ → List (Bool × ℕ)
+addConditions t holder e kind content cabin =
+    tableTests t ++
+    ((leb cabinCount cabin, badCabins) ∷
+    (stepConditions t holder e kind content ++
+    ((atLimit (t .quotas) (charge t) cabin, cabinAtLimit) ∷
+    (noneToSpare (t .quotas) (charge t) (freeSteps t) cabin, stepsReserved) ∷
+    [])))
 
--- step n is taken into use, with its kind and content, as the number last given; a free step's bit is 0 and its exits are empty
-unfoldable pub withStep : Table → ℕ → ℕ → ℕ → Table
-withStep t n kind content = withSteps t n (set (t .used) n 1) (set (t .kinds) n kind) (set (t .contents) n content) (t .own)
+unfoldable pub addRefusal : Table → ℕ → ℕ → ℕ → ℕ → ℕ → ℕ
+addRefusal t holder e kind content cabin = first (addConditions t holder e kind content cabin)
+
+-- step n is taken into use, with its kind, content and cabin, as the number last given; a free step's bit is 0 and its exits are empty
+unfoldable pub withStep : Table → ℕ → ℕ → ℕ → ℕ → Table
+withStep t n kind content cabin =
+    withSteps t n (set (t .used) n 1) (set (t .kinds) n kind) (set (t .contents) n content) (t .own) (set (t .cabins) n cabin)
 
 -- "The holder's exit gets a link to it with bit 0. The answer is the number."
-unfoldable pub addTable : Table → ℕ → ℕ → ℕ → ℕ → ℕ → Table
-addTable t holder e kind content n = relink (withStep t n kind content) holder e n 0
+unfoldable pub addTable : Table → ℕ → ℕ → ℕ → ℕ → ℕ → ℕ → Table
+addTable t holder e kind content cabin n = relink (withStep t n kind content cabin) holder e n 0
 
-unfoldable pub addCall : Table → ℕ → ℕ → ℕ → ℕ → Outcome
-addCall t holder e kind content =
+unfoldable pub addCall : Table → ℕ → ℕ → ℕ → ℕ → ℕ → Outcome
+addCall t holder e kind content cabin =
     let n = numberGiven (t .capacity) (t .last) (λ k. not (inUse t k)) in
-    unless (addRefusal t holder e kind content) t
-    (record { answer = Given n 0; table = addTable t holder e kind content n })
+    unless (addRefusal t holder e kind content cabin) t
+    (record { answer = Given n 0; table = addTable t holder e kind content cabin n })
 
 abbrev pub linkConditions : Table → ℕ → ℕ → ℕ → ℕ → List (Bool × ℕ)
 linkConditions t source e second f =
@@ -131,6 +153,7 @@ fieldsOf t i =
       targets = tabulate exits (targetOf t i);
       bits = tabulate exits (linkBit t i);
       counts = tabulate counters (counterOf t i);
+      cabin = cabinOf t i;
     }
 
 unfoldable pub noFields : Fields
@@ -142,6 +165,7 @@ noFields =
       targets = replicate exits 0;
       bits = replicate exits 0;
       counts = replicate counters 0;
+      cabin = 0;
     }
 
 abbrev pub readConditions : Table → ℕ → List (Bool × ℕ)

@@ -49,7 +49,7 @@ unfoldable pub wanted : Repair → ℕ → Bool
 wanted r i = marked (r .doubt) i && any (r .table .capacity) (λ k. not (marked (r .doubt) k) && linked (r .table) k i)
 
 unfoldable pub flipped : Table → ℕ → Table
-flipped t k = withSteps t (t .last) (t .used) (t .kinds) (t .contents) (set (t .own) k (1 - ownBit t k))
+flipped t k = withSteps t (t .last) (t .used) (t .kinds) (t .contents) (set (t .own) k (1 - ownBit t k)) (t .cabins)
 
 unfoldable pub weakened : Table → ℕ → ℕ → Table
 weakened t k e = cond (strong t k e) (relink t k e (targetOf t k e) (weakBit t (targetOf t k e))) t
@@ -86,6 +86,7 @@ blanked t i =
     (set (t .kinds) i 0)
     (set (t .contents) i 0)
     (set (t .own) i 0)
+    (set (t .cabins) i 0)
 
 -- a change made for each doubtful step, in ascending order
 unfoldable pub eachDoubtful : List Bool → (Table → ℕ → Table) → Table → Table

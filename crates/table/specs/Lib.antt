@@ -1,5 +1,6 @@
 -- Document 01 as definitions: the table, sound, the calls, the plain plan; and document 02's squeeze and trial.
 pub mod Table
+pub mod Cabins
 pub mod Sound
 pub mod Answer
 pub mod Calls

@@ -1,16 +1,17 @@
--- Sound (well formed: the invariant), document 01, "A table is sound when". Assumes nothing.
---   Sound t      the statement: 01's clauses in their order, and before them that the arrays have their lengths and that bits are 0 or 1
+-- Sound (well formed: the invariant), document 01, "A table is sound when", and document 02, W5. Assumes nothing.
+--   Sound t      the statement: 01's clauses in their order, then W5's, and before them that the arrays have their lengths and that bits are 0 or 1
 --   sound t      the test, which computes; `test-sound` and `sound-test` of the proofs join the two
 --   contentFits capacityFits   the ranges of contents, by kind, and of capacities: one place for each
 use mathlib.Core.Path.{_≡_}
 use mathlib.Core.Bool.{Bool, true, false, _&&_, _||_, not, cond}
 use mathlib.Core.List.{List, [], _∷_}
-use Prim.Native.Nat.{ℕ, suc, _*_, _≤_, _<_}
+use Prim.Native.Nat.{ℕ, suc, _*_, _-_, _≤_, _<_}
 use lib.ListN.{length, getD}
 use lib.Dec.{eqb, leb, ltb}
-use Rattle.finite.specs.Below.{all, passes}
+use Rattle.finite.specs.Below.{all, total, passes}
 use Rattle.finite.specs.Reach.{reaches}
-use Rattle.table.specs.Table.{Table, places, counters, exitsOf, exitPlaces, inUse, kindOf, contentOf, ownBit, targetOf, linkBit, counterOf, holds, stronglyLinked, linksTo, StrongChain}
+use Rattle.table.specs.Table.{Table, places, counters, cabinCount, quotaNumbers, exitsOf, exitPlaces, inUse, kindOf, contentOf, ownBit, cabinOf, targetOf, linkBit, counterOf, holds, stronglyLinked, linksTo, StrongChain}
+use Rattle.table.specs.Cabins.{guaranteeOf, limitOf, quotasFit, unmet, chargesFit, charge, freeSteps}
 
 -- "A table has a capacity of 1 to 128"
 unfoldable pub capacityFits : ℕ → Bool
@@ -28,7 +29,7 @@ contentFits kind content =
 unfoldable pub kindFits : ℕ → ℕ → ℕ → Bool
 kindFits i kind content = cond (eqb i 0) (eqb kind 0 && eqb content 0) (contentFits kind content)
 
--- the arrays have a place for each step, exit and counter
+-- the arrays have a place for each step, exit, counter and quota
 pub record Shape (t : Table) : Type 0 where
   pub used : length (t .used) ≡ places
   pub kinds : length (t .kinds) ≡ places
@@ -37,6 +38,8 @@ pub record Shape (t : Table) : Type 0 where
   pub targets : length (t .targets) ≡ exitPlaces places
   pub bits : length (t .bits) ≡ exitPlaces places
   pub counts : length (t .counts) ≡ places * counters
+  pub cabins : length (t .cabins) ≡ places
+  pub quotas : length (t .quotas) ≡ quotaNumbers
 
 -- a free step: all fields zero or empty
 pub record Blank (t : Table) (i : ℕ) : Type 0 where
@@ -47,6 +50,7 @@ pub record Blank (t : Table) (i : ℕ) : Type 0 where
   pub targets : (e : ℕ) → e < exitsOf i → targetOf t i e ≡ 0
   pub bits : (e : ℕ) → e < exitsOf i → linkBit t i e ≡ 0
   pub counts : (b : ℕ) → b < counters → counterOf t i b ≡ 0
+  pub cabin : cabinOf t i ≡ 0
 
 pub record Sound (t : Table) : Type 0 where
   pub shape : Shape t
@@ -69,6 +73,15 @@ pub record Sound (t : Table) : Type 0 where
   -- "strong links form no ring, and each step in use but 0 is reached from 0 by strong links alone"
   pub acyclic : (i n : ℕ) → StrongChain t i i (suc n) → ⊥
   pub reached : (i : ℕ) → inUse t i ≡ true → (n : ℕ) × StrongChain t 0 i n
+  -- W5. "such a list": guarantee at most limit, guarantees together at most capacity less 1
+  pub pairs : (c : ℕ) → c < cabinCount → guaranteeOf (t .quotas) c ≤ limitOf (t .quotas) c
+  pub together : total cabinCount (guaranteeOf (t .quotas)) ≤ t .capacity - 1
+  -- "cabins 0 to 7 and zero at step 0"
+  pub cabins : (i : ℕ) → inUse t i ≡ true → cabinOf t i < cabinCount
+  pub alarmCabin : cabinOf t 0 ≡ 0
+  -- "charges within limits, free steps not fewer than the unmet guarantees together"
+  pub charges : (c : ℕ) → c < cabinCount → charge t c ≤ limitOf (t .quotas) c
+  pub reserve : total cabinCount (unmet (t .quotas) (charge t)) ≤ freeSteps t
 
 -- the test p is passed by each step in use
 unfoldable pub eachUsed : Table → (ℕ → Bool) → Bool
@@ -83,6 +96,8 @@ shapeTests t =
     eqb (length (t .targets)) (exitPlaces places) ∷
     eqb (length (t .bits)) (exitPlaces places) ∷
     eqb (length (t .counts)) (places * counters) ∷
+    eqb (length (t .cabins)) places ∷
+    eqb (length (t .quotas)) quotaNumbers ∷
     []
 
 unfoldable pub blankTests : Table → ℕ → List Bool
@@ -94,6 +109,7 @@ blankTests t i =
     all (exitsOf i) (λ e. eqb (targetOf t i e) 0) ∷
     all (exitsOf i) (λ e. eqb (linkBit t i e) 0) ∷
     all counters (λ b. eqb (counterOf t i b) 0) ∷
+    eqb (cabinOf t i) 0 ∷
     []
 
 -- no step that i has a strong link to leads back to i
@@ -117,6 +133,10 @@ soundTests t =
     eachUsed t (λ i. all counters (λ b. eqb (counterOf t i b) (linksTo t i b))) ∷
     eachUsed t (ringless t) ∷
     eachUsed t (λ i. reaches (stronglyLinked t) (t .capacity) 0 i) ∷
+    quotasFit (t .capacity) (t .quotas) ∷
+    eachUsed t (λ i. ltb (cabinOf t i) cabinCount) ∷
+    eqb (cabinOf t 0) 0 ∷
+    chargesFit (t .quotas) (charge t) (freeSteps t) ∷
     []
 
 unfoldable pub sound : Table → Bool

@@ -1,8 +1,9 @@
--- The table: its steps (nodes), exits (edge slots), links (edges) and counters (document 01, "The table"). Assumes nothing.
+-- The table: its steps (nodes), exits (edge slots), links (edges) and counters (document 01, "The table"), and the cabins that share it (document
+-- 02, W5). Assumes nothing.
 --   Table               all fields of all steps
 --   exitsOf i           the number of exits of step i; exitPlaces n: the places of the exits of the steps below n
 --   inUse t i           step i is in use
---   kindOf contentOf ownBit   its kind, its content, the bit of its own
+--   kindOf contentOf ownBit cabinOf   its kind, its content, the bit of its own, the cabin that added it
 --   targetOf t i e, linkBit t i e   what exit e of step i holds: the target, 0 where it is empty, and the link's bit
 --   counterOf t i b     counter b of step i
 --   holds t i e         exit e of step i holds a link (an edge); else it is empty
@@ -12,8 +13,8 @@
 --   linksTo t j b       the number of links with bit b to j
 --   stepsInUse t        the number of steps in use
 --   StrongChain t a b n   a strong chain (path) of n links from a to b
---   withNumbers withLinks withSteps   a table with another capacity and last number, with other links and counters, or with another last number and
---                       other steps
+--   withNumbers withLinks withSteps   a table with another capacity, last number and quotas, with other links and counters, or with another last
+--                       number and other steps
 use mathlib.Core.Path.{_≡_}
 use mathlib.Core.Bool.{Bool, true, _&&_, not}
 use mathlib.Core.List.{List}
@@ -33,6 +34,13 @@ exits = 4
 abbrev pub counters : ℕ
 counters = 2
 
+-- W5. "Eight cabins", numbered from 0, and two numbers for each in a list of quotas: its guarantee and its limit
+abbrev pub cabinCount : ℕ
+cabinCount = 8
+
+abbrev pub quotaNumbers : ℕ
+quotaNumbers = cabinCount * 2
+
 -- "A table has a capacity of 1 to 128 and steps numbered from 0. .. The table remembers the number last given." Every field is a number or a list of
 -- numbers, one for each step, exit or counter, so that any words in memory are a table, sound or not.
 pub record Table : Type 0 where
@@ -48,6 +56,9 @@ pub record Table : Type 0 where
   pub bits : List ℕ
   -- two counters for each step
   pub counts : List ℕ
+  -- W5: the cabin that added each step; for each cabin its guarantee and its limit
+  pub cabins : List ℕ
+  pub quotas : List ℕ
 
 -- the number of exits that step i has, and how many places the exits of the steps below n have: each step has four
 abbrev pub exitsOf : ℕ → ℕ
@@ -74,6 +85,10 @@ contentOf t i = getD (t .contents) i 0
 
 unfoldable pub ownBit : Table → ℕ → ℕ
 ownBit t i = getD (t .own) i 0
+
+-- "Each step records the cabin, 0 to 7, that added it"
+unfoldable pub cabinOf : Table → ℕ → ℕ
+cabinOf t i = getD (t .cabins) i 0
 
 unfoldable pub targetOf : Table → ℕ → ℕ → ℕ
 targetOf t i e = getD (t .targets) (exitPlace i e) 0
@@ -119,8 +134,8 @@ pub record StrongChain (t : Table) (a b n : ℕ) : Type 0 where
   pub row : Chain (stronglyLinked t) a b n
 
 -- Three ways to write a table; what is not named is as it was.
-unfoldable pub withNumbers : Table → ℕ → ℕ → Table
-withNumbers t capacity last =
+unfoldable pub withNumbers : Table → ℕ → ℕ → List ℕ → Table
+withNumbers t capacity last quotas =
     record {
       capacity = capacity;
       last = last;
@@ -131,6 +146,8 @@ withNumbers t capacity last =
       targets = t .targets;
       bits = t .bits;
       counts = t .counts;
+      cabins = t .cabins;
+      quotas = quotas;
     }
 
 unfoldable pub withLinks : Table → List ℕ → List ℕ → List ℕ → Table
@@ -145,10 +162,12 @@ withLinks t targets bits counts =
       targets = targets;
       bits = bits;
       counts = counts;
+      cabins = t .cabins;
+      quotas = t .quotas;
     }
 
-unfoldable pub withSteps : Table → ℕ → List ℕ → List ℕ → List ℕ → List ℕ → Table
-withSteps t last used kinds contents own =
+unfoldable pub withSteps : Table → ℕ → List ℕ → List ℕ → List ℕ → List ℕ → List ℕ → Table
+withSteps t last used kinds contents own cabins =
     record {
       capacity = t .capacity;
       last = last;
@@ -159,4 +178,6 @@ withSteps t last used kinds contents own =
       targets = t .targets;
       bits = t .bits;
       counts = t .counts;
+      cabins = cabins;
+      quotas = t .quotas;
     }

@@ -14,6 +14,7 @@ pub struct Fields {
     pub targets: [u16; 4],
     pub bits: [u16; 4],
     pub counts: [u16; 2],
+    pub cabin: u16,
 }
 
 // The answer of read: the number of its refusal or 0, and the fields, all zero where it is refused.

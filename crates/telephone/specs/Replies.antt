@@ -14,9 +14,9 @@ use Rattle.telephone.specs.declared.ReadReply.{ReadReply}
 use Rattle.telephone.specs.declared.TrialReply.{TrialReply}
 use Rattle.telephone.specs.declared.WriteReply.{WriteReply}
 
--- the first edition passed and handed back whole tables, the second had a trial without a limit
+-- the first edition passed and handed back whole tables, the second had a trial without a limit, the third no cabins
 abbrev pub edition : ℕ
-edition = 3
+edition = 4
 
 unfoldable pub replyOf : Answer → Reply
 replyOf a =
@@ -36,6 +36,7 @@ readReply r =
       targets = r .fields .targets;
       bits = r .fields .bits;
       counts = r .fields .counts;
+      cabin = r .fields .cabin;
     }
 
 unfoldable pub trialReply : Tried → TrialReply

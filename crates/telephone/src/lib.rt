@@ -3,6 +3,7 @@
 ghost use mathlib.Core.Path.{_≡_};
 ghost use mathlib.Core.Bool.{cond};
 ghost use Prim.Native.Nat.{_≤_};
+ghost use Rattle.table.specs.Cabins.{soleQuotas};
 ghost use Rattle.table.specs.Sound.{sound};
 ghost use Rattle.table.specs.Answer.{endingNumber, movesOf};
 ghost use Rattle.table.specs.Calls.{freshCall, addCall, linkCall, readCall};
@@ -17,10 +18,12 @@ use table::Answer;
 use table::Ending;
 use table::Reading;
 use table::Tried;
+use words::QUOTAS;
 use words::WORDS;
 
-// The number of this edition of the interface. In edition 1 a table was passed and handed back by value, in edition 2 a trial had no limit.
-const EDITION: u16 = 3;
+// The number of this edition of the interface. In edition 1 a table was passed and handed back by value, in edition 2 a trial had no limit, in edition
+// 3 there were no cabins.
+const EDITION: u16 = 4;
 
 // The answer of a call: the refusal or 0, and two numbers.
 #[repr(C)]
@@ -40,6 +43,7 @@ pub struct ReadReply {
     pub targets: [u16; 4],
     pub bits: [u16; 4],
     pub counts: [u16; 2],
+    pub cabin: u16,
 }
 
 // The answer of a trial: the refusal or 0, how it ended (0 open, 1 spent, 2 stopped), the last step and the moves made.
@@ -133,6 +137,7 @@ fn read_reply(r: Reading) -> ReadReply
         targets,
         bits,
         counts,
+        cabin: fields.cabin,
     }
 }
 
@@ -152,16 +157,25 @@ pub extern "C" fn plan_is_sound(t: &[u16; WORDS]) -> u16
     if soundness::is_sound(t) { 1 } else { 0 }
 }
 
-// Fresh: a table of that capacity with step 0 alone in use. Refusal: 2, with a fresh table of capacity 1.
+// Sole quotas: the list that gives all steps of a capacity but step 0 to cabin 0, which edition 1 images load with.
 #[no_mangle]
-pub extern "C" fn plan_fresh(t: &mut [u16; WORDS], capacity: u16) -> Reply
-    ensures answer { λ r. ⌜ r ≡ replyOf (freshCall capacity .answer) ⌝ }
-    ensures table { λ r. ⌜ now (t .exit) ≡ wordsOf (freshCall capacity .table) ⌝ }
+pub extern "C" fn plan_sole_quotas(quotas: &mut [u16; QUOTAS], capacity: u16)
+    ensures { λ _. ⌜ now (quotas .exit) ≡ soleQuotas capacity ⌝ }
 {
-    reply_of(edits::fresh(t, capacity))
+    *quotas = cabins::sole_quotas(capacity);
 }
 
-// Add: a new step in an exit of its holder. First is its number. Refusals: 1, 3, 4, 5, 7, 8.
+// Fresh: a table of that capacity, with those guarantees and limits of the cabins, and step 0 alone in use. Refusals: 2, 16, with a fresh table of
+// capacity 1.
+#[no_mangle]
+pub extern "C" fn plan_fresh(t: &mut [u16; WORDS], capacity: u16, quotas: &[u16; QUOTAS]) -> Reply
+    ensures answer { λ r. ⌜ r ≡ replyOf (freshCall capacity (now (quotas .entry)) .answer) ⌝ }
+    ensures table { λ r. ⌜ now (t .exit) ≡ wordsOf (freshCall capacity (now (quotas .entry)) .table) ⌝ }
+{
+    reply_of(edits::fresh(t, capacity, quotas))
+}
+
+// Add: a new step of a cabin in an exit of its holder. First is its number. Refusals: 1, 16, 3, 4, 5, 7, 8, 14, 15.
 #[no_mangle]
 pub extern "C" fn plan_add(
     t: &mut [u16; WORDS],
@@ -169,11 +183,12 @@ pub extern "C" fn plan_add(
     exit: u16,
     kind: u16,
     content: u16,
+    cabin: u16,
 ) -> Reply
-    ensures answer { λ r. ⌜ r ≡ replyOf (addCall (tableOf (now (t .entry))) holder exit kind content .answer) ⌝ }
-    ensures table { λ r. ⌜ now (t .exit) ≡ wordsOf (addCall (tableOf (now (t .entry))) holder exit kind content .table) ⌝ }
+    ensures answer { λ r. ⌜ r ≡ replyOf (addCall (tableOf (now (t .entry))) holder exit kind content cabin .answer) ⌝ }
+    ensures table { λ r. ⌜ now (t .exit) ≡ wordsOf (addCall (tableOf (now (t .entry))) holder exit kind content cabin .table) ⌝ }
 {
-    reply_of(edits::add(t, holder, exit, kind, content))
+    reply_of(edits::add(t, holder, exit, kind, content, cabin))
 }
 
 // Link: the source's target is copied into an exit of the second step. Refusals: 1, source 3, 4, 6, second 3, 4, 5.
@@ -200,13 +215,13 @@ pub extern "C" fn plan_clear(t: &mut [u16; WORDS], step: u16, exit: u16) -> Repl
     reply_of(clearing::clear(t, step, exit))
 }
 
-// Squeeze: the steps in use get the lowest numbers, in their old order, and the table the capacity given. Refusals: 1, 2, 13.
+// Squeeze: the steps in use get the lowest numbers, in their old order, and the table the capacity and the quotas given. Refusals: 1, 2, 16, 13.
 #[no_mangle]
-pub extern "C" fn plan_squeeze(t: &mut [u16; WORDS], capacity: u16) -> Reply
-    ensures answer { λ r. ⌜ r ≡ replyOf (squeezeCall (tableOf (now (t .entry))) capacity .answer) ⌝ }
-    ensures table { λ r. ⌜ now (t .exit) ≡ wordsOf (squeezeCall (tableOf (now (t .entry))) capacity .table) ⌝ }
+pub extern "C" fn plan_squeeze(t: &mut [u16; WORDS], capacity: u16, quotas: &[u16; QUOTAS]) -> Reply
+    ensures answer { λ r. ⌜ r ≡ replyOf (squeezeCall (tableOf (now (t .entry))) capacity (now (quotas .entry)) .answer) ⌝ }
+    ensures table { λ r. ⌜ now (t .exit) ≡ wordsOf (squeezeCall (tableOf (now (t .entry))) capacity (now (quotas .entry)) .table) ⌝ }
 {
-    reply_of(squeezing::squeeze(t, capacity))
+    reply_of(squeezing::squeeze(t, capacity, quotas))
 }
 
 // Counts: first is the steps in use, second the free ones. Refusal: 1.
@@ -250,7 +265,7 @@ pub extern "C" fn plan_image_length(t: &[u16; WORDS]) -> WriteReply
     write_reply(images::image_length(t))
 }
 
-// Write image: the image at the start of the buffer, and its length; no other byte is written. Refusals: 1, 11.
+// Write image: the image, of edition 2, at the start of the buffer, and its length; no other byte is written. Refusals: 1, 11.
 #[no_mangle]
 pub extern "C" fn plan_write_image(t: &[u16; WORDS], buffer: &mut [u8]) -> WriteReply
     ensures answer { λ r. ⌜ r ≡ writeReply (writeCall (tableOf (now (t .entry))) (now (buffer .entry)) .answer) ⌝ }
@@ -259,7 +274,7 @@ pub extern "C" fn plan_write_image(t: &[u16; WORDS], buffer: &mut [u8]) -> Write
     write_reply(images::write_image(t, buffer))
 }
 
-// Load image: the table of an accepted image. Refusal: 12, with a fresh table of capacity 1.
+// Load image: the table of an accepted image of edition 1 or 2. Refusal: 12, with a fresh table of capacity 1.
 #[no_mangle]
 pub extern "C" fn plan_load_image(t: &mut [u16; WORDS], bytes: &[u8]) -> Reply
     ensures answer { λ r. ⌜ r ≡ replyOf (loadCall (now (bytes .entry)) .answer) ⌝ }

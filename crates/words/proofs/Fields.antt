@@ -14,7 +14,7 @@ use Rattle.finite.specs.Below.{tabulate}
 use Rattle.finite.proofs.Below.{getD-tabulate, tabulate-ext}
 use Rattle.finite.proofs.Select.{tabulate-entries}
 use Rattle.table.specs.declared.Fields.{Fields}
-use Rattle.table.specs.Table.{Table, places, exits, counters, exitPlace, counterPlace, kindOf, contentOf, ownBit, targetOf, linkBit, counterOf, withLinks, withSteps, withNumbers}
+use Rattle.table.specs.Table.{Table, places, exits, counters, quotaNumbers, exitPlace, counterPlace, kindOf, contentOf, ownBit, cabinOf, targetOf, linkBit, counterOf, withLinks, withSteps, withNumbers}
 use Rattle.table.specs.Sound.{Shape}
 use Rattle.table.specs.Calls.{fieldsOf}
 use Rattle.words.specs.Words.{withFields}
@@ -56,7 +56,7 @@ row-other : (w j k : ℕ) (l f : List ℕ) → length f ≡ w → ((e d : ℕ) �
 row-other w j k l f n apart =
     tabulate-ext w _ _ (λ e h. sets-other f l (k * w) (j * w + e) (λ d g s. apart e d h (omega arith) s))
 
-list-ext : (n : ℕ) (l m : List ℕ) → length l ≡ n → length m ≡ n → ((k : ℕ) → k < n → getD l k 0 ≡ getD m k 0) → l ≡ m
+pub list-ext : (n : ℕ) (l m : List ℕ) → length l ≡ n → length m ≡ n → ((k : ℕ) → k < n → getD l k 0 ≡ getD m k 0) → l ≡ m
 list-ext n l m a b same = ext-getD 0 l m (a ∙ sym b) (λ k h. same k (omega arith))
 
 row-ext : (w n : ℕ) (l m : List ℕ) → length l ≡ n → length m ≡ n → ((p : ℕ) → p < n → (k : ℕ) × (e : ℕ) × (k < places) × (e < w) × (k * w + e ≡ p)) →
@@ -83,10 +83,12 @@ module _ (t : Table) (s : Shape t) (k used : ℕ) (f : Fields) (z : Sized f) whe
         targets = length-sets (t .targets) _ (f .targets) ∙ s .targets;
         bits = length-sets (t .bits) _ (f .bits) ∙ s .bits;
         counts = length-sets (t .counts) _ (f .counts) ∙ s .counts;
+        cabins = length-set (t .cabins) k _ ∙ s .cabins;
+        quotas = s .quotas;
       }
 
   pub with-fields-here : k < places → stepAt (withFields t k used f) k ≡ (used, f)
-  unfolding stepAt fieldsOf kindOf contentOf ownBit targetOf linkBit counterOf exitPlace counterPlace withFields withLinks withSteps
+  unfolding stepAt fieldsOf kindOf contentOf ownBit cabinOf targetOf linkBit counterOf exitPlace counterPlace withFields withLinks withSteps
   with-fields-here l n = (
     getD-set-same (t .used) k used 0 (omega (arith, s .used)) n,
     record {
@@ -96,11 +98,12 @@ module _ (t : Table) (s : Shape t) (k used : ℕ) (f : Fields) (z : Sized f) whe
       targets = row-here exits k (t .targets) (f .targets) (z .targets) (omega (arith, s .targets)) n;
       bits = row-here exits k (t .bits) (f .bits) (z .bits) (omega (arith, s .bits)) n;
       counts = row-here counters k (t .counts) (f .counts) (z .counts) (omega (arith, s .counts)) n;
+      cabin = getD-set-same (t .cabins) k (f .cabin) 0 (omega (arith, s .cabins)) n;
     },
   )
 
   pub with-fields-other : (j : ℕ) → (j ≡ k → ⊥) → stepAt (withFields t k used f) j ≡ stepAt t j
-  unfolding stepAt fieldsOf kindOf contentOf ownBit targetOf linkBit counterOf exitPlace counterPlace withFields withLinks withSteps
+  unfolding stepAt fieldsOf kindOf contentOf ownBit cabinOf targetOf linkBit counterOf exitPlace counterPlace withFields withLinks withSteps
   with-fields-other j d n = (
     getD-set-other (t .used) k j used 0 d n,
     record {
@@ -110,13 +113,14 @@ module _ (t : Table) (s : Shape t) (k used : ℕ) (f : Fields) (z : Sized f) whe
       targets = row-other exits j k (t .targets) (f .targets) (z .targets) (λ a b g h q. d (omega arith)) n;
       bits = row-other exits j k (t .bits) (f .bits) (z .bits) (λ a b g h q. d (omega arith)) n;
       counts = row-other counters j k (t .counts) (f .counts) (z .counts) (λ a b g h q. d (omega arith)) n;
+      cabin = getD-set-other (t .cabins) k j (f .cabin) 0 d n;
     },
   )
 
--- another capacity and last number given are no matter to the records
-pub with-numbers-shape : {t : Table} → Shape t → (capacity last : ℕ) → Shape (withNumbers t capacity last)
+-- another capacity, last number given and list of quotas are no matter to the records
+pub with-numbers-shape : {t : Table} → Shape t → (capacity last : ℕ) (quotas : List ℕ) → length quotas ≡ quotaNumbers → Shape (withNumbers t capacity last quotas)
 unfolding withNumbers
-with-numbers-shape s capacity last =
+with-numbers-shape s capacity last quotas size =
     record {
       used = s .used;
       kinds = s .kinds;
@@ -125,16 +129,18 @@ with-numbers-shape s capacity last =
       targets = s .targets;
       bits = s .bits;
       counts = s .counts;
+      cabins = s .cabins;
+      quotas = size;
     }
 
-pub with-numbers-step : (t : Table) (capacity last k : ℕ) → stepAt (withNumbers t capacity last) k ≡ stepAt t k
-unfolding stepAt fieldsOf kindOf contentOf ownBit targetOf linkBit counterOf withNumbers
-with-numbers-step t capacity last k = refl
+pub with-numbers-step : (t : Table) (capacity last : ℕ) (quotas : List ℕ) (k : ℕ) → stepAt (withNumbers t capacity last quotas) k ≡ stepAt t k
+unfolding stepAt fieldsOf kindOf contentOf ownBit cabinOf targetOf linkBit counterOf withNumbers
+with-numbers-step t capacity last quotas k = refl
 
-pub table-ext : (t u : Table) → Shape t → Shape u → t .capacity ≡ u .capacity → t .last ≡ u .last →
+pub table-ext : (t u : Table) → Shape t → Shape u → t .capacity ≡ u .capacity → t .last ≡ u .last → t .quotas ≡ u .quotas →
     ((k : ℕ) → k < places → stepAt t k ≡ stepAt u k) → t ≡ u
-unfolding stepAt fieldsOf kindOf contentOf ownBit targetOf linkBit counterOf exitPlace counterPlace
-table-ext t u s r c l same =
+unfolding stepAt fieldsOf kindOf contentOf ownBit cabinOf targetOf linkBit counterOf exitPlace counterPlace
+table-ext t u s r c l q same =
     same-fields t u c l
     (list-ext places _ _ (s .used) (r .used) (λ k h. ap (λ (x : ℕ × Fields). x .0) (same k h)))
     (list-ext places _ _ (s .kinds) (r .kinds) (λ k h. ap (λ (x : ℕ × Fields). x .1 .kind) (same k h)))
@@ -143,6 +149,8 @@ table-ext t u s r c l same =
     (row-ext exits _ _ _ (s .targets) (r .targets) four (λ k h. ap (λ (x : ℕ × Fields). x .1 .targets) (same k h)))
     (row-ext exits _ _ _ (s .bits) (r .bits) four (λ k h. ap (λ (x : ℕ × Fields). x .1 .bits) (same k h)))
     (row-ext counters _ _ _ (s .counts) (r .counts) two (λ k h. ap (λ (x : ℕ × Fields). x .1 .counts) (same k h)))
+    (list-ext places _ _ (s .cabins) (r .cabins) (λ k h. ap (λ (x : ℕ × Fields). x .1 .cabin) (same k h)))
+    q
   where
     four : (p : ℕ) → p < places * exits → (k : ℕ) × (e : ℕ) × (k < places) × (e < exits) × (k * exits + e ≡ p)
     four p h = (p / exits, p % exits, omega arith, omega arith, omega arith)

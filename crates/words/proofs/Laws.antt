@@ -14,12 +14,12 @@ use lib.ListN.{length, getD, set, take, drop, length-drop}
 use lib.Seq.{set-out, getD-set-same, getD-set-other, getD-take, getD-drop, take-set-le, take-set-lt, drop-set-lt, drop-set-add, take-at, drop-at, take-all, take-add, drop-drop, length-take-le, drop-cons, drop-append-add}
 use lib.Dec.{eqb}
 use borrow.Author.Tests.{eq-eqb, ne-eqb}
-use Rattle.table.specs.Table.{Table, places, exits, counters, counterPlace, withLinks, withSteps, withNumbers}
+use Rattle.table.specs.Table.{Table, places, exits, counters, quotaNumbers, counterPlace, withLinks, withSteps, withNumbers}
 use Rattle.table.specs.Sound.{Shape}
 use Rattle.table.specs.Calls.{raised, lowered}
 use Rattle.finite.proofs.Bools.{test}
 use Rattle.finite.proofs.Below.{eq-or-ne, le-or-lt}
-use Rattle.words.specs.Words.{words, usedFrom, kindsFrom, contentsFrom, ownFrom, targetsFrom, bitsFrom, countsFrom, part, tableOf, wordsOf, blankTable, Becomes}
+use Rattle.words.specs.Words.{words, usedFrom, kindsFrom, contentsFrom, ownFrom, targetsFrom, bitsFrom, countsFrom, cabinsFrom, quotasFrom, part, tableOf, wordsOf, blankTable, Becomes}
 
 pub part-read : (w : List ℕ) (from n k : ℕ) → k < n → getD (part from n w) k 0 ≡ getD w (from + k) 0
 part-read w from n k l = getD-take n (drop from w) k 0 l ∙ getD-drop from w k 0
@@ -40,38 +40,28 @@ part-above w from n q x l =
     take-set-le n (drop from w) (q - from) x (omega arith)
 
 -- tables with the same fields are the same
-fields : ℕ → ℕ → List ℕ → List ℕ → List ℕ → List ℕ → List ℕ → List ℕ → List ℕ → Table
-fields capacity last used kinds contents own targets bits counts =
-    record {
-      capacity = capacity;
-      last = last;
-      used = used;
-      kinds = kinds;
-      contents = contents;
-      own = own;
-      targets = targets;
-      bits = bits;
-      counts = counts;
-    }
-
 pub same-fields : (t u : Table) → t .capacity ≡ u .capacity → t .last ≡ u .last → t .used ≡ u .used → t .kinds ≡ u .kinds → t .contents ≡ u .contents →
-    t .own ≡ u .own → t .targets ≡ u .targets → t .bits ≡ u .bits → t .counts ≡ u .counts → t ≡ u
-unfolding fields
-same-fields t u a b c d e f g h i =
-    ap (λ (x : ℕ). fields x (t .last) (t .used) (t .kinds) (t .contents) (t .own) (t .targets) (t .bits) (t .counts)) a ∙
-    ap (λ (x : ℕ). fields (u .capacity) x (t .used) (t .kinds) (t .contents) (t .own) (t .targets) (t .bits) (t .counts)) b ∙
-    ap (λ (x : List ℕ). fields (u .capacity) (u .last) x (t .kinds) (t .contents) (t .own) (t .targets) (t .bits) (t .counts)) c ∙
-    ap (λ (x : List ℕ). fields (u .capacity) (u .last) (u .used) x (t .contents) (t .own) (t .targets) (t .bits) (t .counts)) d ∙
-    ap (λ (x : List ℕ). fields (u .capacity) (u .last) (u .used) (u .kinds) x (t .own) (t .targets) (t .bits) (t .counts)) e ∙
-    ap (λ (x : List ℕ). fields (u .capacity) (u .last) (u .used) (u .kinds) (u .contents) x (t .targets) (t .bits) (t .counts)) f ∙
-    ap (λ (x : List ℕ). fields (u .capacity) (u .last) (u .used) (u .kinds) (u .contents) (u .own) x (t .bits) (t .counts)) g ∙
-    ap (λ (x : List ℕ). fields (u .capacity) (u .last) (u .used) (u .kinds) (u .contents) (u .own) (u .targets) x (t .counts)) h ∙
-    ap (λ (x : List ℕ). fields (u .capacity) (u .last) (u .used) (u .kinds) (u .contents) (u .own) (u .targets) (u .bits) x) i
+    t .own ≡ u .own → t .targets ≡ u .targets → t .bits ≡ u .bits → t .counts ≡ u .counts → t .cabins ≡ u .cabins → t .quotas ≡ u .quotas → t ≡ u
+same-fields t u a b c d e f g h i j k =
+    λ x.
+    record {
+      capacity = a x;
+      last = b x;
+      used = c x;
+      kinds = d x;
+      contents = e x;
+      own = f x;
+      targets = g x;
+      bits = h x;
+      counts = i x;
+      cabins = j x;
+      quotas = k x;
+    }
 
 -- A store into one word changes the field that it belongs to.
 module _ (w : List ℕ) where
   -- the two words before the parts
-  store-number : (q x : ℕ) → q < usedFrom → tableOf (set w q x) ≡ withNumbers (tableOf w) (getD (set w q x) 0 0) (getD (set w q x) 1 0)
+  store-number : (q x : ℕ) → q < usedFrom → tableOf (set w q x) ≡ withNumbers (tableOf w) (getD (set w q x) 0 0) (getD (set w q x) 1 0) (tableOf w .quotas)
   unfolding tableOf withNumbers
   store-number q x l =
       same-fields _ _
@@ -84,20 +74,22 @@ module _ (w : List ℕ) where
       (part-below w targetsFrom (places * exits) q x (omega arith))
       (part-below w bitsFrom (places * exits) q x (omega arith))
       (part-below w countsFrom (places * counters) q x (omega arith))
+      (part-below w cabinsFrom places q x (omega arith))
+      (part-below w quotasFrom quotaNumbers q x (omega arith))
 
-  pub store-capacity : (x : ℕ) → 0 < length w → tableOf (set w 0 x) ≡ withNumbers (tableOf w) x (tableOf w .last)
+  pub store-capacity : (x : ℕ) → 0 < length w → tableOf (set w 0 x) ≡ withNumbers (tableOf w) x (tableOf w .last) (tableOf w .quotas)
   unfolding tableOf
   store-capacity x l = store-number 0 x (omega arith) ∙ rw (getD-set-same w 0 x 0 l, getD-set-other w 0 1 x 0 (omega arith))
 
   pub store-last : (x : ℕ) → 1 < length w →
       tableOf (set w 1 x) ≡
-      withSteps (tableOf w) x (tableOf w .used) (tableOf w .kinds) (tableOf w .contents) (tableOf w .own)
+      withSteps (tableOf w) x (tableOf w .used) (tableOf w .kinds) (tableOf w .contents) (tableOf w .own) (tableOf w .cabins)
   unfolding tableOf withNumbers withSteps
   store-last x l = store-number 1 x (omega arith) ∙ rw (getD-set-same w 1 x 0 l, getD-set-other w 1 0 x 0 (omega arith))
 
   pub store-used : (k x : ℕ) → k < places →
       tableOf (set w (usedFrom + k) x) ≡
-      withSteps (tableOf w) (tableOf w .last) (set (tableOf w .used) k x) (tableOf w .kinds) (tableOf w .contents) (tableOf w .own)
+      withSteps (tableOf w) (tableOf w .last) (set (tableOf w .used) k x) (tableOf w .kinds) (tableOf w .contents) (tableOf w .own) (tableOf w .cabins)
   unfolding tableOf withSteps
   store-used k x l =
       same-fields _ _
@@ -110,10 +102,12 @@ module _ (w : List ℕ) where
       (part-below w targetsFrom (places * exits) _ x (omega arith))
       (part-below w bitsFrom (places * exits) _ x (omega arith))
       (part-below w countsFrom (places * counters) _ x (omega arith))
+      (part-below w cabinsFrom places _ x (omega arith))
+      (part-below w quotasFrom quotaNumbers _ x (omega arith))
 
   pub store-kinds : (k x : ℕ) → k < places →
       tableOf (set w (kindsFrom + k) x) ≡
-      withSteps (tableOf w) (tableOf w .last) (tableOf w .used) (set (tableOf w .kinds) k x) (tableOf w .contents) (tableOf w .own)
+      withSteps (tableOf w) (tableOf w .last) (tableOf w .used) (set (tableOf w .kinds) k x) (tableOf w .contents) (tableOf w .own) (tableOf w .cabins)
   unfolding tableOf withSteps
   store-kinds k x l =
       same-fields _ _
@@ -126,10 +120,12 @@ module _ (w : List ℕ) where
       (part-below w targetsFrom (places * exits) _ x (omega arith))
       (part-below w bitsFrom (places * exits) _ x (omega arith))
       (part-below w countsFrom (places * counters) _ x (omega arith))
+      (part-below w cabinsFrom places _ x (omega arith))
+      (part-below w quotasFrom quotaNumbers _ x (omega arith))
 
   pub store-contents : (k x : ℕ) → k < places →
       tableOf (set w (contentsFrom + k) x) ≡
-      withSteps (tableOf w) (tableOf w .last) (tableOf w .used) (tableOf w .kinds) (set (tableOf w .contents) k x) (tableOf w .own)
+      withSteps (tableOf w) (tableOf w .last) (tableOf w .used) (tableOf w .kinds) (set (tableOf w .contents) k x) (tableOf w .own) (tableOf w .cabins)
   unfolding tableOf withSteps
   store-contents k x l =
       same-fields _ _
@@ -142,10 +138,12 @@ module _ (w : List ℕ) where
       (part-below w targetsFrom (places * exits) _ x (omega arith))
       (part-below w bitsFrom (places * exits) _ x (omega arith))
       (part-below w countsFrom (places * counters) _ x (omega arith))
+      (part-below w cabinsFrom places _ x (omega arith))
+      (part-below w quotasFrom quotaNumbers _ x (omega arith))
 
   pub store-own : (k x : ℕ) → k < places →
       tableOf (set w (ownFrom + k) x) ≡
-      withSteps (tableOf w) (tableOf w .last) (tableOf w .used) (tableOf w .kinds) (tableOf w .contents) (set (tableOf w .own) k x)
+      withSteps (tableOf w) (tableOf w .last) (tableOf w .used) (tableOf w .kinds) (tableOf w .contents) (set (tableOf w .own) k x) (tableOf w .cabins)
   unfolding tableOf withSteps
   store-own k x l =
       same-fields _ _
@@ -158,6 +156,8 @@ module _ (w : List ℕ) where
       (part-below w targetsFrom (places * exits) _ x (omega arith))
       (part-below w bitsFrom (places * exits) _ x (omega arith))
       (part-below w countsFrom (places * counters) _ x (omega arith))
+      (part-below w cabinsFrom places _ x (omega arith))
+      (part-below w quotasFrom quotaNumbers _ x (omega arith))
 
   pub store-targets : (k x : ℕ) → k < (places * exits) →
       tableOf (set w (targetsFrom + k) x) ≡
@@ -174,6 +174,8 @@ module _ (w : List ℕ) where
       (part-store w targetsFrom (places * exits) k x l)
       (part-below w bitsFrom (places * exits) _ x (omega arith))
       (part-below w countsFrom (places * counters) _ x (omega arith))
+      (part-below w cabinsFrom places _ x (omega arith))
+      (part-below w quotasFrom quotaNumbers _ x (omega arith))
 
   pub store-bits : (k x : ℕ) → k < (places * exits) →
       tableOf (set w (bitsFrom + k) x) ≡
@@ -190,6 +192,8 @@ module _ (w : List ℕ) where
       (part-above w targetsFrom (places * exits) _ x (omega arith))
       (part-store w bitsFrom (places * exits) k x l)
       (part-below w countsFrom (places * counters) _ x (omega arith))
+      (part-below w cabinsFrom places _ x (omega arith))
+      (part-below w quotasFrom quotaNumbers _ x (omega arith))
 
   pub store-counts : (k x : ℕ) → k < (places * counters) →
       tableOf (set w (countsFrom + k) x) ≡
@@ -206,6 +210,43 @@ module _ (w : List ℕ) where
       (part-above w targetsFrom (places * exits) _ x (omega arith))
       (part-above w bitsFrom (places * exits) _ x (omega arith))
       (part-store w countsFrom (places * counters) k x l)
+      (part-below w cabinsFrom places _ x (omega arith))
+      (part-below w quotasFrom quotaNumbers _ x (omega arith))
+
+  pub store-cabins : (k x : ℕ) → k < places →
+      tableOf (set w (cabinsFrom + k) x) ≡
+      withSteps (tableOf w) (tableOf w .last) (tableOf w .used) (tableOf w .kinds) (tableOf w .contents) (tableOf w .own) (set (tableOf w .cabins) k x)
+  unfolding tableOf withSteps
+  store-cabins k x l =
+      same-fields _ _
+      (getD-set-other w _ 0 x 0 (omega arith))
+      (getD-set-other w _ 1 x 0 (omega arith))
+      (part-above w usedFrom places _ x (omega arith))
+      (part-above w kindsFrom places _ x (omega arith))
+      (part-above w contentsFrom places _ x (omega arith))
+      (part-above w ownFrom places _ x (omega arith))
+      (part-above w targetsFrom (places * exits) _ x (omega arith))
+      (part-above w bitsFrom (places * exits) _ x (omega arith))
+      (part-above w countsFrom (places * counters) _ x (omega arith))
+      (part-store w cabinsFrom places k x l)
+      (part-below w quotasFrom quotaNumbers _ x (omega arith))
+
+  pub store-quotas : (k x : ℕ) → k < quotaNumbers →
+      tableOf (set w (quotasFrom + k) x) ≡ withNumbers (tableOf w) (tableOf w .capacity) (tableOf w .last) (set (tableOf w .quotas) k x)
+  unfolding tableOf withNumbers
+  store-quotas k x l =
+      same-fields _ _
+      (getD-set-other w _ 0 x 0 (omega arith))
+      (getD-set-other w _ 1 x 0 (omega arith))
+      (part-above w usedFrom places _ x (omega arith))
+      (part-above w kindsFrom places _ x (omega arith))
+      (part-above w contentsFrom places _ x (omega arith))
+      (part-above w ownFrom places _ x (omega arith))
+      (part-above w targetsFrom (places * exits) _ x (omega arith))
+      (part-above w bitsFrom (places * exits) _ x (omega arith))
+      (part-above w countsFrom (places * counters) _ x (omega arith))
+      (part-above w cabinsFrom places _ x (omega arith))
+      (part-store w quotasFrom quotaNumbers k x l)
 
 pub shape-table : (w : List ℕ) → length w ≡ words → Shape (tableOf w)
 unfolding tableOf
@@ -218,34 +259,30 @@ shape-table w l =
       targets = part-size w targetsFrom (places * exits) (omega arith);
       bits = part-size w bitsFrom (places * exits) (omega arith);
       counts = part-size w countsFrom (places * counters) (omega arith);
+      cabins = part-size w cabinsFrom places (omega arith);
+      quotas = part-size w quotasFrom quotaNumbers (omega arith);
     }
 
--- the first part of what is left, then the rest
-split : (w : List ℕ) (from n rest : ℕ) → part from n w ++ part (from + n) rest w ≡ part from (n + rest) w
-split w from n rest =
-    ap (λ (l : List ℕ). take n (drop from w) ++ take rest l) (sym (drop-drop n from w)) ∙ sym (take-add n rest (drop from w))
+-- a part, and the rest behind it
+joined : (w : List ℕ) (from n rest : ℕ) {x : List ℕ} → x ≡ part (from + n) rest w → part from n w ++ x ≡ part from (n + rest) w
+joined w from n rest e =
+    ap (λ (l : List ℕ). part from n w ++ l) e ∙ ap (λ (l : List ℕ). take n (drop from w) ++ take rest l) (sym (drop-drop n from w)) ∙
+    sym (take-add n rest (drop from w))
 
 pub words-table : (w : List ℕ) → length w ≡ words → wordsOf (tableOf w) ≡ w
 unfolding tableOf wordsOf
 words-table w l =
-    let a = split w bitsFrom 512 256 in
-    let b = split w targetsFrom 512 768 in
-    let c = split w ownFrom 128 1280 in
-    let d = split w contentsFrom 128 1408 in
-    let e = split w kindsFrom 128 1536 in
-    let f = split w usedFrom 128 1664 in
-    ap (λ (x : List ℕ). getD w 0 0 ∷ getD w 1 0 ∷ (part 2 128 w ++ (part 130 128 w ++ (part 258 128 w ++ (part 386 128 w ++ (part 514 512 w ++ x))))))
-    a ∙
-    ap (λ (x : List ℕ). getD w 0 0 ∷ getD w 1 0 ∷ (part 2 128 w ++ (part 130 128 w ++ (part 258 128 w ++ (part 386 128 w ++ x))))) b ∙
-    ap (λ (x : List ℕ). getD w 0 0 ∷ getD w 1 0 ∷ (part 2 128 w ++ (part 130 128 w ++ (part 258 128 w ++ x)))) c ∙
-    ap (λ (x : List ℕ). getD w 0 0 ∷ getD w 1 0 ∷ (part 2 128 w ++ (part 130 128 w ++ x))) d ∙
-    ap (λ (x : List ℕ). getD w 0 0 ∷ getD w 1 0 ∷ (part 2 128 w ++ x)) e ∙
-    ap (λ (x : List ℕ). getD w 0 0 ∷ getD w 1 0 ∷ x) f ∙
+    ap (λ (x : List ℕ). getD w 0 0 ∷ getD w 1 0 ∷ x)
+    (joined w usedFrom 128 1808
+    (joined w kindsFrom 128 1680
+    (joined w contentsFrom 128 1552
+    (joined w ownFrom 128 1424
+    (joined w targetsFrom 512 912 (joined w bitsFrom 512 400 (joined w countsFrom 256 144 (joined w cabinsFrom 128 16 refl)))))))) ∙
     begin w l
   where
-    begin : (w : List ℕ) → length w ≡ words → getD w 0 0 ∷ getD w 1 0 ∷ part 2 1792 w ≡ w
+    begin : (w : List ℕ) → length w ≡ words → getD w 0 0 ∷ getD w 1 0 ∷ part 2 1936 w ≡ w
     begin w l =
-        ap (λ (x : List ℕ). getD w 0 0 ∷ getD w 1 0 ∷ x) (take-all 1792 (drop 2 w) (let d = length-drop 2 w in omega arith)) ∙
+        ap (λ (x : List ℕ). getD w 0 0 ∷ getD w 1 0 ∷ x) (take-all 1936 (drop 2 w) (let d = length-drop 2 w in omega arith)) ∙
         sym (drop-cons w 0 0 (omega arith) ∙ ap (λ (x : List ℕ). getD w 0 0 ∷ x) (drop-cons w 1 0 (omega arith)))
 
 pub table-words : (t : Table) → Shape t → tableOf (wordsOf t) ≡ t
@@ -272,7 +309,17 @@ table-words t s =
     (ap (take (places * counters))
     (past (t .used) _ places 1408 (s .used) ∙ past (t .kinds) _ places 1280 (s .kinds) ∙ past (t .contents) _ places 1152 (s .contents) ∙
     past (t .own) _ places 1024 (s .own) ∙ past (t .targets) _ 512 512 (s .targets) ∙ drop-at (t .bits) _ (places * exits) (s .bits)) ∙
-    take-all (places * counters) (t .counts) (let c = s .counts in omega arith))
+    take-at (t .counts) _ (places * counters) (s .counts))
+    (ap (take places)
+    (past (t .used) _ places 1664 (s .used) ∙ past (t .kinds) _ places 1536 (s .kinds) ∙ past (t .contents) _ places 1408 (s .contents) ∙
+    past (t .own) _ places 1280 (s .own) ∙ past (t .targets) _ 512 768 (s .targets) ∙ past (t .bits) _ 512 256 (s .bits) ∙
+    drop-at (t .counts) _ (places * counters) (s .counts)) ∙
+    take-at (t .cabins) _ places (s .cabins))
+    (ap (take quotaNumbers)
+    (past (t .used) _ places 1792 (s .used) ∙ past (t .kinds) _ places 1664 (s .kinds) ∙ past (t .contents) _ places 1536 (s .contents) ∙
+    past (t .own) _ places 1408 (s .own) ∙ past (t .targets) _ 512 896 (s .targets) ∙ past (t .bits) _ 512 384 (s .bits) ∙
+    past (t .counts) _ 256 128 (s .counts) ∙ drop-at (t .cabins) _ places (s .cabins)) ∙
+    take-all quotaNumbers (t .quotas) (let c = s .quotas in omega arith))
   where
     past : (p q : List ℕ) (n m : ℕ) → length p ≡ n → drop (n + m) (p ++ q) ≡ drop m q
     past p q n m e = ap (λ (k : ℕ). drop (k + m) (p ++ q)) (sym e) ∙ drop-append-add p q m
@@ -284,7 +331,7 @@ became w v t b l = sym (words-table v (b .size ∙ l)) ∙ ap wordsOf (b .table)
 -- the words that are erased are those of a blank table
 blank-shape : (capacity last : ℕ) → Shape (blankTable capacity last)
 unfolding blankTable
-blank-shape capacity last = record { used = refl; kinds = refl; contents = refl; own = refl; targets = refl; bits = refl; counts = refl }
+blank-shape capacity last = record { used = refl; kinds = refl; contents = refl; own = refl; targets = refl; bits = refl; counts = refl; cabins = refl; quotas = refl }
 
 pub erased-table : (w : List ℕ) (capacity last : ℕ) → w ≡ wordsOf (blankTable capacity last) → tableOf w ≡ blankTable capacity last
 erased-table w capacity last e = ap tableOf e ∙ table-words (blankTable capacity last) (blank-shape capacity last)

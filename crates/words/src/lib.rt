@@ -4,14 +4,14 @@ ghost use mathlib.Core.Path.{_≡_};
 ghost use Prim.Native.Nat.{_*_, _<_};
 ghost use lib.ListN.{length, getD, set};
 ghost use lib.Seq.{sets};
-ghost use Rattle.table.specs.Table.{places, exits, counters, exitPlace, inUse, kindOf, contentOf, ownBit, targetOf, linkBit, counterOf, withLinks, withSteps, withNumbers};
+ghost use Rattle.table.specs.Table.{places, exits, counters, quotaNumbers, exitPlace, inUse, kindOf, contentOf, ownBit, cabinOf, targetOf, linkBit, counterOf, withLinks, withSteps, withNumbers};
 ghost use Rattle.table.specs.Calls.{lowered, raised, relink, withStep};
 ghost use Rattle.table.specs.Clear.{flipped, blanked};
 ghost use Rattle.words.specs.Words.{words, tableOf, wordsOf, blankTable, withFields, Becomes, Relinkable};
 use table::Fields;
 
 // The words of a table.
-pub const WORDS: usize = 1794;
+pub const WORDS: usize = 1938;
 
 // A table has places for 128 steps; a step has four exits and two counters.
 pub const PLACES: usize = 128;
@@ -19,6 +19,11 @@ pub const PLACES: usize = 128;
 pub const EXITS: usize = 4;
 
 pub const COUNTERS: usize = 2;
+// Eight cabins share a table (document 02, W5); each has a guarantee and a limit in the list of quotas.
+pub const CABINS: usize = 8;
+
+pub const QUOTAS: usize = 16;
+
 // The places of all exits, and of all counters.
 pub const LINKS: usize = 512;
 
@@ -38,6 +43,10 @@ const TARGETS_FROM: usize = 514;
 const BITS_FROM: usize = 1026;
 
 const COUNTS_FROM: usize = 1538;
+
+const CABINS_FROM: usize = 1794;
+
+const QUOTAS_FROM: usize = 1922;
 
 // The refusals, by the numbers of document 01, "Reasons for no".
 // Table not sound.
@@ -64,8 +73,14 @@ pub const BAD_RESULT: u16 = 10;
 pub const TOO_SHORT: u16 = 11;
 // Not an image that is accepted.
 pub const NOT_ACCEPTED: u16 = 12;
-// The capacity is below the steps in use (document 02, W2).
+// The capacity is below the steps in use (document 02, W2), or the charges do not fit the new quotas (W5).
 pub const DOES_NOT_FIT: u16 = 13;
+// The cabin is at its limit (W5).
+pub const CABIN_AT_LIMIT: u16 = 14;
+// Only steps reserved for other cabins are free (W5).
+pub const STEPS_RESERVED: u16 = 15;
+// A cabin above 7, or a bad list of guarantees and limits (W5).
+pub const BAD_CABINS: u16 = 16;
 
 // The same number, as an index.
 pub fn wide(x: u16) -> usize
@@ -79,6 +94,13 @@ pub fn sized(t: &[u16; WORDS])
     ensures { λ r. ⌜ length (now (t .entry)) ≡ words ⌝ }
 {
     let _all = &t[..];
+}
+
+// Says how many numbers a lent list of quotas has; no machine code comes of it.
+pub fn listed(quotas: &[u16; QUOTAS])
+    ensures { λ r. ⌜ length (now (quotas .entry)) ≡ quotaNumbers ⌝ }
+{
+    let _all = &quotas[..];
 }
 
 pub fn capacity(t: &[u16; WORDS]) -> u16
@@ -129,6 +151,22 @@ pub fn own_at(t: &[u16; WORDS], i: usize) -> u16
     ensures { λ r. ⌜ r ≡ ownBit (tableOf (now (t .entry))) i ⌝ }
 {
     t[OWN_FROM + i]
+}
+
+// The cabin that added step i.
+pub fn cabin_at(t: &[u16; WORDS], i: usize) -> u16
+    requires { ⌜ i < places ⌝ }
+    ensures { λ r. ⌜ r ≡ cabinOf (tableOf (now (t .entry))) i ⌝ }
+{
+    t[CABINS_FROM + i]
+}
+
+// Number k of the quotas: of each cabin its guarantee, then its limit.
+pub fn quota_in(t: &[u16; WORDS], k: usize) -> u16
+    requires { ⌜ k < quotaNumbers ⌝ }
+    ensures { λ r. ⌜ r ≡ getD (tableOf (now (t .entry)) .quotas) k 0 ⌝ }
+{
+    t[QUOTAS_FROM + k]
 }
 
 // The target in the exit at place p; 0 is an empty exit.
@@ -188,10 +226,10 @@ pub fn erase(t: &mut [u16; WORDS], capacity: u16, last: u16)
     t[1] = last;
 }
 
-// Step n is in use, of that kind and content, as the number last given.
-pub fn take_step(t: &mut [u16; WORDS], n: u16, kind: u16, content: u16)
+// Step n is in use, of that kind, content and cabin, as the number last given.
+pub fn take_step(t: &mut [u16; WORDS], n: u16, kind: u16, content: u16, cabin: u16)
     requires { ⌜ n < places ⌝ }
-    ensures { λ _. ⌜ Becomes (now (t .entry)) (now (t .exit)) (withStep (tableOf (now (t .entry))) n kind content) ⌝ }
+    ensures { λ _. ⌜ Becomes (now (t .entry)) (now (t .exit)) (withStep (tableOf (now (t .entry))) n kind content cabin) ⌝ }
 {
     sized(t);
     let i = wide(n);
@@ -199,28 +237,54 @@ pub fn take_step(t: &mut [u16; WORDS], n: u16, kind: u16, content: u16)
     t[USED_FROM + i] = 1;
     t[KINDS_FROM + i] = kind;
     t[CONTENTS_FROM + i] = content;
+    t[CABINS_FROM + i] = cabin;
 }
 
-// The capacity and the last number given are set; the steps stay.
+// The capacity and the last number given are set; the steps and the quotas stay.
 pub fn put_numbers(t: &mut [u16; WORDS], capacity: u16, last: u16)
-    ensures { λ _. ⌜ Becomes (now (t .entry)) (now (t .exit)) (withNumbers (tableOf (now (t .entry))) capacity last) ⌝ }
+    ensures { λ _. ⌜ Becomes (now (t .entry)) (now (t .exit)) (withNumbers (tableOf (now (t .entry))) capacity last (tableOf (now (t .entry)) .quotas)) ⌝ }
 {
     sized(t);
     t[0] = capacity;
     t[1] = last;
 }
 
+// The quotas are set; all else stays.
+pub fn put_quotas(t: &mut [u16; WORDS], quotas: &[u16; QUOTAS])
+    ensures { λ _. ⌜ Becomes (now (t .entry)) (now (t .exit)) (withNumbers (tableOf (now (t .entry))) (tableOf (now (t .entry)) .capacity)
+        (tableOf (now (t .entry)) .last) (now (quotas .entry))) ⌝ }
+{
+    sized(t);
+    listed(quotas);
+    let mut k: usize = 0;
+    // The numbers below k are set.
+    while k < QUOTAS {
+        t[QUOTAS_FROM + k] = quotas[k];
+        k += 1;
+    }
+}
+
 // Step i is in use where `used` is 1, free where it is 0, with these fields; its links, its counters and the number last given stay.
-pub fn put_step(t: &mut [u16; WORDS], i: usize, used: u16, kind: u16, content: u16, own: u16)
+pub fn put_step(
+    t: &mut [u16; WORDS],
+    i: usize,
+    used: u16,
+    kind: u16,
+    content: u16,
+    own: u16,
+    cabin: u16,
+)
     requires { ⌜ i < places ⌝ }
     ensures { λ _. ⌜ Becomes (now (t .entry)) (now (t .exit)) (withSteps (tableOf (now (t .entry))) (tableOf (now (t .entry)) .last)
         (set (tableOf (now (t .entry)) .used) i used) (set (tableOf (now (t .entry)) .kinds) i kind)
-        (set (tableOf (now (t .entry)) .contents) i content) (set (tableOf (now (t .entry)) .own) i own)) ⌝ }
+        (set (tableOf (now (t .entry)) .contents) i content) (set (tableOf (now (t .entry)) .own) i own)
+        (set (tableOf (now (t .entry)) .cabins) i cabin)) ⌝ }
 {
     t[USED_FROM + i] = used;
     t[KINDS_FROM + i] = kind;
     t[CONTENTS_FROM + i] = content;
     t[OWN_FROM + i] = own;
+    t[CABINS_FROM + i] = cabin;
 }
 
 // The bit of its own that step i has is turned.
@@ -236,7 +300,7 @@ pub fn blank_step(t: &mut [u16; WORDS], i: usize)
     requires { ⌜ i < places ⌝ }
     ensures { λ _. ⌜ Becomes (now (t .entry)) (now (t .exit)) (blanked (tableOf (now (t .entry))) i) ⌝ }
 {
-    put_step(t, i, 0, 0, 0, 0);
+    put_step(t, i, 0, 0, 0, 0, 0);
     put_counts(t, i, [0u16; COUNTERS]);
 }
 
@@ -284,7 +348,7 @@ pub fn put_fields(t: &mut [u16; WORDS], i: usize, used: u16, f: Fields)
     let targets = f.targets;
     let bits = f.bits;
     let counts = f.counts;
-    put_step(t, i, used, f.kind, f.content, f.own);
+    put_step(t, i, used, f.kind, f.content, f.own, f.cabin);
     put_links(t, i, targets, bits);
     put_counts(t, i, counts);
 }

@@ -54,12 +54,11 @@ pub fn change(before: &View, after: &View) -> Change {
 /// The same, where the two numbers of the call's answer are those that the tables show; else what differs.
 pub fn checked(before: &View, after: &View, answer: (u16, u16)) -> Result<Change, String> {
     let change = change(before, after);
-    let in_use = after.steps.len();
     let shown = match &change {
         Change::Added(held) => (held.link.target.into(), 0),
         Change::Linked(_) => (0, 0),
         Change::Cleared(clearing) => (clearing.doubtful().len(), clearing.freed.len()),
-        Change::Nothing => (in_use, usize::from(after.capacity).saturating_sub(in_use)),
+        Change::Nothing => (after.steps.len(), after.free()),
     };
     if shown == (answer.0.into(), answer.1.into()) {
         return Ok(change);

@@ -1,19 +1,35 @@
 //! The first rule of docs/IMAGE.md, "Acceptance", that an image breaks, and the byte where. Whether an image is accepted is for the library to say. It
-//! does not say why it refused one; this finds what to look at. Ranges of capacities, kinds and contents are asked of the library's calls.
+//! does not say why it refused one; this finds what to look at. Ranges of capacities, kinds and contents, and lists of guarantees and limits, are asked
+//! of the library's calls.
 
 use crate::view::View;
 use crate::words::count;
 use std::collections::BTreeSet;
-use telephone::{Exit, Kind, Link, Step, Table, EXITS, PLACES};
+use telephone::{sole_quotas, Exit, Kind, Link, Quota, Quotas, Step, Table, CABINS, EXITS, PLACES};
 
-/// Bytes of the header and of a step record, and the kinds of both.
-const HEADER: usize = 10;
-const STEP: usize = 20;
-const HEADER_KIND: u16 = 1;
-const STEP_KIND: u16 = 2;
+/// An edition of the format: bytes of the header and of a step record, and the kinds of both.
+pub struct Edition {
+    pub number: u8,
+    header: usize,
+    header_kind: u16,
+    step: usize,
+    step_kind: u16,
+}
+
+const EDITIONS: [Edition; 2] = [
+    Edition { number: 1, header: 10, header_kind: 1, step: 20, step_kind: 2 },
+    Edition { number: 2, header: 42, header_kind: 3, step: 22, step_kind: 4 },
+];
 
 /// Bytes of the longest image whose length fits some count of steps.
-pub const LONGEST: usize = HEADER + STEP * u16::MAX as usize;
+pub const LONGEST: usize = EDITIONS[1].header + EDITIONS[1].step * u16::MAX as usize;
+
+/// Bytes of the length and the kind of a record.
+const FRAME: usize = 4;
+
+/// Where the list of guarantees and limits begins in a header, and where the cabin stands in a step record. Records of edition 1 end there.
+const LIST: usize = 10;
+const CABIN: usize = 20;
 
 /// A content that every kind but the alarm's has.
 const SOME_CONTENT: u16 = 1;
@@ -26,7 +42,7 @@ pub struct Fault {
     pub words: String,
 }
 
-fn fault(rule: u8, byte: usize, words: String) -> Result<(), Fault> {
+fn fault<T>(rule: u8, byte: usize, words: String) -> Result<T, Fault> {
     Err(Fault { rule, byte, words })
 }
 
@@ -36,16 +52,22 @@ pub fn first_fault(image: &[u8]) -> Option<Fault> {
 }
 
 fn rules(image: &[u8]) -> Result<(), Fault> {
-    framing(image)?;
-    let records: Vec<Record> =
-        (HEADER..image.len()).step_by(STEP).map(|at| Record::read(image, at)).collect();
+    let edition = edition(image)?;
+    framing(image, edition)?;
+    let places = (edition.header..image.len()).step_by(edition.step);
+    let records: Vec<Record> = places.map(|at| Record::read(image, at, edition)).collect();
     numbers_and_bits(&records)?;
     let (capacity, last) = (word(image, 4), word(image, 6));
     numbers_below(capacity, last, &records)?;
-    kinds(&records)?;
+    kinds(&records, edition)?;
     targets(&records)?;
+    let quotas = quotas(image, edition, capacity);
     let steps = records.iter().map(|record| (record.number, record.step())).collect();
-    strong_links(&records, &View { capacity, last, steps })
+    let view = View { capacity, last, quotas, steps };
+    strong_links(&records, &view)?;
+    list(&view)?;
+    cabins(&records)?;
+    charges(&records, &view)
 }
 
 /// The word at a byte; 0 past the end.
@@ -56,44 +78,83 @@ fn word(image: &[u8], at: usize) -> u16 {
     }
 }
 
-/// Rules 1 to 3: lengths and kinds of the records.
-fn framing(image: &[u8]) -> Result<(), Fault> {
-    let length = image.len();
-    if length < HEADER {
-        return fault(1, length, format!("the image ends within its header of {HEADER} bytes"));
+/// Rule 1: the image begins with a header, whose length and kind are those of an edition.
+pub fn edition(image: &[u8]) -> Result<&'static Edition, Fault> {
+    let (length, kind) = (word(image, 0), word(image, 2));
+    if image.len() < FRAME {
+        return fault(1, image.len(), "the image ends within its header".to_string());
     }
-    let steps = usize::from(word(image, 8));
-    let (end, said) = (HEADER + STEP * steps, count(steps, "step"));
-    if length < end {
-        return fault(1, length, format!("the image ends here, and with {said} at byte {end}"));
+    let Some(edition) = EDITIONS.iter().find(|edition| edition.header == usize::from(length))
+    else {
+        let lengths = EDITIONS.each_ref().map(|edition| edition.header.to_string()).join(" or ");
+        return fault(1, 0, format!("a header has length {lengths}, and here is {length}"));
+    };
+    let wanted = edition.header_kind;
+    if kind != wanted {
+        let words = format!("a header of length {length} has kind {wanted}, and here is {kind}");
+        return fault(1, 2, words);
     }
-    if length > end {
-        return fault(1, end, format!("the image goes on here, and ends with {said}"));
+    if image.len() < edition.header {
+        let words = format!("the image ends within its header of {length} bytes");
+        return fault(1, image.len(), words);
     }
-    frame(image, 2, 0, (HEADER, HEADER_KIND), "header")?;
-    (HEADER..end).step_by(STEP).try_for_each(|at| frame(image, 3, at, (STEP, STEP_KIND), "step"))
+    Ok(edition)
 }
 
-/// The length and the kind of one record.
-fn frame(
-    image: &[u8],
-    rule: u8,
-    at: usize,
-    (length, kind): (usize, u16),
-    name: &str,
-) -> Result<(), Fault> {
-    let (given, said) = (word(image, at), word(image, at + 2));
-    if usize::from(given) != length {
-        return fault(
-            rule,
-            at,
-            format!("a {name} record has length {length}, and here is {given}"),
-        );
+/// Rules 2 and 3: the lengths and kinds of the step records, as far as the image goes, and its length.
+fn framing(image: &[u8], edition: &Edition) -> Result<(), Fault> {
+    let (length, steps) = (image.len(), usize::from(word(image, 8)));
+    let (end, said) = (edition.header + edition.step * steps, count(steps, "step"));
+    let places = (edition.header..end).step_by(edition.step);
+    places.take_while(|at| at + FRAME <= length).try_for_each(|at| frame(image, at, edition))?;
+    if length < end {
+        return fault(3, length, format!("the image ends here, and with {said} at byte {end}"));
     }
-    if said != kind {
-        return fault(rule, at + 2, format!("a {name} record has kind {kind}, and here is {said}"));
+    if length > end {
+        return fault(3, end, format!("the image goes on here, and ends with {said}"));
     }
     Ok(())
+}
+
+/// The length and the kind of a step record.
+fn frame(image: &[u8], at: usize, edition: &Edition) -> Result<(), Fault> {
+    let (length, kind) = (word(image, at), word(image, at + 2));
+    let Edition { number, step, step_kind, .. } = *edition;
+    let is = |of: &&Edition| (of.step, of.step_kind) == (length.into(), kind);
+    let record = format!("a step record of edition {number}");
+    match EDITIONS.iter().find(is) {
+        Some(of) if of.number == number => Ok(()),
+        Some(of) => {
+            let words =
+                format!("a step record of edition {} in an image of edition {number}", of.number);
+            fault(2, at, words)
+        }
+        None if usize::from(length) != step => {
+            fault(2, at, format!("{record} has length {step}, and here is {length}"))
+        }
+        None => fault(2, at + 2, format!("{record} has kind {step_kind}, and here is {kind}")),
+    }
+}
+
+/// The guarantees and limits that an image says, or that one of edition 1 is loaded with.
+fn quotas(image: &[u8], edition: &Edition, capacity: u16) -> Quotas {
+    if edition.header <= LIST {
+        return sole_quotas(capacity);
+    }
+    core::array::from_fn(|cabin| Quota {
+        guarantee: word(image, guarantee_byte(cabin)),
+        limit: word(image, limit_byte(cabin)),
+    })
+}
+
+/// The byte of the guarantee of a cabin.
+fn guarantee_byte(cabin: usize) -> usize {
+    LIST + 4 * cabin
+}
+
+/// The byte of the limit of a cabin.
+fn limit_byte(cabin: usize) -> usize {
+    guarantee_byte(cabin) + 2
 }
 
 /// A step record, by the byte where it begins.
@@ -104,13 +165,16 @@ struct Record {
     content: u16,
     bits: u16,
     targets: [u16; EXITS],
+    cabin: u16,
 }
 
 impl Record {
-    fn read(image: &[u8], at: usize) -> Record {
+    fn read(image: &[u8], at: usize, edition: &Edition) -> Record {
         let field = |place: usize| word(image, at + place);
         let targets = core::array::from_fn(|exit| field(12 + 2 * exit));
-        Record { at, number: field(4), kind: field(6), content: field(8), bits: field(10), targets }
+        let cabin = if edition.step <= CABIN { 0 } else { field(CABIN) };
+        let (number, kind, content, bits) = (field(4), field(6), field(8), field(10));
+        Record { at, number, kind, content, bits, targets, cabin }
     }
 
     fn bit(&self, place: usize) -> u16 {
@@ -126,7 +190,7 @@ impl Record {
         let link = |exit: usize| Link { target: self.targets[exit], bit: self.bit(exit) };
         let exits = core::array::from_fn(|exit| (self.targets[exit] != 0).then(|| link(exit)));
         let kind = Kind::of_numbers(self.kind, self.content);
-        Step { kind, own: self.bit(EXITS), exits, counts: [0; 2] }
+        Step { kind, own: self.bit(EXITS), exits, counts: [0; 2], cabin: self.cabin }
     }
 }
 
@@ -157,7 +221,7 @@ fn numbers_and_bits(records: &[Record]) -> Result<(), Fault> {
 
 /// Rule 6: the capacity, and what is below it.
 fn numbers_below(capacity: u16, last: u16, records: &[Record]) -> Result<(), Fault> {
-    if let Err(refusal) = Table::fresh(capacity) {
+    if let Err(refusal) = Table::fresh(capacity, &Quotas::default()) {
         return fault(6, 4, format!("the capacity is {capacity}: {refusal}"));
     }
     if last >= capacity {
@@ -178,9 +242,9 @@ fn numbers_below(capacity: u16, last: u16, records: &[Record]) -> Result<(), Fau
 }
 
 /// Rule 7: step 0 is the alarm, and every other step has a kind and a content that can be added.
-fn kinds(records: &[Record]) -> Result<(), Fault> {
+fn kinds(records: &[Record], edition: &Edition) -> Result<(), Fault> {
     if records.iter().all(|record| record.number != 0) {
-        return fault(7, HEADER, "step 0 has no record".to_string());
+        return fault(7, edition.header, "step 0 has no record".to_string());
     }
     for record in records {
         let Record { at, number, kind, content, .. } = *record;
@@ -201,7 +265,8 @@ fn kinds(records: &[Record]) -> Result<(), Fault> {
 /// Whether the library adds a step of that kind and content.
 fn can_be_added(kind: u16, content: u16) -> bool {
     let kind = Kind::of_numbers(kind, content);
-    Table::fresh(2).and_then(|mut table| table.add(0, Exit::Answered, kind)).is_ok()
+    let table = Table::fresh(2, &sole_quotas(2));
+    table.and_then(|mut table| table.add(0, Exit::Answered, kind, 0)).is_ok()
 }
 
 /// Rules 8 and 9: every link leads to a step with a record, and an empty exit has bit 0.
@@ -245,4 +310,65 @@ fn strong_links(records: &[Record], view: &View) -> Result<(), Fault> {
         ),
         None => Ok(()),
     }
+}
+
+/// Rule 11: no guarantee is above its limit, and all together are below the capacity. The library is asked with more and more of the list.
+fn list(view: &View) -> Result<(), Fault> {
+    let capacity = view.capacity;
+    let mut first = Quotas::default();
+    for (cabin, &quota) in view.quotas.iter().enumerate() {
+        first[cabin] = quota;
+        if Table::fresh(capacity, &first).is_err() {
+            let Quota { guarantee, limit } = quota;
+            let said = format!("cabin {cabin} is guaranteed {guarantee}");
+            return match guarantee > limit {
+                true => fault(11, limit_byte(cabin), format!("{said}, and its limit is {limit}")),
+                false => {
+                    let words =
+                        format!("{said}, and all together are not below the capacity, {capacity}");
+                    fault(11, guarantee_byte(cabin), words)
+                }
+            };
+        }
+    }
+    Ok(())
+}
+
+/// Rule 12: cabins are 0 to 7, and 0 for step 0.
+fn cabins(records: &[Record]) -> Result<(), Fault> {
+    for &Record { at, number, cabin, .. } in records {
+        let said = format!("the cabin of step {number} is {cabin}");
+        if number == 0 && cabin != 0 {
+            return fault(12, at + CABIN, format!("{said}, and step 0 is charged to none"));
+        }
+        if usize::from(cabin) >= CABINS {
+            return fault(12, at + CABIN, format!("{said}, which is above 7"));
+        }
+    }
+    Ok(())
+}
+
+/// Rules 13 and 14: no cabin has more steps than its limit, and the free steps are enough for what is still owed.
+fn charges(records: &[Record], view: &View) -> Result<(), Fault> {
+    for (cabin, &Quota { limit, .. }) in view.quotas.iter().enumerate() {
+        let over: Vec<u16> = view.charged(cabin).skip(limit.into()).collect();
+        if let Some(record) = records.iter().find(|record| over.contains(&record.number)) {
+            let words =
+                format!("step {} passes the limit of cabin {cabin}, {limit}", record.number);
+            return fault(13, record.at + CABIN, words);
+        }
+    }
+    let mut left = view.free();
+    for cabin in 0..CABINS {
+        let owed = view.owed(cabin);
+        if owed > left {
+            let words = format!(
+                "cabin {cabin} is still owed {}, and {left} free ones are left for it",
+                count(owed, "step")
+            );
+            return fault(14, guarantee_byte(cabin), words);
+        }
+        left -= owed;
+    }
+    Ok(())
 }

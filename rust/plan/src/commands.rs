@@ -6,20 +6,21 @@ use crate::files::{
 };
 use crate::{number, Failure, Request};
 use plan::change::{checked, Change};
+use plan::check::edition;
 use plan::diff::{diff, Verdict};
 use plan::draw::{as_dot, as_svg};
 use plan::pages;
 use plan::view::View;
 use plan::words::{count, refused};
-use std::ffi::OsStr;
+use std::ffi::{OsStr, OsString};
 use std::io::{self, BufRead, BufReader, IsTerminal, Read};
 use std::path::Path;
-use telephone::{raw, Refusal, Table};
+use telephone::{raw, sole_quotas, Quota, Quotas, Refusal, Table, CABINS};
 
 /// A command of the program.
 pub struct Command {
     pub name: &'static str,
-    /// The words that it takes; those in brackets may be left out.
+    /// The words that it takes; those in brackets may be left out, and one with dots may be given for each cabin.
     words: &'static [&'static str],
     /// The options that it has, each with its value.
     pub options: &'static [&'static str],
@@ -40,16 +41,20 @@ impl Command {
     /// Whether it takes so many words.
     pub fn takes(&self, words: usize) -> bool {
         let least = self.words.iter().filter(|word| !word.starts_with('[')).count();
-        (least..=self.words.len()).contains(&words)
+        let most = self.words.iter().map(|word| if word.contains("..") { CABINS } else { 1 }).sum();
+        (least..=most).contains(&words)
     }
 }
 
 const STORE: &str = "-o FILE";
 
-pub const COMMANDS: [Command; 10] = [
+/// Guarantees and limits.
+const LIST: &str = "[G/L ..]";
+
+pub const COMMANDS: [Command; 11] = [
     Command {
         name: "fresh",
-        words: &["CAPACITY"],
+        words: &["CAPACITY", LIST],
         options: &[STORE],
         gist: "a new plan with the alarm alone",
         help: FRESH,
@@ -64,10 +69,18 @@ pub const COMMANDS: [Command; 10] = [
         run: key,
     },
     Command {
+        name: "add",
+        words: &["IMAGE", "STEP", "EXIT", "KIND", "CONTENT", "CABIN"],
+        options: &[STORE],
+        gist: "a step added for a cabin",
+        help: ADD,
+        run: add,
+    },
+    Command {
         name: "show",
         words: &["IMAGE"],
         options: &[],
-        gist: "every step in words",
+        gist: "every cabin and every step in words",
         help: SHOW,
         run: show,
     },
@@ -105,7 +118,7 @@ pub const COMMANDS: [Command; 10] = [
     },
     Command {
         name: "squeeze",
-        words: &["IMAGE", "CAPACITY"],
+        words: &["IMAGE", "CAPACITY", LIST],
         options: &[STORE],
         gist: "the plan in a table of another capacity",
         help: SQUEEZE,
@@ -144,7 +157,14 @@ line changes nothing and the others count.
 To lead an exit to a step, copy an exit that leads there already. Steps and
 contents have three digits, exits and kinds one. Exits: 0 answered, 1 engaged,
 2 no reply, 3 line fault. Kinds: 1 contact (0 to 99, 0 is the primary),
-2 message (0 to 15), 3 wait (1 to 600 seconds).
+2 message (0 to 15), 3 wait (1 to 600 seconds). Key lines add for cabin 0.
+";
+
+const ADD: &str = "\
+Adds a step at an empty exit of STEP and charges it to CABIN, 0 to 7. What was
+added is said on standard error; the new image goes to FILE, which may be IMAGE
+itself, or to standard output; at a terminal it goes nowhere. Exits, kinds and
+contents are those of key lines: plan key --help names them.
 ";
 
 const CLEAR: &str = "\
@@ -167,35 +187,43 @@ moves. N is 0 to 65535; where it is not given, it is 128 for each result and
 
 const SQUEEZE: &str = "\
 Renumbers the steps in use from 0 upward in their order and gives the table
-that capacity. Which step has which number then is said on standard error; the
-image goes to FILE, which may be IMAGE itself, or to standard output.
+that capacity, and the guarantees and limits that G/L says, as for plan fresh.
+Where none is given, they stay as they are; only a plan that cabin 0 has to
+itself gets those of the new capacity. Which step has which number then is said
+on standard error; the image goes to FILE, which may be IMAGE itself, or to
+standard output.
 ";
 
 const DRAW: &str = "\
 A picture of the plan as SVG, which a browser opens: the alarm on top, strong
-links solid, weak ones dashed. With --dot the same for Graphviz. It goes to
-FILE, or to standard output.
+links solid, weak ones dashed. A step says its cabin where that is not 0. With
+--dot the same for Graphviz. It goes to FILE, or to standard output.
 ";
 
 const DIFF: &str = "\
 Whether two images are one table, one plan with other strengths, or two plans;
-then step by step how they differ. A link is strong if its bit is the own bit
-of the step that it leads to. Status 0 where they are one table, 1 where not.
+then cabin by cabin and step by step how they differ. A link is strong if its
+bit is the own bit of the step that it leads to. Status 0 where they are one
+table, whatever the editions of the images, 1 where not.
 ";
 
 const CHECK: &str = "\
-Accepted, or the first rule of docs/IMAGE.md that is broken, with the byte to
-look at. Status 0 where it is accepted, 1 where not.
+Accepted, with its edition, or the first rule of docs/IMAGE.md that is broken,
+with the byte to look at. Status 0 where it is accepted, 1 where not.
 ";
 
 const FRESH: &str = "\
-Makes a table of that capacity, 1 to 128, with step 0 alone in use. The image
-goes to FILE, or to standard output.
+Makes a table of that capacity, 1 to 128, with step 0 alone in use. G/L is a
+cabin's guarantee and limit in steps, as 10/40; up to eight are given, cabin 0
+first, and a cabin with none has 0/0. No guarantee is above its limit, and all
+together are below the capacity. Where none is given, cabin 0 has the plan to
+itself: both are CAPACITY less 1. The image goes to FILE, or to standard output.
 ";
 
 const SHOW: &str = "\
-Every step in use with its four exits, each with its target and strength; then
-the free numbers.
+Every cabin that may have steps with its guarantee, its limit, the steps charged
+to it and those still owed to it; every step in use with its cabin and its four
+exits, each with its target and strength; then the free numbers.
 ";
 
 const WHY: &str = "\
@@ -220,10 +248,68 @@ fn call(
     Ok((Table::from_raw(after)?, (reply.first, reply.second)))
 }
 
+/// Guarantees and limits from cabin 0 on; the other list where none are given.
+fn list(words: &[OsString], other: Quotas) -> Result<Quotas, Failure> {
+    if words.is_empty() {
+        return Ok(other);
+    }
+    let mut quotas = Quotas::default();
+    for (quota, word) in quotas.iter_mut().zip(words) {
+        *quota = pair(word)?;
+    }
+    Ok(quotas)
+}
+
+/// The list of a table in another capacity: where cabin 0 has the plan to itself, it keeps it so.
+fn kept_list(view: &View, capacity: u16) -> Quotas {
+    if view.quotas == sole_quotas(view.capacity) {
+        sole_quotas(capacity)
+    } else {
+        view.quotas
+    }
+}
+
+/// A guarantee and a limit.
+fn pair(word: &OsStr) -> Result<Quota, Failure> {
+    let Some((guarantee, limit)) = word.to_str().and_then(|word| word.split_once('/')) else {
+        return Err(format!(
+            "a guarantee and a limit are given as 10/40, and not as {}",
+            shown(word)
+        ));
+    };
+    let guarantee = number("the guarantee", OsStr::new(guarantee))?;
+    Ok(Quota { guarantee, limit: number("the limit", OsStr::new(limit))? })
+}
+
+/// The cabins, where the command line says what they get.
+fn said_cabins(view: &View, words: &[OsString]) -> String {
+    if words.is_empty() {
+        String::new()
+    } else {
+        pages::cabins(view)
+    }
+}
+
 fn fresh(request: &Request) -> Result<u8, Failure> {
-    let capacity = number("the capacity", &request.words[0])?;
-    let table = Table::fresh(capacity).map_err(refused)?;
-    say(&format!("{}\n", pages::numbers(&View::of(&table))))?;
+    let (capacity, pairs) = (number("the capacity", &request.words[0])?, &request.words[1..]);
+    let table = Table::fresh(capacity, &list(pairs, sole_quotas(capacity))?).map_err(refused)?;
+    let view = View::of(&table);
+    say(&format!("{}\n{}", pages::numbers(&view), said_cabins(&view, pairs)))?;
+    give_image(request, &table)?;
+    Ok(0)
+}
+
+fn add(request: &Request) -> Result<u8, Failure> {
+    let (table, before) = viewed(&request.words[0])?;
+    let step = number("the step", &request.words[1])?;
+    let exit = number("the exit", &request.words[2])?;
+    let kind = number("the kind", &request.words[3])?;
+    let content = number("the content", &request.words[4])?;
+    let cabin = number("the cabin", &request.words[5])?;
+    let added = call(&table, |table| raw::add(table, step, exit, kind, content, cabin));
+    let (table, answer) = added.map_err(refused)?;
+    let after = View::of(&table);
+    say(&format!("{}\n", pages::answered(&after, &checked(&before, &after, answer)?)))?;
     give_image(request, &table)?;
     Ok(0)
 }
@@ -288,9 +374,12 @@ fn results(word: &OsStr) -> Result<Vec<u8>, Failure> {
 
 fn squeeze(request: &Request) -> Result<u8, Failure> {
     let (table, before) = viewed(&request.words[0])?;
-    let capacity = number("the capacity", &request.words[1])?;
-    let (table, _) = call(&table, |table| raw::squeeze(table, capacity)).map_err(refused)?;
-    say(&pages::squeezed(&before, &View::of(&table)))?;
+    let (capacity, pairs) = (number("the capacity", &request.words[1])?, &request.words[2..]);
+    let quotas = list(pairs, kept_list(&before, capacity))?;
+    let squeezed = call(&table, |table| raw::squeeze(table, capacity, &quotas));
+    let (table, _) = squeezed.map_err(refused)?;
+    let after = View::of(&table);
+    say(&(pages::squeezed(&before, &after) + &said_cabins(&after, pairs)))?;
     give_image(request, &table)?;
     Ok(0)
 }
@@ -311,7 +400,9 @@ fn check(request: &Request) -> Result<u8, Failure> {
     let bytes = image_bytes(Path::new(&request.words[0]))?;
     match Table::load(&bytes) {
         Ok(table) => {
-            print(&format!("accepted: {}\n", pages::numbers(&View::of(&table))))?;
+            let edition = edition(&bytes).map_err(|fault| fault.words)?.number;
+            let numbers = pages::numbers(&View::of(&table));
+            print(&format!("accepted, edition {edition}: {numbers}\n"))?;
             Ok(0)
         }
         Err(refusal) => {

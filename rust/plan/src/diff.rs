@@ -1,7 +1,7 @@
 //! How two tables differ.
 
 use crate::view::{Held, View};
-use crate::words::{named, strength};
+use crate::words::{for_cabin, named, strength};
 use std::cmp::Reverse;
 use std::collections::BTreeSet;
 use std::fmt::Display;
@@ -37,6 +37,11 @@ pub fn diff(a: &View, b: &View) -> (Verdict, Vec<String>) {
     let mut found = Found::default();
     found.unless_same(Verdict::OtherPlans, "capacity", a.capacity, b.capacity);
     found.unless_same(Verdict::OtherPlans, "last number given", a.last, b.last);
+    for (cabin, (left, right)) in a.quotas.iter().zip(&b.quotas).enumerate() {
+        let what = |which: &str| format!("{which} of cabin {cabin}");
+        found.unless_same(Verdict::OtherPlans, &what("guarantee"), left.guarantee, right.guarantee);
+        found.unless_same(Verdict::OtherPlans, &what("limit"), left.limit, right.limit);
+    }
     let numbers: BTreeSet<u16> = a.steps.keys().chain(b.steps.keys()).copied().collect();
     for number in numbers {
         match (a.steps.get(&number), b.steps.get(&number)) {
@@ -70,7 +75,8 @@ impl Found {
 
     /// A step that one table has alone, with its links.
     fn only(&mut self, view: &View, number: u16, name: &str) {
-        self.add(Verdict::OtherPlans, format!("{} is in use in {name} alone", named(view, number)));
+        let step = named(view, number) + &for_cabin(view, number);
+        self.add(Verdict::OtherPlans, format!("{step} is in use in {name} alone"));
         for held in view.links_from(number) {
             let words = exit_words(Some(held));
             self.add(Verdict::OtherPlans, format!("    exit {}: {words}", held.exit.number()));
@@ -81,6 +87,7 @@ impl Found {
     fn steps(&mut self, (a, b): (&View, &View), number: u16, (left, right): (&Step, &Step)) {
         let step = format!("step {number}");
         self.unless_same(Verdict::OtherPlans, &step, left.kind, right.kind);
+        self.unless_same(Verdict::OtherPlans, &format!("{step}, cabin"), left.cabin, right.cabin);
         self.unless_same(Verdict::OtherBits, &format!("{step}, own bit"), left.own, right.own);
         for exit in Exit::ALL {
             let (in_a, in_b) = (a.link(number, exit), b.link(number, exit));

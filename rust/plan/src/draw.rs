@@ -13,7 +13,8 @@ fn lines(number: u16, step: &Step) -> Vec<String> {
         Kind::Contact(0) => ["contact 0".to_string(), "the primary".to_string()].to_vec(),
         kind => vec![kind.to_string()],
     };
-    [vec![format!("step {number}")], lines].concat()
+    let cabin = (step.cabin != 0).then(|| format!("cabin {}", step.cabin));
+    [vec![format!("step {number}")], lines, Vec::from_iter(cabin)].concat()
 }
 
 /// A link in words.

@@ -66,9 +66,13 @@ fn is_help(word: &OsStr) -> bool {
 }
 
 fn overview() -> String {
-    let lines =
-        COMMANDS.iter().map(|command| format!("  {:<36} {}\n", command.usage(), command.gist));
-    let lines: String = lines.collect();
+    // a command line that is longer has its gist below it
+    const WIDTH: usize = 36;
+    let line = |command: &Command| match (command.usage(), command.gist) {
+        (usage, gist) if usage.len() <= WIDTH => format!("  {usage:<WIDTH$} {gist}\n"),
+        (usage, gist) => format!("  {usage}\n  {:<WIDTH$} {gist}\n", ""),
+    };
+    let lines: String = COMMANDS.iter().map(line).collect();
     let more = "plan COMMAND --help says more. IMAGE is a file that holds an image.";
     format!("usage:\n{lines}\n{more}\n")
 }

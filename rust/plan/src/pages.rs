@@ -2,8 +2,8 @@
 
 use crate::change::{Change, Clearing};
 use crate::view::{Held, View};
-use crate::words::{self, count, named, place, row, steps, strength};
-use telephone::{Ending, Exit, Kind, Trial, PLACES};
+use crate::words::{self, count, for_cabin, listed, named, place, row, steps, strength};
+use telephone::{Ending, Exit, Kind, Trial, CABINS, PLACES};
 
 /// Steps of which one line says what holds them; a page says it of all.
 const HELD_IN_A_LINE: usize = 4;
@@ -15,9 +15,7 @@ fn text(lines: &[String]) -> String {
 
 /// Steps in use and free ones.
 fn counts(view: &View) -> String {
-    let in_use = view.steps.len();
-    let free = usize::from(view.capacity).saturating_sub(in_use);
-    format!("{} in use, {free} free", count(in_use, "step"))
+    format!("{} in use, {} free", count(view.steps.len(), "step"), view.free())
 }
 
 /// The capacity and the counts.
@@ -25,13 +23,37 @@ pub fn numbers(view: &View) -> String {
     format!("capacity {}: {}", view.capacity, counts(view))
 }
 
-/// The whole table: its numbers, each step in use with its four exits, and the free numbers.
-pub fn show(view: &View) -> String {
+/// A row for each cabin that may have steps: its guarantee, its limit, the steps charged to it and those still owed to it; then the other cabins, and
+/// the free steps that no guarantee reserves.
+pub fn cabins(view: &View) -> String {
+    let (some, none): (Vec<u16>, Vec<u16>) =
+        (0..).take(CABINS).partition(|&cabin| view.quotas[usize::from(cabin)].limit > 0);
     let mut page = Vec::new();
-    page.push(format!("capacity {}, last number given {}", view.capacity, view.last));
-    page.push(counts(view));
-    for &number in view.steps.keys() {
-        page.push(format!("{}{}", named(view, number), bits_and_links(view, number)));
+    if !some.is_empty() {
+        page.push("cabin  guarantee  limit  charged  still owed".to_string());
+    }
+    for cabin in some.into_iter().map(usize::from) {
+        let quota = view.quotas[cabin];
+        let (charged, owed) = (view.charged(cabin).count(), view.owed(cabin));
+        let (guarantee, limit) = (quota.guarantee, quota.limit);
+        page.push(format!("{cabin:>5}  {guarantee:>9}  {limit:>5}  {charged:>7}  {owed:>10}"));
+    }
+    if !none.is_empty() {
+        page.push(format!("limit 0: {}", listed("cabin", &none)));
+    }
+    let reserved: usize = (0..CABINS).map(|cabin| view.owed(cabin)).sum();
+    page.push(format!("free steps not reserved: {}", view.free().saturating_sub(reserved)));
+    text(&page)
+}
+
+/// The whole table: its numbers, its cabins, each step in use with its four exits, and the free numbers.
+pub fn show(view: &View) -> String {
+    let numbers = format!("capacity {}, last number given {}", view.capacity, view.last);
+    let start = text(&[numbers, counts(view)]) + &cabins(view);
+    let mut page = Vec::new();
+    for (&number, step) in &view.steps {
+        let cabin = if number == 0 { String::new() } else { format!(", cabin {}", step.cabin) };
+        page.push(format!("{}{cabin}{}", named(view, number), bits_and_links(view, number)));
         for exit in Exit::ALL {
             let held = match view.link(number, exit) {
                 Some(held) => {
@@ -46,7 +68,7 @@ pub fn show(view: &View) -> String {
     if !free.is_empty() {
         page.push(format!("free: {}", words::numbers(&free)));
     }
-    text(&page)
+    start + &text(&page)
 }
 
 /// The links to a step by their strength, and its own bit where it is 1.
@@ -149,11 +171,12 @@ fn held_by(view: &View, step: u16, is_held: &str) -> String {
     format!("step {step}{is_held} by {}", holders(view, step))
 }
 
-/// What an accepted key line did, in one line, given the table after it.
+/// What an accepted call did, in one line, given the table after it.
 pub fn answered(after: &View, change: &Change) -> String {
     match change {
         Change::Added(held) => {
-            format!("added {} at {}", named(after, held.link.target), place(held))
+            let target = held.link.target;
+            format!("added {} at {}{}", named(after, target), place(held), for_cabin(after, target))
         }
         Change::Linked(held) => {
             let target = named(after, held.link.target);

@@ -1,7 +1,7 @@
 //! What stands in a table: its steps and links, and the strong chains that hold its steps.
 
 use std::collections::{BTreeMap, VecDeque};
-use telephone::{Exit, Link, Step, Table};
+use telephone::{Exit, Link, Quotas, Step, Table};
 
 /// A link where it stands.
 #[derive(Clone, Copy, PartialEq, Eq, Debug)]
@@ -16,11 +16,12 @@ pub struct Held {
     pub strong: bool,
 }
 
-/// The numbers of a table and its steps in use, by their numbers.
+/// The numbers of a table, its guarantees and limits, and its steps in use, by their numbers.
 #[derive(Clone, PartialEq, Eq, Debug)]
 pub struct View {
     pub capacity: u16,
     pub last: u16,
+    pub quotas: Quotas,
     pub steps: BTreeMap<u16, Step>,
 }
 
@@ -29,7 +30,23 @@ impl View {
     pub fn of(table: &Table) -> View {
         let (capacity, last) = (table.as_raw().capacity, table.as_raw().last);
         let steps = (0..capacity).filter_map(|number| Some((number, table.read(number).ok()?)));
-        View { capacity, last, steps: steps.collect() }
+        View { capacity, last, quotas: table.quotas(), steps: steps.collect() }
+    }
+
+    /// The number of free steps.
+    pub fn free(&self) -> usize {
+        usize::from(self.capacity).saturating_sub(self.steps.len())
+    }
+
+    /// The steps that are charged to a cabin. Step 0 is charged to none.
+    pub fn charged(&self, cabin: usize) -> impl Iterator<Item = u16> + '_ {
+        let steps = self.steps.iter().filter(move |(_, step)| usize::from(step.cabin) == cabin);
+        steps.map(|(&number, _)| number).filter(|&number| number != 0)
+    }
+
+    /// The number of steps that a cabin lacks of its guarantee.
+    pub fn owed(&self, cabin: usize) -> usize {
+        usize::from(self.quotas[cabin].guarantee).saturating_sub(self.charged(cabin).count())
     }
 
     /// What an exit of a step holds, where the step is in use and the exit is not empty.

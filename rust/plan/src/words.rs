@@ -44,9 +44,14 @@ pub fn numbers(given: &[u16]) -> String {
     row(&runs.iter().flat_map(words).collect::<Vec<_>>())
 }
 
-/// Steps by their numbers, as `step 4` or `steps 1 to 3`.
+/// Things by their numbers, as `step 4` or `steps 1 to 3`.
+pub fn listed(thing: &str, given: &[u16]) -> String {
+    format!("{thing}{} {}", if given.len() == 1 { "" } else { "s" }, numbers(given))
+}
+
+/// Steps by their numbers.
 pub fn steps(given: &[u16]) -> String {
-    format!("step{} {}", if given.len() == 1 { "" } else { "s" }, numbers(given))
+    listed("step", given)
 }
 
 /// A step by its number, kind and content, as `step 1 (contact 0, the primary)`.
@@ -54,6 +59,14 @@ pub fn named(view: &View, number: u16) -> String {
     match view.steps.get(&number) {
         Some(step) => format!("step {number} ({})", step.kind),
         None => format!("step {number}"),
+    }
+}
+
+/// The cabin of a step, as ` for cabin 3`, where it is not 0.
+pub fn for_cabin(view: &View, number: u16) -> String {
+    match view.steps.get(&number) {
+        Some(step) if step.cabin != 0 => format!(" for cabin {}", step.cabin),
+        _ => String::new(),
     }
 }
 

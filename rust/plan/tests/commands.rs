@@ -4,11 +4,15 @@ use std::fs::{self, File};
 use std::os::unix::fs::PermissionsExt;
 use std::path::{Path, PathBuf};
 use std::process::{Command, Output, Stdio};
+use telephone::{Table, IMAGE_MAX};
 
-/// Each command line, by the name of its output. The images stand in tests/images; those with a file .keys beside them were keyed.
-const CASES: [(&str, &str); 42] = [
+/// Each command line, by the name of its output. The images stand in tests/images; those with a file .keys beside them were keyed. They are of edition 1
+/// but for ring-2, which is ring in edition 2, and those of several cabins.
+const CASES: [(&str, &str); 64] = [
     ("help", "--help"),
     ("help-key", "key --help"),
+    ("help-add", "add --help"),
+    ("help-fresh", "fresh --help"),
     ("help-trial", "trial ring.img --help"),
     ("no-command", ""),
     ("wrong-command", "shew ring.img"),
@@ -19,7 +23,21 @@ const CASES: [(&str, &str); 42] = [
     ("fresh", "fresh 4"),
     ("fresh-refused", "fresh 129"),
     ("fresh-no-number", "fresh 65536"),
+    ("fresh-cabins", "fresh 8 1/2 4/6 0/0 0/5"),
+    ("fresh-bad-list", "fresh 8 1/2 4/3"),
+    ("fresh-capacity-first", "fresh 129 1/2 4/3"),
+    ("fresh-past-16-bits", "fresh 128 32768/65535 32768/65535"),
+    ("fresh-no-pair", "fresh 8 1/2 4"),
+    ("fresh-half-a-pair", "fresh 8 1/2 /6"),
+    ("fresh-nine-pairs", "fresh 8 0/1 0/1 0/1 0/1 0/1 0/1 0/1 0/1 0/1"),
+    ("add", "add cabins.img 4 0 1 7 1"),
+    ("add-for-cabin-0", "add ring.img 0 3 2 15 0"),
+    ("add-bad-cabin", "add cabins.img 9 9 9 9 8"),
+    ("add-at-limit", "add cabins.img 4 0 1 7 2"),
+    ("add-reserved", "add cabins.img 4 0 1 7 3"),
+    ("add-filled", "add cabins.img 0 0 1 7 3"),
     ("show-alarm", "show fresh1.img"),
+    ("show-cabins", "show cabins.img"),
     ("show-ring", "show ring.img"),
     ("show-cleared", "show cleared.img"),
     ("show-unordered", "show unordered.img"),
@@ -45,15 +63,30 @@ const CASES: [(&str, &str); 42] = [
     ("trial-no-digit", "trial ring.img 0x"),
     ("squeeze", "squeeze squeezable.img 4"),
     ("squeeze-refused", "squeeze ring.img 3"),
+    ("squeeze-cabins", "squeeze cabins-other.img 6 0/1 1/9 0/0 0/2"),
+    ("squeeze-list-kept", "squeeze cabins.img 8"),
+    ("squeeze-list-too-large", "squeeze cabins.img 5"),
+    ("squeeze-bad-list", "squeeze cabins.img 4 4/3"),
     ("diff-strengths", "diff twin.img twin-strengths.img"),
     ("diff-bits", "diff twin.img twin-bits.img"),
     ("diff-plans", "diff ring.img cleared.img"),
     ("diff-same", "diff ring.img unordered.img"),
+    ("diff-editions", "diff ring.img ring-2.img"),
+    ("diff-cabins", "diff cabins.img cabins-other.img"),
 ];
 
 /// Images for `check`, and the status for each.
-const CHECKED: [(&str, i32); 6] =
-    [("ring", 0), ("full", 0), ("unordered", 0), ("cut", 1), ("target", 1), ("empty", 1)];
+const CHECKED: [(&str, i32); 9] = [
+    ("ring", 0),
+    ("full", 0),
+    ("unordered", 0),
+    ("ring-2", 0),
+    ("cabins", 0),
+    ("cut", 1),
+    ("target", 1),
+    ("empty", 1),
+    ("mixed", 1),
+];
 
 fn folder(name: &str) -> PathBuf {
     Path::new(env!("CARGO_MANIFEST_DIR")).join("tests").join(name)
@@ -61,6 +94,13 @@ fn folder(name: &str) -> PathBuf {
 
 fn image(name: &str) -> Vec<u8> {
     fs::read(folder("images").join(name)).unwrap()
+}
+
+/// The same image as it is written, in edition 2.
+fn written(name: &str) -> Vec<u8> {
+    let mut bytes = [0; IMAGE_MAX];
+    let length = Table::load(&image(name)).unwrap().write_image(&mut bytes).unwrap();
+    bytes[..length].to_vec()
 }
 
 /// The program, in the folder of images, with nothing to read.
@@ -84,8 +124,8 @@ fn readable(bytes: &[u8]) -> String {
     match String::from_utf8(bytes.to_vec()) {
         Ok(text) if !text.contains('\0') => text,
         _ => {
-            let (header, steps) = bytes.split_at(bytes.len().min(10));
-            let lines = [header].into_iter().chain(steps.chunks(20)).map(hex);
+            let (header, steps) = bytes.split_at(bytes.len().min(42));
+            let lines = [header].into_iter().chain(steps.chunks(22)).map(hex);
             lines.map(|line| line.trim_end().to_string() + "\n").collect()
         }
     }
@@ -136,7 +176,7 @@ fn checks() {
     }
 }
 
-const DRAWN: [&str; 3] = ["fresh1", "ring", "thirty"];
+const DRAWN: [&str; 4] = ["fresh1", "ring", "thirty", "cabins"];
 
 #[test]
 fn pictures() {
@@ -150,12 +190,18 @@ fn pictures() {
 }
 
 /// Key lines on an image: the name of the output, the image, the option, the lines.
-const KEYED: [(&str, &str, &[&str], &[u8]); 5] = [
+const KEYED: [(&str, &str, &[&str], &[u8]); 6] = [
     ("key-nothing", "ring.img", &[], b""),
     ("key-visit", "fresh128.img", &["--skip-refused"], include_bytes!("../../../docs/visit.txt")),
     ("key-refused", "ring.img", &[], b"H*4A\nH*30003A\n\nH*30000A"),
     ("key-odd", "ring.img", &["--skip-refused"], b"H*4A\r\n\n\xff\0H*4A\nH*30012A\nH*30011A\n"),
     ("key-full", "full.img", &[], b"H*200000003A\nH*200010002A\nH*30000A\nH*30003A\n"),
+    (
+        "key-cabins",
+        "cabins.img",
+        &["--skip-refused"],
+        b"H*100401007A\nH*30000A\nH*100401007A\nH*100411008A\nH*100421009A\n",
+    ),
 ];
 
 /// The program with these bytes as its input.
@@ -189,9 +235,26 @@ fn keyed_images() {
         let lines = image(&format!("{name}.keys"));
         let given = output(fed(&mut plan(&["key", "fresh128.img"]), &lines));
         assert!(given.status.success(), "{name}: {}", text(&given.stderr));
-        assert_eq!(given.stdout, image(&format!("{name}.img")), "{name}");
+        assert_eq!(given.stdout, written(&format!("{name}.img")), "{name}");
         assert_eq!(text(&given.stderr).lines().count(), text(&lines).lines().count());
     }
+    assert_eq!(written("ring.img"), image("ring-2.img"));
+}
+
+/// The image of several cabins comes out of its commands, each on what the one before stored.
+#[test]
+fn cabins_one_by_one() {
+    let path = scratch("cabins_one_by_one.img");
+    let file = path.to_str().unwrap();
+    let made = output(&mut plan(&["fresh", "8", "1/2", "4/6", "0/0", "0/5", "-o", file]));
+    assert!(made.status.success(), "{}", text(&made.stderr));
+    for line in ["0 0 1 0 0", "1 2 1 1 3", "1 1 3 60 3", "0 3 2 5 1"] {
+        let words: Vec<&str> = ["add", file].into_iter().chain(line.split(' ')).collect();
+        let added = output(plan(&words).args(["-o", file]));
+        assert!(added.status.success(), "{line}: {}", text(&added.stderr));
+    }
+    let given = output(fed(&mut plan(&["key", file]), b"H*200000022A\n"));
+    assert_eq!(given.stdout, image("cabins.img"), "{}", text(&given.stderr));
 }
 
 /// -o stores what standard output would get, also over the image itself; a command that fails leaves the file as it was, and nothing beside it.
@@ -203,17 +266,17 @@ fn stored_files() {
     let path = folder.join("plan.img");
     let file = path.to_str().unwrap();
     assert!(output(&mut plan(&["clear", "ring.img", "0", "0", "-o", file])).status.success());
-    assert_eq!(fs::read(&path).unwrap(), image("cleared.img"));
+    assert_eq!(fs::read(&path).unwrap(), written("cleared.img"));
     fs::write(&path, image("ring.img")).unwrap();
     fs::set_permissions(&path, fs::Permissions::from_mode(0o640)).unwrap();
     assert!(output(&mut plan(&["clear", file, "0", "0", "-o", file])).status.success());
-    assert_eq!(fs::read(&path).unwrap(), image("cleared.img"));
+    assert_eq!(fs::read(&path).unwrap(), written("cleared.img"));
     assert_eq!(fs::metadata(&path).unwrap().permissions().mode() & 0o777, 0o640);
     let refused = output(fed(&mut plan(&["key", file, "-o", file]), b"H*30001A\nH*30001A\n"));
     assert_eq!((refused.status.code(), refused.stdout), (Some(2), vec![]));
     assert!(is_failure(&output(&mut plan(&["squeeze", file, "0", "-o", file]))));
     assert!(is_failure(&output(&mut plan(&["draw", "cut.img", "-o", file]))));
-    assert_eq!(fs::read(&path).unwrap(), image("cleared.img"));
+    assert_eq!(fs::read(&path).unwrap(), written("cleared.img"));
     let nowhere = folder.join("nowhere.img");
     std::os::unix::fs::symlink("missing.img", &nowhere).unwrap();
     assert!(is_failure(&output(&mut plan(&["fresh", "4", "-o", nowhere.to_str().unwrap()]))));
@@ -222,7 +285,7 @@ fn stored_files() {
     std::os::unix::fs::symlink("plan.img", &link).unwrap();
     let made = output(&mut plan(&["fresh", "128", "-o", link.to_str().unwrap()]));
     assert!(made.status.success() && link.is_symlink(), "{}", text(&made.stderr));
-    assert_eq!(fs::read(&path).unwrap(), image("fresh128.img"));
+    assert_eq!(fs::read(&path).unwrap(), written("fresh128.img"));
     assert!(output(&mut plan(&["draw", "ring.img", "-o", file])).status.success());
     assert_eq!(fs::read(&path).unwrap(), output(&mut plan(&["draw", "ring.img"])).stdout);
     assert_eq!(fs::read_dir(&folder).unwrap().count(), 2, "something was left beside the file");
@@ -239,7 +302,13 @@ fn reading_and_writing_fail() {
         let words: Vec<&str> = line.split(' ').collect();
         assert!(is_failure(&output(plan(&words).stdout(full()))), "{line}");
     }
-    for line in ["clear ring.img 0 0", "fresh 4", "squeeze ring.img 9", "key ring.img"] {
+    for line in [
+        "clear ring.img 0 0",
+        "add ring.img 0 3 1 7 0",
+        "fresh 4",
+        "squeeze ring.img 9",
+        "key ring.img",
+    ] {
         let words: Vec<&str> = line.split(' ').collect();
         let given = output(plan(&words).stdout(full()));
         assert_eq!(given.status.code(), Some(2), "{line}");
@@ -268,7 +337,14 @@ fn reading_and_writing_fail() {
 fn odd_words() {
     let odd = ["-a\nplan: b", "--\u{1b}[31m", "", " ", "\u{202e}", "-1", "+1", "1.0", "٣"];
     for word in odd {
-        for line in [&[word][..], &["show", word], &["why", "ring.img", word], &["fresh", word]] {
+        for line in [
+            &[word][..],
+            &["show", word],
+            &["why", "ring.img", word],
+            &["fresh", word],
+            &["fresh", "8", word],
+            &["add", "ring.img", "0", "3", "1", "7", word],
+        ] {
             let given = output(&mut plan(line));
             assert!(is_failure(&given), "{line:?}: {}", text(&given.stderr));
             assert!(text(&given.stderr).trim_end().chars().all(|c| !c.is_control()), "{line:?}");
@@ -290,7 +366,7 @@ fn named_pipes() {
     });
     let given = output(&mut plan(&["clear", "ring.img", "0", "0", "-o", pipe.to_str().unwrap()]));
     assert!(given.status.success(), "{}", text(&given.stderr));
-    assert_eq!(read.join().unwrap(), image("cleared.img"));
+    assert_eq!(read.join().unwrap(), written("cleared.img"));
 }
 
 /// Files of every length near the ends, and without an end, are answered.
@@ -298,15 +374,15 @@ fn named_pipes() {
 fn long_files() {
     let path = scratch("long.img");
     let file = path.to_str().unwrap();
-    let ring = image("ring.img");
     for length in
-        [0, 9, 10, 29, 30, 89, 91, 2570, 2571, 65_536, 65_546, 1_310_710, 1_310_711, 3_000_000]
+        [0, 9, 10, 29, 30, 41, 42, 89, 91, 2570, 2858, 65_536, 1_310_710, 1_441_812, 3_000_000]
     {
-        let mut bytes = ring.clone();
-        bytes.resize(length, 0);
-        fs::write(&path, &bytes).unwrap();
-        assert!(is_failure(&output(&mut plan(&["show", file]))), "{length}");
-        assert_eq!(output(&mut plan(&["check", file])).status.code(), Some(1), "{length}");
+        for mut bytes in [image("ring.img"), image("ring-2.img")] {
+            bytes.resize(length, 0);
+            fs::write(&path, &bytes).unwrap();
+            assert!(is_failure(&output(&mut plan(&["show", file]))), "{length}");
+            assert_eq!(output(&mut plan(&["check", file])).status.code(), Some(1), "{length}");
+        }
     }
     assert!(is_failure(&output(&mut plan(&["show", "/dev/zero"]))));
     let line = [&vec![b'9'; 1 << 20][..], b"\nH*4A\n"].concat();
@@ -332,7 +408,7 @@ fn at_a_terminal() {
     let said = at_terminal(&line, b"H*30003A\nH*30000A\n");
     assert!(said.contains("Ctrl-D ends and stores") && said.contains("refused by 6"), "{said}");
     assert!(said.ends_with(&format!("stored in {}\n", path.display())), "{said}");
-    assert_eq!(fs::read(&path).unwrap(), image("cleared.img"));
+    assert_eq!(fs::read(&path).unwrap(), written("cleared.img"));
     let said = at_terminal("key ring.img", b"H*30000A\n");
     assert!(said.contains("-o FILE would store") && said.contains("not stored"), "{said}");
 }

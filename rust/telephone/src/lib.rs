@@ -3,12 +3,14 @@
 //! A [`Table`] is always sound: it is made by [`Table::fresh`], [`Table::load`] or [`Table::from_raw`], and only calls change it, in place. A refused
 //! call is an `Err` and changes nothing. [`raw`] has the calls on any table and with any numbers, for callers who keep the memory themselves.
 //!
+//! Eight cabins share a plan: each step is charged to the cabin that added it, within the guarantees and limits of [`Quotas`].
+//!
 //! ```
-//! use telephone::{Exit, Kind, Table};
+//! use telephone::{sole_quotas, Exit, Kind, Table};
 //!
 //! telephone::check_edition()?;
-//! let mut table = Table::fresh(128)?;
-//! let step = table.add(0, Exit::Answered, Kind::Contact(7))?;
+//! let mut table = Table::fresh(128, &sole_quotas(128))?; // cabin 0 has the plan to itself
+//! let step = table.add(0, Exit::Answered, Kind::Contact(7), 0)?;
 //! table.link(0, Exit::Answered, step, Exit::NoReply)?; // ring again where nobody replies
 //! let cleared = table.clear(0, Exit::Answered)?;
 //! assert_eq!((step, cleared.freed), (1, 1));
@@ -22,6 +24,7 @@
 pub mod raw;
 
 use core::fmt;
+pub use raw::{Quota, Quotas};
 
 /// The lines of Rust in the README, which are run as tests.
 #[cfg(doctest)]
@@ -29,13 +32,15 @@ use core::fmt;
 struct Readme;
 
 /// The edition of the interface that this crate is written for.
-pub const EDITION: u16 = 3;
+pub const EDITION: u16 = 4;
 /// Places for steps; the largest capacity.
 pub const PLACES: usize = 128;
 /// Exits of a step.
 pub const EXITS: usize = 4;
-/// Bytes of the largest image.
-pub const IMAGE_MAX: usize = 2570;
+/// Cabins that share a plan.
+pub const CABINS: usize = 8;
+/// Bytes of the largest image that is written.
+pub const IMAGE_MAX: usize = 2858;
 /// Bytes of stack for any call of the library, with the caller's table.
 pub const STACK_MAX: usize = 16 * 1024;
 
@@ -90,8 +95,14 @@ pub enum Refusal {
     TooShort,
     /// 12: image not accepted.
     NotAccepted,
-    /// 13: capacity below the steps in use.
+    /// 13: capacity below the steps in use, or the charges do not fit the new quotas.
     DoesNotFit,
+    /// 14: cabin at its limit.
+    CabinAtLimit,
+    /// 15: only steps reserved for other cabins are free.
+    StepsReserved,
+    /// 16: cabin above 7, or bad list of guarantees and limits.
+    BadCabins,
     /// A number that this crate does not know. The library of this edition gives none.
     Unknown(u16),
 }
@@ -113,6 +124,9 @@ impl Refusal {
             Refusal::TooShort => 11,
             Refusal::NotAccepted => 12,
             Refusal::DoesNotFit => 13,
+            Refusal::CabinAtLimit => 14,
+            Refusal::StepsReserved => 15,
+            Refusal::BadCabins => 16,
             Refusal::Unknown(number) => number,
         }
     }
@@ -134,6 +148,9 @@ impl Refusal {
             11 => Refusal::TooShort,
             12 => Refusal::NotAccepted,
             13 => Refusal::DoesNotFit,
+            14 => Refusal::CabinAtLimit,
+            15 => Refusal::StepsReserved,
+            16 => Refusal::BadCabins,
             _ => Refusal::Unknown(number),
         })
     }
@@ -154,7 +171,12 @@ impl fmt::Display for Refusal {
             Refusal::BadResult => "some line result above 3",
             Refusal::TooShort => "lent buffer shorter than needed",
             Refusal::NotAccepted => "image not accepted",
-            Refusal::DoesNotFit => "capacity below the steps in use",
+            Refusal::DoesNotFit => {
+                "capacity below the steps in use, or the charges do not fit the new quotas"
+            }
+            Refusal::CabinAtLimit => "cabin at its limit",
+            Refusal::StepsReserved => "only steps reserved for other cabins are free",
+            Refusal::BadCabins => "cabin above 7, or bad list of guarantees and limits",
             Refusal::Unknown(number) => return write!(f, "unknown refusal {number}"),
         })
     }
@@ -302,6 +324,8 @@ pub struct Step {
     pub exits: [Option<Link>; EXITS],
     /// The links to it that have bit 0, and those that have bit 1.
     pub counts: [u16; 2],
+    /// The cabin that added it; 0 for step 0, which is charged to none.
+    pub cabin: u16,
 }
 
 impl Step {
@@ -336,20 +360,44 @@ pub struct Trial {
     pub moves: u16,
 }
 
+/// The list of a table that cabin 0 has to itself: its guarantee and its limit are the capacity less 1, or 0 for capacity 0, all others are 0.
+pub fn sole_quotas(capacity: u16) -> Quotas {
+    let mut quotas = Quotas::default();
+    raw::sole_quotas(&mut quotas, capacity);
+    quotas
+}
+
 /// A sound table.
 #[derive(Clone, PartialEq, Eq, Debug)]
 #[repr(transparent)]
 pub struct Table(raw::Table);
 
 impl Table {
-    /// A table of that capacity with step 0 alone.
-    pub fn fresh(capacity: u16) -> Result<Table, Refusal> {
+    /// A table of that capacity with step 0 alone, and with these guarantees and limits. No guarantee may be above its limit, and all together have to
+    /// be below the capacity.
+    ///
+    /// ```
+    /// use telephone::{Exit, Kind, Quota, Quotas, Refusal, Table};
+    ///
+    /// let mut quotas = Quotas::default();
+    /// quotas[0] = Quota { guarantee: 1, limit: 3 };
+    /// quotas[5] = Quota { guarantee: 2, limit: 2 };
+    /// let mut table = Table::fresh(4, &quotas)?;
+    /// table.add(0, Exit::Answered, Kind::Contact(7), 0)?;
+    /// // the other two steps are reserved for cabin 5
+    /// let refused = table.add(0, Exit::Engaged, Kind::Contact(8), 0);
+    /// assert_eq!(refused, Err(Refusal::StepsReserved));
+    /// assert_eq!(table.add(0, Exit::Engaged, Kind::Contact(8), 5), Ok(2));
+    /// # Ok::<(), telephone::Refusal>(())
+    /// ```
+    pub fn fresh(capacity: u16, quotas: &Quotas) -> Result<Table, Refusal> {
         let mut table = Table(raw::Table::ZERO);
-        table.reset(capacity)?;
+        table.reset(capacity, quotas)?;
         Ok(table)
     }
 
-    /// The table of an image, whose step records may come in any order.
+    /// The table of an image of edition 1 or 2, whose step records may come in any order. Of an image of edition 1 all steps are charged to cabin 0,
+    /// which has the table to itself.
     pub fn load(image: &[u8]) -> Result<Table, Refusal> {
         let mut table = Table(raw::Table::ZERO);
         table.reload(image)?;
@@ -374,20 +422,21 @@ impl Table {
         self.0
     }
 
-    /// Starts again with step 0 alone, in place. Where the capacity is refused, it becomes 1.
-    pub fn reset(&mut self, capacity: u16) -> Result<(), Refusal> {
-        two(raw::fresh(&mut self.0, capacity)).map(|_| ())
+    /// Starts again with step 0 alone, in place. Where it is refused, it becomes a fresh table of capacity 1 whose guarantees and limits are all 0.
+    pub fn reset(&mut self, capacity: u16, quotas: &Quotas) -> Result<(), Refusal> {
+        two(raw::fresh(&mut self.0, capacity, quotas)).map(|_| ())
     }
 
-    /// Takes the table of an image, in place. Where the image is refused, it becomes a fresh table of capacity 1.
+    /// Takes the table of an image, in place. Where it is refused, it becomes the same fresh table.
     pub fn reload(&mut self, image: &[u8]) -> Result<(), Refusal> {
         two(raw::load_image(&mut self.0, image)).map(|_| ())
     }
 
-    /// Puts a new step at an empty exit of the holder; gives its number.
-    pub fn add(&mut self, holder: u16, exit: Exit, kind: Kind) -> Result<u16, Refusal> {
+    /// Puts a new step at an empty exit of the holder, and charges it to the cabin; gives its number.
+    pub fn add(&mut self, holder: u16, exit: Exit, kind: Kind, cabin: u16) -> Result<u16, Refusal> {
         let (kind, content) = kind.numbers();
-        two(raw::add(&mut self.0, holder, exit.number(), kind, content)).map(|(number, _)| number)
+        let reply = raw::add(&mut self.0, holder, exit.number(), kind, content, cabin);
+        two(reply).map(|(number, _)| number)
     }
 
     /// Copies the target of the source's exit into an empty exit of the second step.
@@ -407,25 +456,31 @@ impl Table {
         Ok(Cleared { doubtful, freed })
     }
 
-    /// Squeezes the table into that capacity, which may also be larger. The steps in use are renumbered from 0 upward in their order, every target
-    /// follows, bits and counters travel with their steps, and the last number given becomes the highest of them.
-    pub fn squeeze(&mut self, capacity: u16) -> Result<(), Refusal> {
-        two(raw::squeeze(&mut self.0, capacity)).map(|_| ())
+    /// Squeezes the table into that capacity, which may also be larger, and gives it these guarantees and limits. The steps in use are renumbered from
+    /// 0 upward in their order, every target follows, bits, counters and cabins travel with their steps, and the last number given becomes the highest
+    /// of them.
+    pub fn squeeze(&mut self, capacity: u16, quotas: &Quotas) -> Result<(), Refusal> {
+        two(raw::squeeze(&mut self.0, capacity, quotas)).map(|_| ())
     }
 
-    /// Carries out a key line, given without its byte 10; gives the two numbers that `keys` prints.
+    /// Carries out a key line, given without its byte 10; gives the two numbers that `keys` prints. It adds for cabin 0.
     pub fn key_line(&mut self, line: &[u8]) -> Result<(u16, u16), Refusal> {
         two(raw::key_line(&mut self.0, line))
     }
 
     /// All fields of a step.
     pub fn read(&self, step: u16) -> Result<Step, Refusal> {
-        let raw::ReadReply { refusal, kind, content, own, targets, bits, counts } =
+        let raw::ReadReply { refusal, kind, content, own, targets, bits, counts, cabin } =
             raw::read(&self.0, step);
         Refusal::check(refusal)?;
         let link = |exit: usize| Link { target: targets[exit], bit: bits[exit] };
         let exits = core::array::from_fn(|exit| (targets[exit] != 0).then(|| link(exit)));
-        Ok(Step { kind: Kind::of_numbers(kind, content), own, exits, counts })
+        Ok(Step { kind: Kind::of_numbers(kind, content), own, exits, counts, cabin })
+    }
+
+    /// The guarantees and limits.
+    pub fn quotas(&self) -> Quotas {
+        self.0.quotas
     }
 
     /// Steps in use and free ones.
@@ -442,10 +497,10 @@ impl Table {
     /// whatever the trial does.
     ///
     /// ```
-    /// use telephone::{Ending, Exit, Kind, Table};
+    /// use telephone::{sole_quotas, Ending, Exit, Kind, Table};
     ///
-    /// let mut table = Table::fresh(4)?;
-    /// table.add(0, Exit::Answered, Kind::Wait(60))?;
+    /// let mut table = Table::fresh(4, &sole_quotas(4))?;
+    /// table.add(0, Exit::Answered, Kind::Wait(60), 0)?;
     /// table.link(0, Exit::Answered, 1, Exit::Answered)?; // wait for ever
     /// let mut trace = [0; 3];
     /// let trial = table.trial(3, &[], &mut trace)?;
@@ -469,8 +524,8 @@ impl Table {
         length(raw::image_length(&self.0))
     }
 
-    /// Writes the image to the start of a lent buffer, its step records in ascending step number; gives its length. Two sound tables are equal
-    /// exactly when their images are.
+    /// Writes the image, in edition 2 of the format, to the start of a lent buffer, its step records in ascending step number; gives its length. Two
+    /// sound tables are equal exactly when their written images are.
     pub fn write_image(&self, buffer: &mut [u8]) -> Result<usize, Refusal> {
         length(raw::write_image(&self.0, buffer))
     }

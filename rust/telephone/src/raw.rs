@@ -23,7 +23,24 @@ pub struct Table {
     pub bits: [u16; 512],
     /// Counter b of step i at i * 2 + b.
     pub counts: [u16; 256],
+    /// The cabin that added each step; 0 for step 0 and for a free step.
+    pub cabins: [u16; 128],
+    /// By cabin.
+    pub quotas: Quotas,
 }
+
+/// What a cabin is guaranteed, and what it may have at most, in steps.
+#[repr(C)]
+#[derive(Clone, Copy, PartialEq, Eq, Debug, Default)]
+pub struct Quota {
+    /// At most the limit; all guarantees together are at most the capacity less 1.
+    pub guarantee: u16,
+    /// 0 to 65535.
+    pub limit: u16,
+}
+
+/// A guarantee and a limit for each cabin.
+pub type Quotas = [Quota; 8];
 
 impl Table {
     /// All fields zero. It is not sound; `fresh` or `load_image` makes a table of it.
@@ -37,6 +54,8 @@ impl Table {
         targets: [0; 512],
         bits: [0; 512],
         counts: [0; 256],
+        cabins: [0; 128],
+        quotas: [Quota { guarantee: 0, limit: 0 }; 8],
     };
 }
 
@@ -60,6 +79,7 @@ pub struct ReadReply {
     pub targets: [u16; 4],
     pub bits: [u16; 4],
     pub counts: [u16; 2],
+    pub cabin: u16,
 }
 
 /// How a trial ended: 0 open, 1 spent, 2 stopped.
@@ -81,7 +101,7 @@ pub struct WriteReply {
 }
 
 const _: () = {
-    assert!(size_of::<Table>() == 3588 && align_of::<Table>() == 2);
+    assert!(size_of::<Table>() == 3876 && align_of::<Table>() == 2);
     assert!(offset_of!(Table, capacity) == 0);
     assert!(offset_of!(Table, last) == 2);
     assert!(offset_of!(Table, used) == 4);
@@ -91,28 +111,42 @@ const _: () = {
     assert!(offset_of!(Table, targets) == 1028);
     assert!(offset_of!(Table, bits) == 2052);
     assert!(offset_of!(Table, counts) == 3076);
+    assert!(offset_of!(Table, cabins) == 3588);
+    assert!(offset_of!(Table, quotas) == 3844);
+    assert!(size_of::<Quota>() == 4 && offset_of!(Quota, limit) == 2);
     assert!(size_of::<Reply>() == 6);
-    assert!(size_of::<ReadReply>() == 28 && offset_of!(ReadReply, counts) == 24);
+    assert!(size_of::<ReadReply>() == 30 && offset_of!(ReadReply, counts) == 24);
+    assert!(offset_of!(ReadReply, cabin) == 28);
     assert!(size_of::<TrialReply>() == 8 && offset_of!(TrialReply, moves) == 6);
     assert!(size_of::<WriteReply>() == 4);
 };
 
-// SAFETY: the signatures are those of the header; a reference is a pointer that is not null. A call marked safe reads and writes its table alone.
+// SAFETY: the signatures are those of the header; a reference is a pointer that is not null. A call marked safe reads and writes what the references
+// lend it, and nothing else.
 unsafe extern "C" {
     #[link_name = "plan_edition"]
     pub safe fn edition() -> u16;
     #[link_name = "plan_is_sound"]
     pub safe fn is_sound(t: &Table) -> u16;
+    #[link_name = "plan_sole_quotas"]
+    pub safe fn sole_quotas(quotas: &mut Quotas, capacity: u16);
     #[link_name = "plan_fresh"]
-    pub safe fn fresh(t: &mut Table, capacity: u16) -> Reply;
+    pub safe fn fresh(t: &mut Table, capacity: u16, quotas: &Quotas) -> Reply;
     #[link_name = "plan_add"]
-    pub safe fn add(t: &mut Table, holder: u16, exit: u16, kind: u16, content: u16) -> Reply;
+    pub safe fn add(
+        t: &mut Table,
+        holder: u16,
+        exit: u16,
+        kind: u16,
+        content: u16,
+        cabin: u16,
+    ) -> Reply;
     #[link_name = "plan_link"]
     pub safe fn link(t: &mut Table, source: u16, from: u16, second: u16, into: u16) -> Reply;
     #[link_name = "plan_clear"]
     pub safe fn clear(t: &mut Table, step: u16, exit: u16) -> Reply;
     #[link_name = "plan_squeeze"]
-    pub safe fn squeeze(t: &mut Table, capacity: u16) -> Reply;
+    pub safe fn squeeze(t: &mut Table, capacity: u16, quotas: &Quotas) -> Reply;
     #[link_name = "plan_read"]
     pub safe fn read(t: &Table, step: u16) -> ReadReply;
     #[link_name = "plan_counts"]
@@ -146,7 +180,7 @@ pub fn write_image(t: &Table, buffer: &mut [u8]) -> WriteReply {
     unsafe { plan_write_image(t, buffer.as_mut_ptr(), buffer.len()) }
 }
 
-/// Makes the table of an image; a fresh one of capacity 1 where it is refused.
+/// Makes the table of an image of edition 1 or 2; a fresh one of capacity 1 where it is refused.
 pub fn load_image(t: &mut Table, bytes: &[u8]) -> Reply {
     // SAFETY: as above.
     unsafe { plan_load_image(t, bytes.as_ptr(), bytes.len()) }

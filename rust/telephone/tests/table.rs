@@ -1,13 +1,36 @@
 //! The types of this crate: a table is sound and changed in place, a refusal is an error and changes nothing, and no number makes a panic.
 
-use telephone::{check_edition, raw, Cleared, Counts, Ending, Exit, Kind, Link, Refusal, Table};
+use telephone::{
+    check_edition, raw, sole_quotas, Cleared, Counts, Ending, Exit, Kind, Link, Quota, Quotas,
+    Refusal, Table, CABINS,
+};
 
 #[test]
 fn edition_fits() {
-    assert_eq!((telephone::EDITION, raw::edition()), (3, 3));
+    assert_eq!((telephone::EDITION, raw::edition()), (4, 4));
     assert_eq!(check_edition(), Ok(()));
-    let wrong = telephone::WrongEdition { library: 2 };
-    assert_eq!(wrong.to_string(), "the library has edition 2, and 3 is needed");
+    let wrong = telephone::WrongEdition { library: 3 };
+    assert_eq!(wrong.to_string(), "the library has edition 3, and 4 is needed");
+}
+
+/// A fresh table that cabin 0 has to itself.
+fn fresh(capacity: u16) -> Table {
+    Table::fresh(capacity, &sole_quotas(capacity)).unwrap()
+}
+
+/// Guarantees and limits from cabin 0 on; the other cabins have none.
+fn list(pairs: &[(u16, u16)]) -> Quotas {
+    let mut quotas = Quotas::default();
+    for (quota, &(guarantee, limit)) in quotas.iter_mut().zip(pairs) {
+        *quota = Quota { guarantee, limit };
+    }
+    quotas
+}
+
+/// A list for a table of eight steps in which each cabin but 4 has one: cabin 4 is guaranteed all free steps; all limits differ.
+fn listed(capacity: u16) -> Quotas {
+    let guarantees = [1, 0, 1, 0, capacity - 8, 0, 1, 1];
+    list(&[0, 1, 2, 3, 4, 5, 6, 7].map(|cabin| (guarantees[cabin], 300 + cabin as u16)))
 }
 
 /// A table in which the fields of step 2 and the numbers of the table all differ, the bits but for a few. These are the bits of step 2's links, which
@@ -18,11 +41,20 @@ fn different(bits: [u16; 4]) -> raw::Table {
 
 /// The same with these numbers for the four steps that step 2 leads to, of this capacity and with this last number.
 fn numbered(capacity: u16, last: u16, bits: [u16; 4], targets: [usize; 4]) -> raw::Table {
-    let mut table = raw::Table { capacity, last, ..raw::Table::ZERO };
+    let mut table = raw::Table { capacity, last, quotas: listed(capacity), ..raw::Table::ZERO };
     let [a, b, c, d] = targets;
-    let kinds = [(0, 0, 0), (1, 1, 11), (2, 3, 600), (3, 1, 12), (a, 2, 13), (b, 3, 14)];
-    for (step, kind, content) in kinds.into_iter().chain([(c, 1, 15), (d, 2, 7)]) {
+    for (step, kind, content, cabin) in [
+        (0, 0, 0, 0),
+        (1, 1, 11, 7),
+        (2, 3, 600, 2),
+        (3, 1, 12, 1),
+        (a, 2, 13, 5),
+        (b, 3, 14, 0),
+        (c, 1, 15, 3),
+        (d, 2, 7, 6),
+    ] {
         (table.used[step], table.kinds[step], table.contents[step]) = (1, kind, content);
+        table.cabins[step] = cabin;
     }
     table.own[2] = 1;
     for (exit, target) in targets.into_iter().enumerate() {
@@ -60,10 +92,12 @@ fn no_field_is_exchanged() {
             targets: [4, 6, 8, 10],
             bits,
             counts: [5, 7],
+            cabin: 2,
         };
         assert_eq!(fields, expected);
         let step = table.read(2).unwrap();
         assert_eq!((step.kind, step.own, step.counts), (Kind::Wait(600), 1, [5, 7]));
+        assert_eq!((step.cabin, table.quotas()), (2, listed(11)));
         let link = |exit: usize, target| Some(Link { target, bit: bits[exit] });
         assert_eq!(step.exits, [link(0, 4), link(1, 6), link(2, 8), link(3, 10)]);
         for exit in Exit::ALL {
@@ -82,9 +116,10 @@ fn no_field_is_exchanged() {
         let image = images_of(&table, bits);
         assert_eq!(Table::load(&image), Ok(table.clone()));
         // past the top, to the first free number
-        assert_eq!(table.add(10, Exit::NoReply, Kind::Contact(99)), Ok(5));
+        assert_eq!(table.add(10, Exit::NoReply, Kind::Contact(99), 4), Ok(5));
         assert_eq!(table.read(10).unwrap().exits[2], Some(Link { target: 5, bit: 0 }));
-        assert_eq!(table.read(5).unwrap().kind, Kind::Contact(99));
+        let new = table.read(5).unwrap();
+        assert_eq!((new.kind, new.cabin), (Kind::Contact(99), 4));
         assert_eq!(table.link(2, Exit::LineFault, 8, Exit::Engaged), Ok(()));
         let copy = Link { target: 10, bit: 1 - bits[3] };
         assert_eq!(table.read(8).unwrap().exits, [None, Some(copy), None, None]);
@@ -98,7 +133,7 @@ fn no_field_is_exchanged() {
 /// A ring 1 to 2 to 3 to 4 to 1 of a contact, a message, a wait and a contact, which step 0 enters at 1. From 4 a line fault leads to wait 5, and
 /// from 1 an answer to contact 6; neither leads on. Message and wait have other exits too.
 fn ring() -> Table {
-    let mut table = Table::fresh(7).unwrap();
+    let mut table = fresh(7);
     for (holder, exit, kind) in [
         (0, Exit::Answered, Kind::Contact(1)),
         (1, Exit::Engaged, Kind::Message(2)),
@@ -107,7 +142,7 @@ fn ring() -> Table {
         (4, Exit::LineFault, Kind::Wait(5)),
         (1, Exit::Answered, Kind::Contact(6)),
     ] {
-        table.add(holder, exit, kind).unwrap();
+        table.add(holder, exit, kind, 0).unwrap();
     }
     for (second, into) in [(4, Exit::NoReply), (2, Exit::Engaged), (3, Exit::NoReply)] {
         table.link(0, Exit::Answered, second, into).unwrap();
@@ -151,15 +186,15 @@ fn trials() {
     }
     tried(&table, 1, &[], Ending::Spent, &[1]);
     tried(&table, 0, &[], Ending::Stopped, &[]);
-    let fresh = Table::fresh(4).unwrap();
+    let alarm = fresh(4);
     for limit in [0, 1, 65535] {
-        tried(&fresh, limit, &[], Ending::Open, &[]);
-        tried(&fresh, limit, &[0, 3], Ending::Open, &[]);
+        tried(&alarm, limit, &[], Ending::Open, &[]);
+        tried(&alarm, limit, &[0, 3], Ending::Open, &[]);
     }
-    let mut chain = Table::fresh(128).unwrap();
+    let mut chain = fresh(128);
     let upward = [(); 127].map(|_| {
         let last = chain.counts().unwrap().in_use - 1;
-        chain.add(last, Exit::Answered, Kind::Message(0)).unwrap() as u8
+        chain.add(last, Exit::Answered, Kind::Message(0), 0).unwrap() as u8
     });
     tried(&chain, 127, &[3, 3], Ending::Open, &upward);
     tried(&chain, 126, &[3, 3], Ending::Stopped, &upward[..126]);
@@ -193,24 +228,28 @@ fn trials_refused() {
 
 /// The image of such a table, its header and its record of step 2 by their fields.
 fn images_of(table: &Table, bits: [u16; 4]) -> Vec<u8> {
-    let mut image = vec![0; 170];
-    assert_eq!((table.image_length(), table.write_image(&mut image)), (Ok(170), Ok(170)));
+    let mut image = vec![0; 42 + 8 * 22];
+    let length = image.len();
+    assert_eq!((table.image_length(), table.write_image(&mut image)), (Ok(length), Ok(length)));
     let words = |bytes: &[u8]| -> Vec<u16> {
         bytes.chunks(2).map(|two| u16::from_le_bytes([two[0], two[1]])).collect()
     };
-    assert_eq!(words(&image[..10]), [10, 1, 11, 9, 8]);
-    let record = image[10..].chunks(20).map(words).find(|record| record[2] == 2).unwrap();
+    let (header, steps) = image.split_at(42);
+    assert_eq!(words(&header[..10]), [42, 3, 11, 9, 8]);
+    let quotas = listed(11).map(|quota| [quota.guarantee, quota.limit]);
+    assert_eq!(words(&header[10..]), quotas.concat());
+    let record = steps.chunks(22).map(words).find(|record| record[2] == 2).unwrap();
     let sum = bits[0] + 2 * bits[1] + 4 * bits[2] + 8 * bits[3] + 16;
-    assert_eq!(record, [20, 2, 2, 3, 600, sum, 4, 6, 8, 10]);
+    assert_eq!(record, [22, 4, 2, 3, 600, sum, 4, 6, 8, 10, 2]);
     image
 }
 
 /// A clearing with three doubtful steps and one freed, by its call and by a key line.
 #[test]
 fn counts_of_a_clearing() {
-    let mut table = Table::fresh(9).unwrap();
+    let mut table = fresh(9);
     for (holder, exit) in [(0, Exit::Answered), (1, Exit::Engaged), (2, Exit::LineFault)] {
-        table.add(holder, exit, Kind::Message(holder)).unwrap();
+        table.add(holder, exit, Kind::Message(holder), 0).unwrap();
     }
     table.link(1, Exit::Engaged, 0, Exit::NoReply).unwrap();
     let mut other = table.clone();
@@ -227,13 +266,13 @@ fn counts_of_a_clearing() {
 /// The most moves, by a wait and by a contact, and lengths that 16 bits do not hold.
 #[test]
 fn long_lengths() {
-    let mut table = Table::fresh(4).unwrap();
-    table.add(0, Exit::Answered, Kind::Wait(600)).unwrap();
+    let mut table = fresh(4);
+    table.add(0, Exit::Answered, Kind::Wait(600), 0).unwrap();
     table.link(0, Exit::Answered, 1, Exit::Answered).unwrap();
     tried(&table, 65535, &[], Ending::Stopped, &[1; 65535]);
     tried(&table, 65535, &[3; 65_536], Ending::Stopped, &[1; 65535]);
-    table.reset(4).unwrap();
-    table.add(0, Exit::Answered, Kind::Contact(0)).unwrap();
+    table.reset(4, &sole_quotas(4)).unwrap();
+    table.add(0, Exit::Answered, Kind::Contact(0), 0).unwrap();
     table.link(0, Exit::Answered, 1, Exit::Engaged).unwrap();
     for results in [65_535, 65_536, 65_537, 70_000] {
         tried(&table, 65535, &vec![1; results], Ending::Stopped, &[1; 65535]);
@@ -248,19 +287,19 @@ fn long_lengths() {
         assert_eq!((trial.ending, trial.last, trial.moves), (Ending::Stopped, 1, 256));
         assert!(lent[..256].iter().all(|&step| step == 1) && lent[256] == 99);
     }
-    assert_eq!(table.write_image(&mut lent[..65_536]), Ok(50));
-    assert_eq!(Table::load(&lent[..50]), Ok(table.clone()));
-    assert_eq!(Table::load(&lent[..50 + 65_536]), Err(Refusal::NotAccepted));
+    assert_eq!(table.write_image(&mut lent[..65_536]), Ok(86));
+    assert_eq!(Table::load(&lent[..86]), Ok(table.clone()));
+    assert_eq!(Table::load(&lent[..86 + 65_536]), Err(Refusal::NotAccepted));
     assert_eq!(table.key_line(&b"H*4A".repeat(250_000)), Err(Refusal::NotKeyLine));
 }
 
 #[test]
 fn refused_calls_change_nothing() {
-    let mut table = Table::fresh(2).unwrap();
-    assert_eq!(table.add(0, Exit::Answered, Kind::Contact(0)), Ok(1));
+    let mut table = fresh(2);
+    assert_eq!(table.add(0, Exit::Answered, Kind::Contact(0), 0), Ok(1));
     let before = table.clone();
-    assert_eq!(table.add(2, Exit::Answered, Kind::Contact(0)), Err(Refusal::NotInUse));
-    assert_eq!(table.add(0, Exit::Answered, Kind::Contact(0)), Err(Refusal::ExitFilled));
+    assert_eq!(table.add(2, Exit::Answered, Kind::Contact(0), 0), Err(Refusal::NotInUse));
+    assert_eq!(table.add(0, Exit::Answered, Kind::Contact(0), 0), Err(Refusal::ExitFilled));
     for kind in [
         Kind::Alarm,
         Kind::Contact(100),
@@ -269,9 +308,9 @@ fn refused_calls_change_nothing() {
         Kind::Wait(601),
         Kind::Other(257, 0),
     ] {
-        assert_eq!(table.add(0, Exit::Engaged, kind), Err(Refusal::BadKind));
+        assert_eq!(table.add(0, Exit::Engaged, kind, 0), Err(Refusal::BadKind));
     }
-    assert_eq!(table.add(0, Exit::Engaged, Kind::Wait(1)), Err(Refusal::Full));
+    assert_eq!(table.add(0, Exit::Engaged, Kind::Wait(1), 0), Err(Refusal::Full));
     assert_eq!(table.link(0, Exit::Engaged, 1, Exit::Answered), Err(Refusal::ExitEmpty));
     assert_eq!(table.clear(1, Exit::NoReply), Err(Refusal::ExitEmpty));
     assert_eq!(table.clear(65535, Exit::NoReply), Err(Refusal::NotInUse));
@@ -279,37 +318,82 @@ fn refused_calls_change_nothing() {
     assert_eq!(table.read(2), Err(Refusal::NotInUse));
     assert_eq!(table.trial(1, &[9], &mut [0]), Err(Refusal::BadResult));
     assert_eq!(table.trial(5, &[0; 4], &mut [0; 4]), Err(Refusal::TooShort));
-    assert_eq!(table.write_image(&mut [0; 49]), Err(Refusal::TooShort));
+    assert_eq!(table.write_image(&mut [0; 85]), Err(Refusal::TooShort));
     assert_eq!(table, before);
 }
 
 #[test]
 fn images() {
-    let mut table = Table::fresh(4).unwrap();
-    assert_eq!(table.image_length(), Ok(30));
-    table.add(0, Exit::LineFault, Kind::Wait(1)).unwrap();
+    let mut table = fresh(4);
+    assert_eq!(table.image_length(), Ok(64));
+    table.add(0, Exit::LineFault, Kind::Wait(1), 0).unwrap();
     let mut image = [0; telephone::IMAGE_MAX];
-    assert_eq!((table.image_length(), table.write_image(&mut image)), (Ok(50), Ok(50)));
-    assert_eq!(Table::load(&image[..50]), Ok(table.clone()));
+    assert_eq!((table.image_length(), table.write_image(&mut image)), (Ok(86), Ok(86)));
+    assert_eq!(Table::load(&image[..86]), Ok(table.clone()));
     assert_eq!(Table::load(&image), Err(Refusal::NotAccepted));
-    let mut other = Table::fresh(128).unwrap();
-    assert_eq!((other.reload(&image[..50]), &other), (Ok(()), &table));
+    let mut other = fresh(128);
+    assert_eq!((other.reload(&image[..86]), &other), (Ok(()), &table));
     assert_eq!(other.reload(&image), Err(Refusal::NotAccepted));
-    assert_eq!(Ok(other), Table::fresh(1));
+    assert_eq!((&other, other.quotas()), (&fresh(1), Quotas::default()));
+    let mut full = fresh(128);
+    for step in 0..127 {
+        full.add(step, Exit::Answered, Kind::Contact(0), 0).unwrap();
+    }
+    assert_eq!(full.write_image(&mut image), Ok(telephone::IMAGE_MAX));
 }
 
 #[test]
 fn one_table_one_image() {
-    let mut table = Table::fresh(4).unwrap();
-    table.add(0, Exit::Answered, Kind::Contact(0)).unwrap();
-    table.add(1, Exit::Engaged, Kind::Wait(1)).unwrap();
-    let mut image = [0; 70];
-    assert_eq!(table.write_image(&mut image), Ok(70));
-    let reversed = [&image[..10], &image[50..], &image[30..50], &image[10..30]].concat();
+    let mut table = fresh(4);
+    table.add(0, Exit::Answered, Kind::Contact(0), 0).unwrap();
+    table.add(1, Exit::Engaged, Kind::Wait(1), 0).unwrap();
+    let mut image = [0; 108];
+    assert_eq!(table.write_image(&mut image), Ok(108));
+    let reversed = [&image[..42], &image[86..], &image[64..86], &image[42..64]].concat();
     let loaded = Table::load(&reversed).unwrap();
-    let mut again = [0; 70];
-    assert_eq!((&loaded, loaded.write_image(&mut again)), (&table, Ok(70)));
+    let mut again = [0; 108];
+    assert_eq!((&loaded, loaded.write_image(&mut again)), (&table, Ok(108)));
     assert_eq!(again, image);
+}
+
+/// The records of a written image in edition 1, without list and cabins.
+fn in_edition_1(image: &[u8]) -> Vec<Vec<u8>> {
+    let (header, steps) = image.split_at(42);
+    let step = |step: &[u8]| [&[20, 0, 2, 0], &step[4..20]].concat();
+    [[&[10, 0, 1, 0], &header[4..10]].concat()]
+        .into_iter()
+        .chain(steps.chunks(22).map(step))
+        .collect()
+}
+
+/// An image of edition 1 is the table that cabin 0 has to itself, and is written in edition 2. Records of both editions are not one image.
+#[test]
+fn editions() {
+    let table = ring();
+    let mut image = [0; 42 + 7 * 22];
+    assert_eq!(table.write_image(&mut image), Ok(image.len()));
+    let old = in_edition_1(&image);
+    let loaded = Table::load(&old.concat()).unwrap();
+    assert_eq!((&loaded, loaded.quotas()), (&table, sole_quotas(7)));
+    let mut again = image;
+    again.fill(0);
+    assert_eq!((loaded.write_image(&mut again), again), (Ok(image.len()), image));
+    let new: Vec<Vec<u8>> = [image[..42].to_vec()]
+        .into_iter()
+        .chain(image[42..].chunks(22).map(<[u8]>::to_vec))
+        .collect();
+    for (ours, theirs) in [(&old, &new), (&new, &old)] {
+        for place in 0..ours.len() {
+            let mut mixed = ours.clone();
+            mixed[place] = theirs[place].clone();
+            assert_eq!(Table::load(&mixed.concat()), Err(Refusal::NotAccepted), "record {place}");
+        }
+    }
+    let mut none = old.clone();
+    none[0][4] = 0;
+    assert_eq!(Table::load(&none.concat()), Err(Refusal::NotAccepted));
+    let p10 = [&[10, 0, 1, 0, 4, 0, 0, 0, 1, 0, 20, 0, 2][..], &[0; 17]].concat();
+    assert_eq!(Table::load(&p10), Ok(fresh(4)));
 }
 
 /// Steps are renumbered in their order; links, bits and counters go with them, and nothing is left at the old places. A second squeeze changes
@@ -327,10 +411,11 @@ fn squeezes() {
                 table.counts[3 * 2 + 1] = 1;
             }
             let mut table = Table::from_raw(given.clone()).unwrap();
+            let quotas = listed(capacity);
             for _ in 0..2 {
-                assert_eq!((table.squeeze(capacity), table.as_raw()), (Ok(()), &expected));
+                assert_eq!((table.squeeze(capacity, &quotas), table.as_raw()), (Ok(()), &expected));
             }
-            let reply = raw::squeeze(&mut given, capacity);
+            let reply = raw::squeeze(&mut given, capacity, &quotas);
             assert_eq!((reply, given), (raw::Reply::default(), expected));
         }
     }
@@ -345,53 +430,128 @@ fn squeezed_tables_are_used() {
     let mut table = Table::from_raw(given).unwrap();
     tried(&table, 4, &[0, 2], Ending::Spent, &[1, 2, 8]);
     tried(&table, 4, &[0, 3], Ending::Open, &[1, 2, 10]);
-    assert_eq!(table.squeeze(9), Ok(()));
-    let mut image = [0; 170];
-    assert_eq!(table.write_image(&mut image), Ok(170));
-    let numbers = image[10..].chunks(20).map(|record| record[4]);
+    assert_eq!(table.squeeze(9, &listed(9)), Ok(()));
+    let mut image = [0; 42 + 8 * 22];
+    assert_eq!(table.write_image(&mut image), Ok(image.len()));
+    let numbers = image[42..].chunks(22).map(|record| record[4]);
     assert!(image[4..10] == [9, 0, 7, 0, 8, 0] && numbers.eq(0..8));
     assert_eq!(Table::load(&image), Ok(table.clone()));
     tried(&table, 4, &[0, 2], Ending::Spent, &[1, 2, 6]);
     tried(&table, 4, &[0, 3], Ending::Open, &[1, 2, 7]);
-    assert_eq!(table.add(7, Exit::NoReply, Kind::Contact(99)), Ok(8));
-    assert_eq!(table.add(7, Exit::Engaged, Kind::Contact(99)), Err(Refusal::Full));
-    assert_eq!((table.squeeze(10), table.counts()), (Ok(()), Ok(Counts { in_use: 9, free: 1 })));
-    assert_eq!(table.add(7, Exit::Engaged, Kind::Contact(99)), Ok(9));
+    assert_eq!(table.add(7, Exit::NoReply, Kind::Contact(99), 0), Err(Refusal::StepsReserved));
+    assert_eq!(table.add(7, Exit::NoReply, Kind::Contact(99), 4), Ok(8));
+    assert_eq!(table.add(7, Exit::Engaged, Kind::Contact(99), 4), Err(Refusal::Full));
+    assert_eq!(table.squeeze(10, &table.quotas()), Ok(()));
+    assert_eq!(table.counts(), Ok(Counts { in_use: 9, free: 1 }));
+    assert_eq!(table.add(7, Exit::Engaged, Kind::Contact(99), 0), Ok(9));
 }
 
-/// 1 before 2 before 13, and nothing changes. A safe table is sound, so 1 is for the calls on any table.
+/// 1 before 2 before 16 before 13, and nothing changes. A safe table is sound, so 1 is for the calls on any table.
 #[test]
 fn squeezes_refused() {
     let given = different([0, 0, 1, 1]);
     let mut table = Table::from_raw(given.clone()).unwrap();
+    let bad = list(&[(1, 0)]);
     for capacity in [0, 129, 256, 257, 65535] {
-        assert_eq!(table.squeeze(capacity), Err(Refusal::BadCapacity));
+        assert_eq!(table.squeeze(capacity, &bad), Err(Refusal::BadCapacity));
+    }
+    let past_16_bits = list(&[(32768, 65535), (32768, 65535)]);
+    for (capacity, quotas) in [(7, bad), (128, bad), (128, past_16_bits), (8, listed(12))] {
+        assert_eq!(table.squeeze(capacity, &quotas), Err(Refusal::BadCabins));
     }
     for capacity in 1..8 {
-        assert_eq!(table.squeeze(capacity), Err(Refusal::DoesNotFit));
+        assert_eq!(table.squeeze(capacity, &Quotas::default()), Err(Refusal::DoesNotFit));
+    }
+    // charges above a limit, and guarantees above the free steps
+    for (capacity, quotas) in [(8, sole_quotas(8)), (128, sole_quotas(128)), (11, listed(12))] {
+        assert_eq!(table.squeeze(capacity, &quotas), Err(Refusal::DoesNotFit));
     }
     assert_eq!(*table.as_raw(), given);
     let unsound = raw::Table { last: 11, ..given };
     for capacity in [0, 1, 8, 129] {
         let mut lent = unsound.clone();
-        let reply = raw::squeeze(&mut lent, capacity);
+        let reply = raw::squeeze(&mut lent, capacity, &bad);
         assert_eq!((reply, &lent), (raw::Reply { refusal: 1, first: 0, second: 0 }, &unsound));
     }
 }
 
+/// The list of one cabin, and the lists that a fresh table refuses. A refused table has no step to give.
+#[test]
+fn lists() {
+    for (capacity, most) in [(0, 0), (1, 0), (2, 1), (128, 127), (65535, 65534)] {
+        assert_eq!(sole_quotas(capacity), list(&[(most, most)]));
+    }
+    let eighths = list(&[(8192, 65535); CABINS]);
+    let past_16_bits = list(&[(32768, 65535), (32768, 65535)]);
+    for quotas in [list(&[(0, 9), (3, 2)]), list(&[(2, 2), (2, 2)]), eighths, past_16_bits] {
+        assert_eq!(Table::fresh(4, &quotas), Err(Refusal::BadCabins));
+        assert_eq!(Table::fresh(0, &quotas), Err(Refusal::BadCapacity));
+        let mut table = fresh(4);
+        assert_eq!(table.reset(4, &quotas), Err(Refusal::BadCabins));
+        assert_eq!((&table, table.quotas()), (&fresh(1), Quotas::default()));
+    }
+    for quotas in [list(&[(0, 65535); CABINS]), list(&[(2, 2), (1, 3)]), Quotas::default()] {
+        assert_eq!(Table::fresh(4, &quotas).unwrap().quotas(), quotas);
+    }
+}
+
+/// 16 before all but 1, 8 before 14 before 15. Cabin 0 is guaranteed a step, cabin 1 two, cabin 2 may have none.
+#[test]
+fn cabins() {
+    let mut table = Table::fresh(5, &list(&[(1, 2), (2, 2), (0, 0), (0, 9)])).unwrap();
+    let mut add = |step, cabin| table.add(step, Exit::Answered, Kind::Wait(1), cabin);
+    for cabin in [8, 9, 256, 65535] {
+        assert_eq!(
+            (add(0, cabin), add(9, cabin)),
+            (Err(Refusal::BadCabins), Err(Refusal::BadCabins))
+        );
+    }
+    assert_eq!(add(0, 2), Err(Refusal::CabinAtLimit));
+    assert_eq!(add(0, 3), Ok(1));
+    assert_eq!((add(1, 3), add(1, 2)), (Err(Refusal::StepsReserved), Err(Refusal::CabinAtLimit)));
+    assert_eq!((add(0, 3), add(9, 2)), (Err(Refusal::ExitFilled), Err(Refusal::NotInUse)));
+    assert_eq!((add(1, 0), add(2, 0)), (Ok(2), Err(Refusal::StepsReserved)));
+    assert_eq!((add(2, 1), add(3, 1)), (Ok(3), Ok(4)));
+    for cabin in 0..4 {
+        assert_eq!(add(4, cabin), Err(Refusal::Full));
+    }
+    let cabins = [0, 1, 2, 3, 4].map(|step| table.read(step).unwrap().cabin);
+    assert_eq!(cabins, [0, 3, 0, 1, 1]);
+    assert_eq!(table.clear(3, Exit::Answered), Ok(Cleared { doubtful: 1, freed: 1 }));
+    assert_eq!(table.as_raw().cabins[4], 0);
+    // what is freed is reserved again
+    assert_eq!(table.add(3, Exit::Answered, Kind::Wait(1), 3), Err(Refusal::StepsReserved));
+    assert_eq!(table.add(3, Exit::Answered, Kind::Wait(1), 1), Ok(4));
+    let mut unsound = table.clone().into_raw();
+    unsound.cabins[0] = 1;
+    assert_eq!(raw::add(&mut unsound, 9, 9, 9, 9, 9).refusal, 1);
+}
+
+/// A key line adds for cabin 0, and is refused as it is.
+#[test]
+fn key_lines_add_for_cabin_0() {
+    let mut table = Table::fresh(4, &list(&[(0, 1), (1, 3)])).unwrap();
+    assert_eq!(table.key_line(b"H*100001000A"), Ok((1, 0)));
+    assert_eq!(table.read(1).unwrap().cabin, 0);
+    assert_eq!(table.key_line(b"H*100011000A"), Err(Refusal::CabinAtLimit));
+    table.reset(4, &list(&[(0, 3), (3, 3)])).unwrap();
+    assert_eq!(table.key_line(b"H*100001000A"), Err(Refusal::StepsReserved));
+}
+
 #[test]
 fn tables_of_the_caller() {
-    let table = Table::fresh(4).unwrap();
+    let table = fresh(4);
     assert_eq!(Table::from_raw(table.as_raw().clone()), Ok(table.clone()));
     let mut kept = table.clone().into_raw();
     kept.used[0] = 0;
     assert_eq!(Table::from_raw(kept), Err(Refusal::NotSound));
     assert_eq!(Table::from_raw(raw::Table::ZERO), Err(Refusal::NotSound));
-    assert_eq!(Table::fresh(129), Err(Refusal::BadCapacity));
+    assert_eq!(Table::fresh(129, &Quotas::default()), Err(Refusal::BadCapacity));
     let mut other = table.clone();
-    assert_eq!((other.reset(128), other.counts().unwrap().free), (Ok(()), 127));
-    assert_eq!(other.reset(0), Err(Refusal::BadCapacity));
-    assert_eq!(Ok(other), Table::fresh(1));
+    assert_eq!(other.reset(128, &sole_quotas(128)), Ok(()));
+    assert_eq!(other.counts(), Ok(Counts { in_use: 1, free: 127 }));
+    assert_eq!(other.reset(0, &sole_quotas(0)), Err(Refusal::BadCapacity));
+    assert_eq!(other, fresh(1));
 }
 
 #[test]
@@ -400,11 +560,18 @@ fn numbers_go_there_and_back() {
     for number in 1..=65535 {
         let refusal = Refusal::check(number).unwrap_err();
         assert_eq!(refusal.number(), number);
-        assert_eq!(matches!(refusal, Refusal::Unknown(_)), number > 13);
+        assert_eq!(matches!(refusal, Refusal::Unknown(_)), number > 16);
     }
     assert_eq!(Refusal::Full.to_string(), "steps in use equal the capacity");
-    assert_eq!(Refusal::DoesNotFit.to_string(), "capacity below the steps in use");
-    assert_eq!(Refusal::Unknown(14).to_string(), "unknown refusal 14");
+    for (number, words) in [
+        (13, "capacity below the steps in use, or the charges do not fit the new quotas"),
+        (14, "cabin at its limit"),
+        (15, "only steps reserved for other cabins are free"),
+        (16, "cabin above 7, or bad list of guarantees and limits"),
+        (17, "unknown refusal 17"),
+    ] {
+        assert_eq!(Refusal::check(number).unwrap_err().to_string(), words);
+    }
     for number in 0..=65535 {
         let exit = Exit::try_from(number);
         assert_eq!(exit.is_ok(), number < 4);
@@ -420,9 +587,9 @@ fn numbers_go_there_and_back() {
 #[test]
 fn key_line_in_a_small_thread() {
     let visit = || {
-        let mut table = Table::fresh(128)?;
+        let mut table = Table::fresh(128, &sole_quotas(128))?;
         for step in 0..127 {
-            table.add(step, Exit::Answered, Kind::Contact(0))?;
+            table.add(step, Exit::Answered, Kind::Contact(0), 0)?;
         }
         table.key_line(b"H*200000001A")?;
         table.key_line(b"H*30000A")
@@ -440,8 +607,8 @@ fn words_and_strengths() {
     assert_eq!(Kind::of_numbers(9, 8).to_string(), "kind 9 with content 8");
     let exits = Exit::ALL.map(|exit| format!("{exit:<9}|"));
     assert_eq!(exits, ["answered |", "engaged  |", "no reply |", "line fault|"]);
-    let mut table = Table::fresh(4).unwrap();
-    table.add(0, Exit::Answered, Kind::Contact(0)).unwrap();
+    let mut table = fresh(4);
+    table.add(0, Exit::Answered, Kind::Contact(0), 0).unwrap();
     table.link(0, Exit::Answered, 0, Exit::Engaged).unwrap();
     let strengths = |table: &Table| {
         let (alarm, target) = (table.read(0).unwrap(), table.read(1).unwrap());

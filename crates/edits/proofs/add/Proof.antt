@@ -20,7 +20,7 @@ use Rattle.edits.proofs.add.Tie as tie
 -- add is accepted: its refusal is 0
 accepted : (c : tie.Else1) →
     let a = c .before .before .before .before .before .args in
-    addRefusal (tableOf (a .t .now)) (a .holder) (a .exit) (a .kind) (a .content) ≡ 0
+    addRefusal (tableOf (a .t .now)) (a .holder) (a .exit) (a .kind) (a .content) (a .cabin) ≡ 0
 accepted c = sym (c .before .add-refusal .ensures) ∙ c .if1 .left
 
 sound-table : (c : tie.Else1) → Sound (tableOf (c .before .before .before .before .before .args .t .now))
@@ -29,8 +29,8 @@ sound-table c = accepted-sound _ _ (accepted c)
 
 fits : (c : tie.Else1) →
     let a = c .before .before .before .before .before .args in
-    AddFits (tableOf (a .t .now)) (a .holder) (a .exit) (a .kind) (a .content)
-fits c = add-fits _ _ _ _ _ (accepted c)
+    AddFits (tableOf (a .t .now)) (a .holder) (a .exit) (a .kind) (a .content) (a .cabin)
+fits c = add-fits _ _ _ _ _ _ (accepted c)
 
 -- the number given is below the capacity
 number-place : (c : tie.After-number-given) → c .number-given .result < places
@@ -57,8 +57,8 @@ relink-requires c κs =
     let f = fits c1 in
     let g = number-given s (f .room) in
     let n = at .number-given .ensures in
-    let formed = formed-with-step _ (sound-formed s) _ (a .kind) (a .content) (g .2) (g .1) (g .0) (f .fits) in
-    let kept = with-step-kept _ (sound-formed s) _ (a .kind) (a .content) (g .2) (g .1) (g .0) (f .fits) (a .holder) (f .used) in
+    let formed = formed-with-step _ (sound-formed s) _ (a .kind) (a .content) (a .cabin) (g .2) (g .1) (g .0) (f .fits) (f .shared) in
+    let kept = with-step-kept _ (sound-formed s) _ (a .kind) (a .content) (a .cabin) (g .2) (g .1) (g .0) (f .fits) (f .shared) (a .holder) (f .used) in
     rw (c .before .before .before .take-step .ensures .table, c .wide2 .ensures, c .before .wide .ensures)
     (formed-relinkable (rw n formed) (a .holder) (a .exit) (at .number-given .result) 0 (rw n kept) (f .exit) (number-place at) (omega arith))
 

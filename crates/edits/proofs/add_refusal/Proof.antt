@@ -1,110 +1,98 @@
--- `edits::add_refusal` meets its contract: what each condition says once it is passed, and at each return the conditions that led there.
--- Assumes nothing.
-use mathlib.Core.Path.{_≡_, sym, _∙_}
+-- `edits::add_refusal` meets its contract. Assumes nothing.
+use mathlib.Core.Path.{_≡_, refl, sym, _∙_, ap, ap₂}
 use mathlib.Core.Bool.{true, false}
-use Prim.Native.Nat.{_<_}
+use mathlib.Core.List.{List, [], _∷_, _++_}
+use Prim.Native.Nat.{ℕ, _≤_, _<_}
+use native.Mathlib.Omega.{arith}
 use borrow.Author.Needs.{needs}
-use borrow.Author.Tests.{lt-leb, eq-eqb, ne-eqb}
-use Rattle.table.specs.Table.{exits, inUse, targetOf, holds}
-use Rattle.table.specs.Sound.{contentFits, sound}
-use Rattle.table.specs.Answer.{first}
-use Rattle.table.specs.Calls.{tableTests, addRefusal}
-use Rattle.table.proofs.Links.{target-holds, target-empty, used-place}
-use Rattle.table.proofs.Sound.{sound-test}
+use borrow.Author.Tests.{not-false, eq-eqb, ne-eqb, le-leb, lt-leb}
+use Rattle.table.specs.Table.{cabinCount}
+use Rattle.table.specs.Cabins.{atLimit, noneToSpare, charge, freeSteps}
+use Rattle.table.specs.Sound.{Sound, sound}
+use Rattle.table.specs.Answer.{cabinAtLimit, stepsReserved, first}
+use Rattle.table.specs.Calls.{stepConditions, addRefusal}
+use Rattle.table.proofs.Sound.{test-sound, sound-test}
+use Rattle.table.proofs.Calls.{nonzero, past-sound, first-append}
 use Rattle.words.specs.Words.{tableOf}
-use Rattle.words.proofs.Refusals.{table-passed, past-table, table-stopped}
-use Rattle.edits.proofs.Laws.{said-true, said-false, exit-passed, exit-stopped}
+use Rattle.cabins.specs.Parts.{given, shareRefusal}
+use Rattle.cabins.proofs.Laws.{Agree, tabulated, share-refusal}
+use Rattle.edits.specs.Parts.{stepRefusal}
+use Rattle.edits.proofs.Laws.{said-true, said-false}
 use Rattle.edits.proofs.add_refusal.Statement.{statement}
 use Rattle.edits.proofs.add_refusal.Tie as tie
 
 -- what is passed at each else
-accepted : (c : tie.Else1) → first (tableTests (tableOf (c .before .before .args .t .now))) ≡ 0
-accepted c = sym (c .before .table-refusal .ensures) ∙ c .if1 .left
+sound-here : (c : tie.Else1) → Sound (tableOf (c .before .before .before .args .t .now))
+sound-here c = test-sound _ (said-true (c .before .before .check .ensures .0) (c .if1 .left))
 
-sound-here : (c : tie.Else1) → sound (tableOf (c .before .before .args .t .now)) ≡ true
-sound-here c = sound-test _ (table-passed _ (accepted c))
+past-cabin : (c : tie.Else2) → c .before .before .before .before .before .args .cabin < cabinCount
+past-cabin c = omega (arith, c .if2 .left, c .before .wide .ensures)
 
-past-exit : (c : tie.Else2) →
-    let a = c .before .before .before .before .args in (inUse (tableOf (a .t .now)) (a .holder) ≡ true) × (a .exit < exits)
-past-exit c = exit-passed _ _ _ (sym (c .before .exit-refusal .ensures) ∙ c .if2 .left)
-
--- what the exit holds
-target : (c : tie.After-target-at) →
-    let a = c .before .before .before .before .before .before .before .args in
-    c .target-at .result ≡ targetOf (tableOf (a .t .now)) (a .holder) (a .exit)
-target c =
-    let a = c .before .before .before .before .before .before .before .args in
-    c .target-at .ensures ∙ rw (c .before .wide2 .ensures, c .before .before .wide .ensures)
-
-past-empty : (c : tie.Else3) →
-    let a = c .before .before .before .before .before .before .before .before .args in
-    holds (tableOf (a .t .now)) (a .holder) (a .exit) ≡ false
-past-empty c = target-empty _ _ _ (sym (target (c .before)) ∙ c .if3 .left)
-
-past-fits : (c : tie.Else4) →
-    let a = c .before .before .before .before .before .before .before .before .before .before .args in
-    contentFits (a .kind) (a .content) ≡ true
-past-fits c = said-true (c .before .content-fits .ensures) (c .if4 .left)
+-- the charges are those that the test counted
+counted : (c : tie.Else1) → Agree (given (c .before .before .check .result .charges)) (charge (tableOf (c .before .before .before .args .t .now)))
+counted c = tabulated _ (charge _) (c .before .before .check .ensures .1 (not-false _ (c .if1 .left)))
 
 returns : tie.Need-returns
-unfolding addRefusal
-returns c =
-    let e = c .before .table-refusal .ensures in
-    e ∙ table-stopped _ _ (λ z. c .if1 .taken (e ∙ z))
+unfolding addRefusal first
+returns c = rw (said-false (c .before .before .check .ensures .0) (c .if1 .taken))
 
 returns-2 : tie.Need-returns-2
-unfolding addRefusal
+unfolding addRefusal first
 returns-2 c =
-    let e = c .before .exit-refusal .ensures in
-    e ∙ exit-stopped _ _ _ _ (λ z. c .if2 .taken (e ∙ z)) ∙ sym (past-table _ _ (accepted (c .before .before)))
+    let s = sound-here (c .before .before) in
+    let high : cabinCount ≤ c .before .before .before .before .before .args .cabin = omega (arith, c .if2 .taken, c .before .wide .ensures) in
+    rw (sound-test _ s, le-leb cabinCount _ high)
 
-target-at-requires : tie.Need-target-at-requires
-target-at-requires c κs =
-    let c2 = c .before .before in
-    let p = past-exit c2 in
-    let place = used-place (table-passed _ (accepted (c2 .before .before)) .shape) _ (p .0) in
-    rw (c .wide2 .ensures, c .before .wide .ensures) (place, p .1)
+step-refusal-requires : tie.Need-step-refusal-requires
+step-refusal-requires c κs = sound-here (c .before .before)
+
+-- on a sound table, for a cabin that there is, the order is that of the steps, then that of the shares
+shares : (c : tie.Else2) →
+    let a = c .before .before .before .before .before .args in
+    let t = tableOf (a .t .now) in
+    addRefusal t (a .holder) (a .exit) (a .kind) (a .content) (a .cabin) ≡
+    first
+    (stepConditions t (a .holder) (a .exit) (a .kind) (a .content) ++
+    ((atLimit (t .quotas) (charge t) (a .cabin), cabinAtLimit) ∷
+    (noneToSpare (t .quotas) (charge t) (freeSteps t) (a .cabin), stepsReserved) ∷
+    []))
+unfolding addRefusal
+shares c = past-sound (sound-here (c .before .before)) _ ∙ (unfold first in rw (lt-leb cabinCount _ (past-cabin c)))
 
 returns-3 : tie.Need-returns-3
-unfolding addRefusal first
+unfolding stepRefusal
 returns-3 c =
-    let c2 = c .before .before .before .before in
-    let p = past-exit c2 in
-    let filled = target-holds _ _ _ (λ z. c .if3 .taken (target (c .before) ∙ z)) in
-    rw (sound-here (c2 .before .before), p .0, lt-leb exits _ (p .1), filled)
+    let e = c .before .step-refusal .ensures in
+    let a = c .before .before .before .before .before .before .before .args in
+    e
+    ∙ sym
+    (shares (c .before .before)
+    ∙ first-append (stepConditions (tableOf (a .t .now)) (a .holder) (a .exit) (a .kind) (a .content)) _ (unfold nonzero in refl)
+    ∙ rw (ne-eqb _ 0 (λ z. c .if3 .taken (e ∙ z))))
+
+share-refusal-requires : tie.Need-share-refusal-requires
+share-refusal-requires c κs =
+    let c2 = c .before .before .before .before .before .before .before in
+    rw (c2 .before .wide .ensures) (past-cabin c2)
 
 returns-4 : tie.Need-returns-4
-unfolding addRefusal first
+unfolding stepRefusal nonzero
 returns-4 c =
-    let c3 = c .before .before in
-    let c2 = c3 .before .before .before .before in
-    let p = past-exit c2 in
-    rw (sound-here (c2 .before .before), p .0, lt-leb exits _ (p .1), past-empty c3, said-false (c .before .content-fits .ensures) (c .if4 .taken))
-
-count-used-requires : tie.Need-count-used-requires
-count-used-requires c κs =
-    let c2 = c .before .before .before .before .before .before in
-    table-passed _ (accepted (c2 .before .before)) .most
-
-returns-5 : tie.Need-returns-5
-unfolding addRefusal first
-returns-5 c =
-    let c4 = c .before .before .before in
-    let c3 = c4 .before .before in
-    let c2 = c3 .before .before .before .before in
-    let p = past-exit c2 in
-    let full = eq-eqb _ _ (sym (c .before .before .count-used .ensures) ∙ c .if5 .taken ∙ c .before .capacity .ensures) in
-    rw (sound-here (c2 .before .before), p .0, lt-leb exits _ (p .1), past-empty c3, past-fits c4, full)
-
-returns-6 : tie.Need-returns-6
-unfolding addRefusal first
-returns-6 c =
-    let c4 = c .before .before .before in
-    let c3 = c4 .before .before in
-    let c2 = c3 .before .before .before .before in
-    let p = past-exit c2 in
-    let room = ne-eqb _ _ (λ q. c .if5 .left (c .before .before .count-used .ensures ∙ q ∙ sym (c .before .capacity .ensures))) in
-    rw (sound-here (c2 .before .before), p .0, lt-leb exits _ (p .1), past-empty c3, past-fits c4, room)
+    let c3 = c .before .before .before .before .before .before in
+    let c2 = c3 .before .before in
+    let c1 = c2 .before .before in
+    let a = c1 .before .before .before .args in
+    let t = tableOf (a .t .now) in
+    let charges = given (c1 .before .before .check .result .charges) in
+    let read = c .before .before .before .before .before .quotas-of in
+    c .share-refusal .ensures
+    ∙ ap₂ (λ (n k : ℕ). shareRefusal n (read .result) charges k) (c .before .before .before .capacity .ensures) (c2 .before .wide .ensures)
+    ∙ ap (λ (q : List ℕ). shareRefusal (t .capacity) q charges (a .cabin)) (read .ensures)
+    ∙ share-refusal (sound-here c1) charges (counted c1) (a .cabin) (past-cabin c2)
+    ∙ sym
+    (shares c2
+    ∙ first-append (stepConditions t (a .holder) (a .exit) (a .kind) (a .content)) _ refl
+    ∙ rw (eq-eqb _ 0 (sym (c3 .before .step-refusal .ensures) ∙ c3 .if3 .left)))
 
 pub add-refusal-spec : {M : Type 1} → statement M
 add-refusal-spec =
@@ -114,13 +102,9 @@ add-refusal-spec =
     returns
     (λ c κs. search needs)
     returns-2
-    (λ c κs. search needs)
-    (λ c κs. search needs)
-    target-at-requires
+    step-refusal-requires
     returns-3
     (λ c κs. search needs)
-    returns-4
-    count-used-requires
     (λ c κs. search needs)
-    returns-5
-    returns-6)
+    share-refusal-requires
+    returns-4)

@@ -9,7 +9,8 @@ use Rattle.edits.proofs.fields_of.Tie as tie
 returns : tie.Need-returns
 unfolding fieldsOf tabulate tabulateFrom
 returns c =
-    let bits = c .before .before in
+    let counts = c .before in
+    let bits = counts .before .before in
     let targets = bits .before .before .before .before in
     let own = targets .before .before .before .before in
     λ i.
@@ -23,13 +24,15 @@ returns c =
       bits =
           bits .before .before .before .bit-at .ensures i ∷ bits .before .before .bit-at2 .ensures i ∷
           bits .before .bit-at3 .ensures i ∷ bits .bit-at4 .ensures i ∷ [];
-      counts = c .before .counter-at .ensures i ∷ c .counter-at2 .ensures i ∷ [];
+      counts = counts .before .counter-at .ensures i ∷ counts .counter-at2 .ensures i ∷ [];
+      cabin = c .cabin-at .ensures i;
     }
 
 pub fields-of-spec : {M : Type 1} → statement M
 fields-of-spec =
     tie.close
     (tie.spec
+    (λ c κs. search needs)
     (λ c κs. search needs)
     (λ c κs. search needs)
     (λ c κs. search needs)

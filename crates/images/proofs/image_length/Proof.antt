@@ -25,7 +25,7 @@ module _ (t : Table) (z : first (tableTests t) ≡ 0) where
   unfolding stepsInUse
   few = omega (arith, most, count-le (t .capacity) (inUse t))
 
-  room : (n : ℕ) → n ≡ stepsInUse t → Given (10 + 20 * n) 0 ≡ lengthCall t
+  room : (n : ℕ) → n ≡ stepsInUse t → Given (42 + 22 * n) 0 ≡ lengthCall t
   unfolding lengthCall imageLength recordSize
   room n e = rw (eq-eqb (first (tableTests t)) 0 z, e)
 

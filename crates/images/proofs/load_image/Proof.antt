@@ -11,7 +11,7 @@ returns : tie.Need-returns
 returns c =
     let t = c .before .before .before in
     let e = load-refused _ (sym (t .take-image .ensures .0) ∙ not-true-false _ (c .before .before .if1 .taken)) in
-    (sym (ap (λ o. o .answer) e), c .fresh-table .ensures ∙ sym (ap (λ o. wordsOf (o .table)) e))
+    (sym (ap (λ o. o .answer) e), c .refused-table .ensures ∙ sym (ap (λ o. wordsOf (o .table)) e))
 
 returns-2 : tie.Need-returns-2
 returns-2 c =

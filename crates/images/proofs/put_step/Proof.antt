@@ -3,29 +3,37 @@ use mathlib.Core.Path.{_∙_}
 use mathlib.Core.List.{[], _∷_}
 use native.Mathlib.Omega.{arith}
 use borrow.Author.Needs.{needs}
-use Rattle.image.specs.Image.{recordSize, recordBytes}
+use Rattle.image.specs.Image.{recordSize}
 use Rattle.images.specs.Parts.{recordFields}
-use Rattle.images.proofs.Laws.{put-more, put-eq}
+use Rattle.images.proofs.Laws.{put-more, put-record}
 use Rattle.images.proofs.put_step.Statement.{statement}
 use Rattle.images.proofs.put_step.Tie as tie
 
 returns : tie.Need-returns
-unfolding recordBytes recordSize recordFields
+unfolding recordSize recordFields
 returns c =
-    let e = c .before .before .before .before .before .before .before .before .before .before in
-    let part = e .before .before .before .before .before .before .before .args .part .now in
-    let r = e .before .before .before .before .before .before .before .args .r in
-    put-more part 0 12 (20 ∷ 2 ∷ r .number ∷ r .kind ∷ r .content ∷ r .bits ∷ []) (r .first ∷ r .second ∷ r .third ∷ r .fourth ∷ []) (omega arith)
-    (put-more part 0 4 (20 ∷ 2 ∷ []) (r .number ∷ r .kind ∷ r .content ∷ r .bits ∷ []) (omega arith)
-    (put-more part 0 2 (20 ∷ []) (2 ∷ []) (omega arith) (e .before .before .before .before .put-word .ensures) (e .put-word2 .ensures))
-    (c .before .before .before .before .before .before .put-four .ensures))
-    (c .before .before .put-four2 .ensures)
-    ∙ put-eq part (recordSize 8 ∷ 2 ∷ recordFields r) (omega arith)
+    let four₂ = c .before .before .before .before .before .before in
+    let four = four₂ .before .before .before .before in
+    let word₂ = four .before .before .before .before in
+    let word = word₂ .before .before .before .before in
+    let start = word .before .before .before in
+    let part = start .args .part .now in
+    let r = start .args .r in
+    put-more part 0 20 (22 ∷ 4 ∷ r .number ∷ r .kind ∷ r .content ∷ r .bits ∷ r .first ∷ r .second ∷ r .third ∷ r .fourth ∷ []) (r .cabin ∷ [])
+    (omega arith)
+    (put-more part 0 12 (22 ∷ 4 ∷ r .number ∷ r .kind ∷ r .content ∷ r .bits ∷ []) (r .first ∷ r .second ∷ r .third ∷ r .fourth ∷ []) (omega arith)
+    (put-more part 0 4 (22 ∷ 4 ∷ []) (r .number ∷ r .kind ∷ r .content ∷ r .bits ∷ []) (omega arith)
+    (put-more part 0 2 (22 ∷ []) (4 ∷ []) (omega arith) (word .put-word .ensures) (word₂ .put-word2 .ensures))
+    (four .put-four .ensures))
+    (four₂ .put-four2 .ensures))
+    (c .before .before .put-word3 .ensures)
+    ∙ put-record part 22 4 (recordFields r) (omega arith) (start .pre)
 
 pub put-step-spec : {M : Type 1} → statement M
 put-step-spec =
     tie.close
     (tie.spec
+    (λ c κs. search needs)
     (λ c κs. search needs)
     (λ c κs. search needs)
     (λ c κs. search needs)

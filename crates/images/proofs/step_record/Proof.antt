@@ -5,7 +5,7 @@ use borrow.Author.Needs.{needs}
 use Rattle.table.specs.Table.{linkBit}
 use Rattle.table.proofs.Sound.{test-sound}
 use Rattle.words.specs.Words.{tableOf}
-use Rattle.image.specs.Image.{bitsOf, stepFieldsOf}
+use Rattle.image.specs.Image.{bitsOf, stepAdds, stepFieldsOf}
 use Rattle.images.specs.Parts.{recordFields}
 use Rattle.images.proofs.step_record.Statement.{statement}
 use Rattle.images.proofs.step_record.Tie as tie
@@ -23,20 +23,21 @@ pack-requires c κs =
     )
 
 returns : tie.Need-returns
-unfolding recordFields stepFieldsOf bitsOf
+unfolding recordFields stepFieldsOf stepAdds bitsOf
 returns c =
-    let s = c .before .before .before .before .before .before in
+    let s = c .before .before .before .before .before .before .before in
     let o = s .before .own-at .ensures in
     let b₃ = s .before .before .bit-at4 .ensures in
     let b₂ = s .before .before .before .bit-at3 .ensures in
     let b₁ = s .before .before .before .before .bit-at2 .ensures in
     let b₀ = s .before .before .before .before .before .bit-at .ensures in
-    let kind = c .before .before .before .before .before .kind-at .ensures in
-    let content = c .before .before .before .before .content-at .ensures in
-    let t₀ = c .before .before .before .target-at .ensures in
-    let t₁ = c .before .before .target-at2 .ensures in
-    let t₂ = c .before .target-at3 .ensures in
-    rw (kind, content, s .pack .ensures, o, b₀, b₁, b₂, b₃, t₀, t₁, t₂, c .target-at4 .ensures)
+    let kind = c .before .before .before .before .before .before .kind-at .ensures in
+    let content = c .before .before .before .before .before .content-at .ensures in
+    let t₀ = c .before .before .before .before .target-at .ensures in
+    let t₁ = c .before .before .before .target-at2 .ensures in
+    let t₂ = c .before .before .target-at3 .ensures in
+    let t₃ = c .before .target-at4 .ensures in
+    rw (kind, content, s .pack .ensures, o, b₀, b₁, b₂, b₃, t₀, t₁, t₂, t₃, c .cabin-at .ensures)
 
 pub step-record-spec : {M : Type 1} → statement M
 step-record-spec =
@@ -49,6 +50,7 @@ step-record-spec =
     (λ c κs. search needs)
     pack-requires
     (λ c. search needs)
+    (λ c κs. search needs)
     (λ c κs. search needs)
     (λ c κs. search needs)
     (λ c κs. search needs)

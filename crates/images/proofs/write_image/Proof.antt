@@ -21,7 +21,7 @@ use Rattle.images.proofs.write_image.Tie as tie
 abbrev Inv-loop : tie.InvT-loop
 Inv-loop t buffer₀ refusal steps size capacity n at₀ i₀ buffer at i =
     (i ≤ n) × (n ≡ tableOf t .capacity) × (sound (tableOf t) ≡ true) ×
-    (10 + 20 * stepsInUse (tableOf t) ≤ length buffer₀) × (length buffer₀ < 2 ^ 64) × Written (tableOf t) buffer₀ buffer at i
+    (42 + 22 * stepsInUse (tableOf t) ≤ length buffer₀) × (length buffer₀ < 2 ^ 64) × Written (tableOf t) buffer₀ buffer at i
 
 abbrev μ-loop : tie.MeasureT-loop
 μ-loop t buffer₀ refusal steps size capacity n at₀ i₀ buffer at i = n - i
@@ -35,9 +35,12 @@ small : (t : Table) → sound t ≡ true → stepsInUse t ≤ 128
 unfolding stepsInUse
 small t s = omega (arith, count-le (t .capacity) (inUse t), test-sound t s .most)
 
--- the table, at the loop's head
+-- the steps counted and the table, at the loop's head
+abbrev countAt : tie.At-loop Inv-loop μ-loop → tie.After-count-used Inv-loop μ-loop
+countAt l = l .before .before .before .before .before .before .before .before .before .before .before .before
+
 abbrev tableAt : tie.At-loop Inv-loop μ-loop → Table
-tableAt l = tableOf (l .before .before .before .before .before .before .before .before .before .before .before .before .before .before .args .t .now)
+tableAt l = tableOf (countAt l .before .before .before .before .args .t .now)
 
 -- a step below the capacity has a place
 low : (c : tie.In-loop Inv-loop μ-loop) → c .before .loop .i < 128
@@ -46,7 +49,7 @@ low c =
     omega (arith, c .loop-test .taken, inv .1, test-sound (tableAt (c .before)) (inv .2) .most)
 
 -- the record of a step in use has room
-room : (c : tie.Then3 Inv-loop μ-loop) → c .before .before .before .loop .at + 20 ≤ length (c .before .before .before .loop .buffer)
+room : (c : tie.Then3 Inv-loop μ-loop) → c .before .before .before .loop .at + 22 ≤ length (c .before .before .before .loop .buffer)
 unfolding stepsInUse
 room c =
     let l = c .before .before .before in
@@ -80,21 +83,21 @@ returns-2 c =
     (sym (ap (λ w. w .answer) e), sym (ap (λ w. w .buffer) e))
 
 put-header-requires : tie.Need-put-header-requires Inv-loop μ-loop
-put-header-requires c κs = omega (arith, c .before .before .before .if2 .left, c .before .before .before .before .wide .ensures)
+put-header-requires c κs = let e = c .before .before .before .before .before in omega (arith, e .if2 .left, e .before .wide .ensures)
 
 loop-holds : tie.Need-loop-holds Inv-loop μ-loop
 loop-holds c =
     let h = c .before .before .before in
-    let w = h .before .before .before .before .before in
+    let w = h .before .before .before .before .before .before .before in
     let s = w .before in
     let a = s .before .before .before .before .args in
     let t = tableOf (a .t .now) in
     let start = h .put-header .last .0 in
     let k : length start ≡ length (a .buffer .now) = h .put-header .kept .0 in
-    let enough : 10 + 20 * stepsInUse t ≤ length start =
-    omega (arith, k, s .count-used .ensures, w .wide .ensures, h .before .before .before .before .if2 .left) in (
+    let enough : 42 + 22 * stepsInUse t ≤ length start =
+    omega (arith, k, s .count-used .ensures, w .wide .ensures, h .before .before .before .before .before .before .if2 .left) in (
       omega arith,
-      c .wide2 .ensures ∙ h .before .before .before .capacity .ensures,
+      c .wide2 .ensures ∙ h .before .before .before .before .before .capacity .ensures,
       passed (s .before),
       enough,
       omega (arith, k, s .before .before .before .before .good),
@@ -157,7 +160,8 @@ returns-3 c =
     let l = c .before in
     let t = tableAt l in
     let h = l .before .before .before .before in
-    let s = h .before .before .before .before .before .before in
+    let s = countAt l in
+    let q = h .before .before .before .before in
     let buffer = s .before .before .before .before .args .buffer .now in
     let bytes = l .loop .buffer in
     let at = l .loop .at in
@@ -166,10 +170,10 @@ returns-3 c =
     let i : l .loop .i ≡ t .capacity = omega (arith, inv .0, inv .1, c .loop-test .left) in
     let w : Written t (h .put-header .last .0) bytes at (t .capacity) = rw i at (inv .5) in
     let enough = h .put-header .kept .0 in
+    let header = rw (q .before .capacity .ensures, h .before .before .last .ensures, q .quotas-of .ensures) at (h .put-header .ensures) in
     let e = write-fits t buffer (inv .2) (omega (arith, inv .3, enough)) in (
-      ap (λ (k : ℕ). Given (10 + 20 * k) 0) n ∙ sym (ap (λ w. w .answer) e),
-      written-all t _ buffer bytes at (s .count-used .result) w n
-          (rw (h .before .before .before .capacity .ensures, h .before .last .ensures) at (h .put-header .ensures)) ∙ sym (ap (λ w. w .buffer) e),
+      ap (λ (k : ℕ). Given (42 + 22 * k) 0) n ∙ sym (ap (λ w. w .answer) e),
+      written-all t _ buffer bytes at (s .count-used .result) w n (test-sound t (inv .2) .shape .quotas) header ∙ sym (ap (λ w. w .buffer) e),
     )
 
 pub write-image-spec : {M : Type 1} → statement M
@@ -185,6 +189,7 @@ write-image-spec =
     add-size
     (λ c κs. search needs)
     returns-2
+    (λ c κs. search needs)
     (λ c κs. search needs)
     (λ c κs. search needs)
     put-header-requires

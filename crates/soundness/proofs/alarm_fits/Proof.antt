@@ -30,13 +30,23 @@ four c =
     (λ w. rw (sym (three (c .before)) ∙ w .0 .left) (w .1 ∙ w .0 .left))
     (c .if3 .came)
 
+five : (c : tie.Joined4) → c .if4 .if5 ≡
+    (eqb (c .before .before .before .before .args .used) 1 && eqb (c .before .before .before .before .args .kind) 0 &&
+    eqb (c .before .before .before .before .args .content) 0 && ltb (c .before .before .before .before .args .own) counters &&
+    eqb (c .before .before .before .before .args .count) 0)
+five c =
+    ⊎-elim
+    (λ w. w .1 ∙ rw (sym (four (c .before)) ∙ w .0 .taken))
+    (λ w. rw (sym (four (c .before)) ∙ w .0 .left) (w .1 ∙ w .0 .left))
+    (c .if4 .came)
+
 returns : tie.Need-returns
 unfolding alarmFits
-returns c = rw (sym (four (c .before)) ∙ c .if4 .taken)
+returns c = rw (sym (five (c .before)) ∙ c .if5 .taken)
 
 returns-2 : tie.Need-returns-2
 unfolding alarmFits
-returns-2 c = rw (sym (four (c .before)) ∙ c .if4 .left) (c .if4 .left)
+returns-2 c = rw (sym (five (c .before)) ∙ c .if5 .left) (c .if5 .left)
 
 pub alarm-fits-spec : {M : Type 1} → statement M
 alarm-fits-spec = tie.close (tie.spec returns returns-2)

@@ -20,18 +20,18 @@ unfolding stepFits
 steps-fit t z x e = one-fault places (fieldsAt t) (stepFits t) 0 (omega arith) z refl (λ i d. rw (ne-eqb i 0 d)) x e
 
 -- the passes made so far found no other fault
-steps : (c : tie.Else1) → all places (stepFits (tableOf (c .before .before .args .t .now))) ≡ true
-steps c = sym (steps-fit _ (c .before .before .pre .1) _ (c .before .step-faults .ensures)) ∙ eq-eqb _ _ (c .if1 .left)
+steps : (c : tie.Else1) → all places (stepFits (tableOf (c .before .args .t .now))) ≡ true
+steps c = sym (steps-fit _ (c .before .pre .1) _ (c .before .pre .2)) ∙ eq-eqb _ _ (c .if1 .left)
 
-links : (c : tie.Else2) → all (places * exits) (exitFits (tableOf (c .before .before .before .before .args .t .now))) ≡ true
+links : (c : tie.Else2) → all (places * exits) (exitFits (tableOf (c .before .before .before .args .t .now))) ≡ true
 links c = sym (no-faults _ _ _ (c .before .link-faults .ensures)) ∙ eq-eqb _ _ (c .if2 .left)
 
-counts : (c : tie.Else3) → all places (countersFit (tableOf (c .before .before .before .before .before .before .args .t .now))) ≡ true
+counts : (c : tie.Else3) → all places (countersFit (tableOf (c .before .before .before .before .before .args .t .now))) ≡ true
 counts c = sym (no-faults _ _ _ (c .before .count-faults .ensures)) ∙ eq-eqb _ _ (c .if3 .left)
 
 returns : tie.Need-returns
 unfolding arraysFit
-returns c = rw (sym (steps-fit _ (c .before .before .pre .1) _ (c .before .step-faults .ensures)) ∙ ne-eqb _ _ (c .if1 .taken))
+returns c = rw (sym (steps-fit _ (c .before .pre .1) _ (c .before .pre .2)) ∙ ne-eqb _ _ (c .if1 .taken))
 
 returns-2 : tie.Need-returns-2
 unfolding arraysFit
@@ -48,7 +48,7 @@ returns-3 c =
 
 used-above-requires : tie.Need-used-above-requires
 used-above-requires c κs =
-    rw (c .wide .ensures, c .before .capacity .ensures) (c .before .before .before .before .before .before .before .before .pre .0)
+    rw (c .wide .ensures, c .before .capacity .ensures) (c .before .before .before .before .before .before .before .pre .0)
 
 returns-4 : tie.Need-returns-4
 unfolding arraysFit
@@ -61,7 +61,6 @@ pub arrays-fit-spec : {M : Type 1} → statement M
 arrays-fit-spec =
     tie.close
     (tie.spec
-    (λ c κs. search needs)
     returns
     (λ c κs. search needs)
     returns-2

@@ -5,8 +5,8 @@ use native.Mathlib.Omega.{arith}
 use lib.ListN.{getD}
 use Rattle.table.specs.Table.{places, counters}
 use Rattle.words.specs.Words.{tableOf}
-use Rattle.soundness.specs.Parts.{total}
-use Rattle.soundness.proofs.Totals.{total-next}
+use Rattle.finite.specs.Below.{total}
+use Rattle.finite.proofs.Totals.{total-next}
 use Rattle.soundness.proofs.counted.Statement.{statement}
 use Rattle.soundness.proofs.counted.Tie as tie
 

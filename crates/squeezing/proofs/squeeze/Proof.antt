@@ -34,7 +34,8 @@ sub-put-numbers c =
 returns-2 : tie.Need-returns-2
 unfolding squeezeCall squeezed squeezedSteps withNumbers
 returns-2 c =
-    let moved = c .before .before in
+    let numbers = c .before .before in
+    let moved = numbers .before .before in
     let used = moved .before .before in
     let c1 = used .before .before in
     let a = c1 .before .before .before .before .before .args in
@@ -44,10 +45,12 @@ returns-2 c =
       given-words e _ _ _ size (c1 .if1 .left)
           (record {
             table =
-                c .put-numbers .ensures .table ∙
-                ap (λ (t : Table). withNumbers t (a .capacity) (used .count-used .result - 1)) (moved .move-steps .ensures .table) ∙
+                c .put-quotas .ensures .table ∙
+                ap (λ (t : Table). withNumbers t (t .capacity) (t .last) (a .quotas .now))
+                (numbers .put-numbers .ensures .table ∙
+                ap (λ (t : Table). withNumbers t (a .capacity) (used .count-used .result - 1) (t .quotas)) (moved .move-steps .ensures .table)) ∙
                 rw (used .count-used .ensures);
-            size = c .put-numbers .ensures .size ∙ moved .move-steps .ensures .size;
+            size = c .put-quotas .ensures .size ∙ numbers .put-numbers .ensures .size ∙ moved .move-steps .ensures .size;
           }),
     )
 
@@ -61,5 +64,6 @@ squeeze-spec =
     (λ c κs. sound-table (c .before) .most)
     (λ c κs. sound-table (c .before .before .before))
     sub-put-numbers
+    (λ c κs. search needs)
     (λ c κs. search needs)
     returns-2)

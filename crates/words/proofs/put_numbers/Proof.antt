@@ -19,7 +19,7 @@ returns c =
     record {
       table =
           store-last (set w 0 n) last (omega (arith, length-set w 0 n)) ∙
-          ap (λ (t : Table). withSteps t last (t .used) (t .kinds) (t .contents) (t .own)) (store-capacity w n (omega arith));
+          ap (λ (t : Table). withSteps t last (t .used) (t .kinds) (t .contents) (t .own) (t .cabins)) (store-capacity w n (omega arith));
       size = length-set (set w 0 n) _ _ ∙ length-set w _ _;
     }
 

@@ -1,0 +1,2 @@
+-- Laws of quotas and charges as the code adds them up.
+pub mod Laws

@@ -1,0 +1,377 @@
+-- The cabins along a history (document 02, W5): what one call changes, and what is counted from the first table on. Assumes nothing.
+--   guarantee-demand   a cabin below its guarantee is not refused by 8, 14 or 15
+--   charges-demand     the charges, cabin by cabin and together
+use mathlib.Core.Path.{_≡_, refl, sym, _∙_, ap}
+use mathlib.Core.Bool.{Bool, true, false, _&&_, not, cond}
+use mathlib.Core.Logic.{⊎-elim}
+use mathlib.Core.List.{List, [], _∷_}
+use Prim.Native.Nat.{ℕ, _+_, _-_, _≤_, _<_}
+use native.Mathlib.Omega.{arith}
+use lib.ListN.{length}
+use lib.Dec.{eqb}
+use borrow.Author.Tests.{eq-eqb, ne-eqb, lt-leb}
+use Rattle.finite.specs.Below.{one, count}
+use Rattle.finite.proofs.Bools.{and-intro, and-left, and-right, clash, refute, same-test, not-true-false}
+use Rattle.finite.proofs.Below.{eq-or-ne, count-ext, count-none, count-split, count-same, count-change}
+use Rattle.table.specs.declared.Answer.the-variants.{Refused, Given}
+use Rattle.table.specs.Table.{Table, cabinCount, inUse, cabinOf, stepsInUse, withLinks}
+use Rattle.table.specs.Cabins.{guaranteeOf, limitOf, atLimit, noneToSpare, charged, charge, freeSteps}
+use Rattle.table.specs.Sound.{Sound}
+use Rattle.table.specs.Answer.{Outcome, notSound, notInUse, badExit, exitFilled, exitEmpty, badKind, notKeyLine, full, cabinAtLimit, stepsReserved, badCabins, first, unless, refusalOf, firstOf, secondOf}
+use Rattle.table.specs.Calls.{numberGiven, relink, addConditions, addRefusal, addCall, linkTable, linkCall}
+use Rattle.table.specs.Clear.{emptied, cleared, clearRefusal, clearCall}
+use Rattle.table.specs.Squeeze.{squeezeRefusal, squeezeCall}
+use Rattle.table.proofs.Formed.{sound-formed, formed-wired}
+use Rattle.table.proofs.Cabins.{sound-shares, formed-charges, guarantee-free, charged-used, used-charged, Adds, charge-more, charge-stays}
+use Rattle.table.proofs.Edits.{number-given, adds}
+use Rattle.table.proofs.Clear.{Cleared, reached-in-use, emptied-used, emptied-steps, formed-emptied}
+use Rattle.table.proofs.Links.{sound-wired}
+use Rattle.table.proofs.Calls.{unless-zero, unless-refused, past-sound, add-fits, ClearFits, clear-fits, clear-cleared}
+use Rattle.table.proofs.Squeeze.{squeeze-fits, charge-same, used-same}
+use Rattle.keyline.specs.declared.Command.{Command}
+use Rattle.keyline.specs.declared.Command.the-variants.{Add, Link, Clear, Count}
+use Rattle.keyline.specs.declared.Decoded.{Decoded}
+use Rattle.keyline.specs.declared.Decoded.the-variants.{Line, Nothing}
+use Rattle.keyline.specs.Keys.{keyCabin, decode, callDigit, spokenCounts, perform, callConditions, lineConditions, performLine, keyCall}
+use Rattle.history.specs.History.{First, Call, add, link, clear, read, trial, write, keyLine, squeeze, Heard, onlyRefusal, heardAs, callOf, ran, run, tableAfter, heardBy, firstTable}
+use Rattle.history.specs.Acts.{told}
+use Rattle.history.specs.Accounts.{cabinFor, gave, gone, account, tally}
+use Rattle.history.specs.Demands.{NotFull, GuaranteeDemand, ChargesDemand}
+use Rattle.history.proofs.Demand1.{told-refusal, Performed, performed}
+use Rattle.history.proofs.Agree.{cond-same, heard-refused, call-agrees}
+use Rattle.history.proofs.Demand3.{begun, after-sound}
+
+-- what a call did to the charges and to the steps in use, beside what was heard
+record Counts (cabin : ℕ) (t : Table) (h : Heard) (u : Table) : Type 0 where
+  each : (c : ℕ) → charge u c + cond (eqb (h .freed) 0) 0 (gone t u c) ≡ charge t c + cond (eqb cabin c) (gave h) 0
+  steps : stepsInUse u + h .freed ≡ stepsInUse t + gave h
+
+counts-still : (cabin : ℕ) (t u : Table) (h : Heard) → h .given ≡ 0 → h .freed ≡ 0 → ((c : ℕ) → charge u c ≡ charge t c) → stepsInUse u ≡ stepsInUse t →
+    Counts cabin t h u
+unfolding gave
+counts-still cabin t u h g f same steps =
+    record {
+      each =
+          λ c.
+          let gaves : one (not (eqb (h .given) 0)) ≡ 0 = ap (λ (b : Bool). one (not b)) (eq-eqb _ 0 g) in
+          let left : cond (eqb (h .freed) 0) 0 (gone t u c) ≡ 0 = ap (λ (b : Bool). cond b 0 (gone t u c)) (eq-eqb _ 0 f) in
+          let right : cond (eqb cabin c) (one (not (eqb (h .given) 0))) 0 ≡ 0 =
+          ap (λ (n : ℕ). cond (eqb cabin c) n 0) gaves ∙ cond-same (eqb cabin c) in
+          let s = same c in
+          omega arith;
+      steps = let gaves : one (not (eqb (h .given) 0)) ≡ 0 = ap (λ (b : Bool). one (not b)) (eq-eqb _ 0 g) in omega arith;
+    }
+
+-- a call that is refused changes nothing
+counts-unless : (cabin digit n : ℕ) (t : Table) (o : Outcome) → (n ≡ 0 → Counts cabin t (heardAs digit (o .answer)) (o .table)) →
+    Counts cabin t (heardAs digit (unless n t o .answer)) (unless n t o .table)
+counts-unless cabin digit n t o f =
+    ⊎-elim (λ (z : n ≡ 0). rw (unless-zero n t o z) (f z))
+    (λ (d : n ≡ 0 → ⊥). rw (unless-refused n t o d, heard-refused digit n) (counts-refused n))
+    (eq-or-ne n 0)
+  where
+    counts-refused : (n : ℕ) → Counts cabin t (onlyRefusal n) t
+    counts-refused n = unfold onlyRefusal in counts-still cabin t t _ refl refl (λ c. refl) refl
+
+module _ {t : Table} (s : Sound t) where
+  counts-add : (holder e kind content cabin : ℕ) →
+      Counts cabin t (heardAs 1 (addCall t holder e kind content cabin .answer)) (addCall t holder e kind content cabin .table)
+  unfolding addCall
+  counts-add holder e kind content cabin =
+      counts-unless cabin 1 (addRefusal t holder e kind content cabin) t _
+      (λ z.
+      let f = add-fits t holder e kind content cabin z in
+      let g = number-given s (f .room) in
+      let n = numberGiven (t .capacity) (t .last) (λ k. not (inUse t k)) in
+      made _ _ _
+      (adds t s holder e kind content cabin n (f .used) (f .exit) (f .empty) (f .fits) (f .shared) (f .limit) (f .spare) (g .2) (g .1) (g .0)))
+    where
+      made : (u : Table) (n cabin : ℕ) → Adds t u n cabin → Counts cabin t (heardAs 1 (Given n 0)) u
+      made u n cabin a =
+          unfold heardAs refusalOf firstOf secondOf gave in
+          let gaves : one (not (eqb n 0)) ≡ 1 = ap (λ (b : Bool). one (not b)) (ne-eqb n 0 (a .nonzero)) in
+          record { each = λ c. charged-more c gaves; steps = more gaves }
+        where
+          charged-more : (c : ℕ) → one (not (eqb n 0)) ≡ 1 → charge u c + 0 ≡ charge t c + cond (eqb cabin c) (one (not (eqb n 0))) 0
+          charged-more c gaves =
+              ⊎-elim
+              (λ (q : cabin ≡ c).
+              let more : charge u c ≡ charge t c + 1 = ap (charge u) (sym q) ∙ charge-more a ∙ ap (λ (k : ℕ). charge t k + 1) q in
+              rw (eq-eqb cabin c q) (omega arith))
+              (λ (d : cabin ≡ c → ⊥). let stays = charge-stays a c (λ q. d (sym q)) in rw (ne-eqb cabin c d) (omega arith))
+              (eq-or-ne cabin c)
+
+          more : one (not (eqb n 0)) ≡ 1 → stepsInUse u + 0 ≡ stepsInUse t + one (not (eqb n 0))
+          more gaves =
+              unfold stepsInUse in
+              let size : count (u .capacity) (inUse u) ≡ count (t .capacity) (inUse u) = ap (λ (k : ℕ). count k (inUse u)) (a .size) in
+              let change = count-change (t .capacity) (inUse t) (inUse u) n (a .low) (λ i _ d. a .used-other i d) in
+              let was : one (inUse t n) ≡ 0 = ap one (a .free) in
+              let is : one (inUse u n) ≡ 1 = ap one (a .used) in
+              omega arith
+
+  counts-link : (cabin source e second f : ℕ) → Counts cabin t (heardAs 2 (linkCall t source e second f .answer)) (linkCall t source e second f .table)
+  unfolding linkCall
+  counts-link cabin source e second f =
+      counts-unless cabin 2 _ t _
+      (λ z.
+      unfold heardAs refusalOf firstOf secondOf in
+      counts-still cabin t _ _ refl refl (λ c. unfold charge charged inUse cabinOf linkTable relink withLinks in refl)
+      (unfold stepsInUse inUse linkTable relink withLinks in refl))
+
+  -- the steps that a clearing frees leave their cabins' charges
+  module _ (i e : ℕ) (z : clearRefusal t i e ≡ 0) where
+    g : ClearFits t i e
+    g = clear-fits t i e z
+
+    v : Table
+    v = cleared t i e .table
+
+    c3 : Cleared (emptied t i e) (clear-cleared s i e g .0) (clear-cleared s i e g .1) (cleared t i e .table)
+    c3 = clear-cleared s i e g .3
+
+    still : (k : ℕ) → inUse v k ≡ true → inUse t k ≡ true
+    unfolding v
+    still k y =
+        let f = formed-emptied t s i e (g .used) (g .exit) (g .filled) in
+        sym (emptied-used t i e k) ∙ reached-in-use (formed-wired f) (f .alarm) k (sym (c3 .used k) ∙ y)
+
+    cabin-kept : (k : ℕ) → inUse v k ≡ true → cabinOf v k ≡ cabinOf t k
+    unfolding v
+    cabin-kept k y = c3 .cabin k y ∙ (unfold emptied relink withLinks cabinOf in refl)
+
+    size : v .capacity ≡ t .capacity
+    unfolding v
+    size = c3 .capacity ∙ (unfold emptied relink withLinks in refl)
+
+    fall : stepsInUse v + clear-cleared s i e g .1 ≡ stepsInUse t
+    unfolding v
+    fall = c3 .fall ∙ emptied-steps t i e
+
+    left : (c : ℕ) → charge v c + gone t v c ≡ charge t c
+    unfolding charge gone
+    left c =
+        let split = count-split (t .capacity) (charged t c) (inUse v) in
+        let same : count (v .capacity) (charged v c) ≡ count (t .capacity) (λ k. charged t c k && inUse v k) =
+        ap (λ (n : ℕ). count n (charged v c)) size ∙ count-ext (t .capacity) _ _ (λ k _. kept c k) in
+        omega arith
+      where
+        kept : (c k : ℕ) → charged v c k ≡ (charged t c k && inUse v k)
+        kept c k =
+            same-test _ _
+            (λ y. let r = charged-used v c k y in and-intro (used-charged t c k (still k (r .0)) (r .1) (sym (cabin-kept k (r .0)) ∙ r .2)) (r .0))
+            (λ y.
+            let u = and-right (charged t c k) _ y in
+            let r = charged-used t c k (and-left (charged t c k) _ y) in
+            used-charged v c k u (r .1) (cabin-kept k u ∙ r .2))
+
+    -- where none is freed, none is gone
+    none-gone : clear-cleared s i e g .1 ≡ 0 → (c : ℕ) → gone t v c ≡ 0
+    unfolding gone stepsInUse
+    none-gone f c =
+        let size′ : count (v .capacity) (inUse v) ≡ count (t .capacity) (inUse v) = ap (λ (n : ℕ). count n (inUse v)) size in
+        let even : count (t .capacity) (inUse t) ≤ count (t .capacity) (inUse v) = (unfold stepsInUse in (let x = fall in omega arith)) in
+        count-none (t .capacity) _
+        (λ k l.
+        refute _
+        (λ y.
+        let u = charged-used t c k (and-left (charged t c k) _ y) .0 in
+        clash (count-same (t .capacity) (inUse v) (inUse t) (λ j _. still j) even k l u) (not-true-false _ (and-right (charged t c k) _ y))))
+
+    counts-cleared : (cabin : ℕ) → Counts cabin t (heardAs 3 (cleared t i e .answer)) (cleared t i e .table)
+    unfolding v
+    counts-cleared cabin =
+        rw (clear-cleared s i e g .2)
+        (unfold heardAs refusalOf firstOf secondOf gave in
+        record {
+          each =
+              λ c.
+              let right = cond-same (eqb cabin c) in
+              let all = left c in
+              ⊎-elim
+              (λ (f : clear-cleared s i e g .1 ≡ 0). let none = none-gone f c in rw (eq-eqb _ 0 f) (omega arith))
+              (λ (f : clear-cleared s i e g .1 ≡ 0 → ⊥). rw (ne-eqb _ 0 f) (omega arith))
+              (eq-or-ne (clear-cleared s i e g .1) 0);
+          steps = let x = fall in omega arith;
+        })
+
+  counts-clear : (cabin i e : ℕ) → Counts cabin t (heardAs 3 (clearCall t i e .answer)) (clearCall t i e .table)
+  unfolding clearCall
+  counts-clear cabin i e = counts-unless cabin 3 (clearRefusal t i e) t (cleared t i e) (λ z. counts-cleared i e z cabin)
+
+  counts-count : (cabin : ℕ) → Counts cabin t (heardAs 4 (spokenCounts t .answer)) (spokenCounts t .table)
+  unfolding spokenCounts heardAs refusalOf firstOf secondOf
+  counts-count cabin = counts-still cabin t t _ refl refl (λ c. refl) refl
+
+  counts-squeeze : (cabin c : ℕ) (q : List ℕ) → Counts cabin t (heardAs 0 (squeezeCall t c q .answer)) (squeezeCall t c q .table)
+  unfolding squeezeCall
+  counts-squeeze cabin c q =
+      counts-unless cabin 0 (squeezeRefusal t c q) t _
+      (λ z.
+      let f = squeeze-fits s c q z in
+      unfold heardAs refusalOf firstOf secondOf in
+      counts-still cabin t _ _ refl refl (λ d. ap (λ (h : ℕ → ℕ). h d) (charge-same s c q (f .roomy))) (used-same s c q (f .roomy)))
+
+  counts-line : (d : Decoded) → Counts keyCabin t (heardAs (callOf d) (performLine t d .answer)) (performLine t d .table)
+  unfolding callOf performLine perform callDigit
+  counts-line Nothing = unfold heardAs refusalOf firstOf secondOf in counts-still keyCabin t t _ refl refl (λ c. refl) refl
+  counts-line (Line (Add holder e kind content)) = counts-add holder e kind content keyCabin
+  counts-line (Line (Link source e second f)) = counts-link keyCabin source e second f
+  counts-line (Line (Clear i e)) = counts-clear keyCabin i e
+  counts-line (Line Count) = counts-count keyCabin
+
+  counts-keys : (bs : List ℕ) → Counts keyCabin t (heardAs (callOf (decode bs)) (keyCall t bs .answer)) (keyCall t bs .table)
+  unfolding keyCall
+  counts-keys bs = rw (unless-zero _ t (performLine t (decode bs)) (past-sound s [] ∙ (unfold first in refl))) (counts-line (decode bs))
+
+  call-counts : (k : Call) → Counts (cabinFor k) t (run t k .heard) (run t k .table)
+  unfolding cabinFor run ran onlyRefusal
+  call-counts (add holder e kind content cabin) = counts-add holder e kind content cabin
+  call-counts (link source e second f) = counts-link keyCabin source e second f
+  call-counts (clear i e) = counts-clear keyCabin i e
+  call-counts (read i) = counts-still keyCabin t t _ refl refl (λ c. refl) refl
+  call-counts (trial limit results trace) = counts-still keyCabin t t _ refl refl (λ c. refl) refl
+  call-counts (write buffer) = counts-still keyCabin t t _ refl refl (λ c. refl) refl
+  call-counts (keyLine bs) = counts-keys bs
+  call-counts (squeeze c q) = counts-squeeze keyCabin c q
+
+-- along the list
+after-account : (c : ℕ) (t : Table) → Sound t → (cs : List Call) → charge (tableAfter t cs) c ≡ account c (charge t c) t cs
+unfolding tableAfter account
+after-account c t s [] = refl
+after-account c t s (k ∷ cs) =
+    let u = run t k .table in
+    let one-call = call-counts s k .each c in
+    after-account c u (call-agrees s k .sound) cs ∙ ap (λ (n : ℕ). account c n u cs) (omega arith)
+
+after-tally : (t : Table) → Sound t → (cs : List Call) → tally (stepsInUse t - 1) (heardBy t cs) + 1 ≡ stepsInUse (tableAfter t cs)
+unfolding tableAfter heardBy tally
+after-tally t s [] = let n = formed-charges (sound-formed s) in omega arith
+after-tally t s (k ∷ cs) =
+    let u = run t k .table in
+    let v = call-agrees s k .sound in
+    let one-call = call-counts s k .steps in
+    let was = formed-charges (sound-formed s) in
+    let is = formed-charges (sound-formed v) in
+    ap (λ (n : ℕ). tally n (heardBy u cs) + 1) (omega arith) ∙ after-tally u v cs
+
+pub charges-demand : (f : First) (cs : List Call) → ChargesDemand f cs
+charges-demand f cs =
+    let s = begun f .sound in
+    record {
+      each = λ c. after-account c (firstTable f) s cs;
+      together = formed-charges (sound-formed (after-sound (firstTable f) s cs));
+      kept = after-tally (firstTable f) s cs;
+    }
+
+-- a number that no condition of an order gives: each has another number, or does not hold
+abbrev Avoids : ℕ → List (Bool × ℕ) → Type 0
+Avoids n [] = Unit {0}
+Avoids n (x ∷ xs) = (eqb (x .1) n ≡ true → x .0 ≡ false) × Avoids n xs
+
+first-avoids : (n : ℕ) → (n ≡ 0 → ⊥) → (xs : List (Bool × ℕ)) → Avoids n xs → first xs ≡ n → ⊥
+unfolding first
+first-avoids n d [] a e = d (sym e)
+first-avoids n d (x ∷ xs) a e = go (x .0) refl e (first-avoids n d xs (a .1))
+  where
+    go : (b : Bool) → x .0 ≡ b → cond b (x .1) (first xs) ≡ n → (first xs ≡ n → ⊥) → ⊥
+    go true h q f = clash h (a .0 (eq-eqb (x .1) n q))
+    go false h q f = f q
+
+-- one of the numbers 8, 14 and 15: no other condition of add or of a key line has it
+record Room (n : ℕ) : Type 0 where
+  some : n ≡ 0 → ⊥
+  sound : eqb notSound n ≡ false
+  cabins : eqb badCabins n ≡ false
+  used : eqb notInUse n ≡ false
+  exit : eqb badExit n ≡ false
+  filled : eqb exitFilled n ≡ false
+  empty : eqb exitEmpty n ≡ false
+  kind : eqb badKind n ≡ false
+  line : eqb notKeyLine n ≡ false
+
+not-full : (o : Outcome) → ((n : ℕ) → Room n → refusalOf (o .answer) ≡ n → ⊥) → NotFull o
+not-full o f = (
+  f full (record { some = λ z. omega arith; sound = refl; cabins = refl; used = refl; exit = refl; filled = refl; empty = refl; kind = refl; line = refl }),
+  f cabinAtLimit (record { some = λ z. omega arith; sound = refl; cabins = refl; used = refl; exit = refl; filled = refl; empty = refl; kind = refl; line = refl }),
+  f stepsReserved (record { some = λ z. omega arith; sound = refl; cabins = refl; used = refl; exit = refl; filled = refl; empty = refl; kind = refl; line = refl }),
+)
+
+-- where the cabin is below its guarantee, the conditions 8, 14 and 15 do not hold
+module _ (t : Table) (cabin : ℕ) (under : charge t cabin < guaranteeOf (t .quotas) cabin) (limit : charge t cabin < limitOf (t .quotas) cabin)
+    (free : 0 < freeSteps t) where
+  room : eqb (stepsInUse t) (t .capacity) ≡ false
+  unfolding freeSteps
+  room = ne-eqb (stepsInUse t) (t .capacity) (λ q. let f = free in omega arith)
+
+  below-limit : atLimit (t .quotas) (charge t) cabin ≡ false
+  unfolding atLimit
+  below-limit = ne-eqb (charge t cabin) (limitOf (t .quotas) cabin) (λ q. let l = limit in omega arith)
+
+  spared : noneToSpare (t .quotas) (charge t) (freeSteps t) cabin ≡ false
+  unfolding noneToSpare
+  spared = rw (lt-leb _ _ under)
+
+  add-avoids : (holder e kind content n : ℕ) → Room n → Avoids n (addConditions t holder e kind content cabin)
+  add-avoids holder e kind content n r = (
+    (λ y. clash y (r .sound)),
+    (
+      (λ y. clash y (r .cabins)),
+      (
+        (λ y. clash y (r .used)),
+        (
+          (λ y. clash y (r .exit)),
+          ((λ y. clash y (r .filled)), ((λ y. clash y (r .kind)), ((λ _. room), ((λ _. below-limit), ((λ _. spared), tt))))),
+        ),
+      ),
+    ),
+  )
+
+  add-room : (holder e kind content n : ℕ) → Room n → refusalOf (addCall t holder e kind content cabin .answer) ≡ n → ⊥
+  unfolding addCall addRefusal told refusalOf
+  add-room holder e kind content n r q =
+      first-avoids n (r .some) (addConditions t holder e kind content cabin) (add-avoids holder e kind content n r) (sym (told-refusal _ t _ refl) ∙ q)
+
+-- a key line, which adds for its cabin
+module _ (t : Table) (s : Sound t) (under : charge t keyCabin < guaranteeOf (t .quotas) keyCabin) (limit : charge t keyCabin < limitOf (t .quotas) keyCabin)
+    (free : 0 < freeSteps t) where
+  line-avoids : (d : Decoded) (n : ℕ) → Room n → Avoids n (lineConditions t d)
+  unfolding lineConditions callConditions
+  line-avoids Nothing n r = ((λ y. clash y (r .line)), tt)
+  line-avoids (Line (Add holder e kind content)) n r = add-avoids t keyCabin under limit free holder e kind content n r
+  line-avoids (Line (Link source e second f)) n r = (
+    (λ y. clash y (r .sound)),
+    (
+      (λ y. clash y (r .used)),
+      (
+        (λ y. clash y (r .exit)),
+        ((λ y. clash y (r .empty)), ((λ y. clash y (r .used)), ((λ y. clash y (r .exit)), ((λ y. clash y (r .filled)), tt)))),
+      ),
+    ),
+  )
+  line-avoids (Line (Clear i e)) n r = (
+    (λ y. clash y (r .sound)),
+    ((λ y. clash y (r .used)), ((λ y. clash y (r .exit)), ((λ y. clash y (r .empty)), tt))),
+  )
+  line-avoids (Line Count) n r = tt
+
+  key-room : (bs : List ℕ) (n : ℕ) → Room n → refusalOf (keyCall t bs .answer) ≡ n → ⊥
+  unfolding keyCall told
+  key-room bs n r q =
+      let p = performed t (decode bs) in
+      let e : keyCall t bs ≡ unless (first (lineConditions t (decode bs))) t (p .outcome) = unless-zero _ t (performLine t (decode bs)) (past-sound s [] ∙ (unfold first in refl)) ∙ p .same in
+      first-avoids n (r .some) (lineConditions t (decode bs)) (line-avoids (decode bs) n r)
+      (sym (told-refusal _ t (p .outcome) (p .given)) ∙ ap (λ (o : Outcome). refusalOf (o .answer)) (sym e) ∙ q)
+
+pub guarantee-demand : (f : First) (cs : List Call) → GuaranteeDemand f cs
+guarantee-demand f cs =
+    let t = tableAfter (firstTable f) cs in
+    let s = after-sound (firstTable f) (begun f .sound) cs in
+    record {
+      adds = λ holder e kind content cabin l h.
+          let free = guarantee-free (sound-shares s) cabin l h in
+          not-full (addCall t holder e kind content cabin) (add-room t cabin h (free .0) (free .1) holder e kind content);
+      keys = λ bs h.
+          let free = guarantee-free (sound-shares s) keyCabin (omega arith) h in
+          not-full (keyCall t bs) (key-room t s h (free .0) (free .1) bs);
+    }
