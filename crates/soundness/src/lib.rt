@@ -88,7 +88,7 @@ fn step_pass(t: &[u16; WORDS]) -> Pass
     let mut c6 = 0u16;
     let mut c7 = 0u16;
     let mut i = 0usize;
-    // n steps below i do not fit, and c0 to c7 of them are those of the cabins.
+    // Of the steps below i, n do not fit, and c0 to c7 are in use of cabins 0 to 7.
     while i < words::PLACES {
         let used = words::used_at(t, i);
         let kind = words::kind_at(t, i);
