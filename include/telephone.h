@@ -28,14 +28,16 @@
  * capacity 1, whose guarantees and limits are all 0.
  *
  * Stack. A call and the table lent to it together take at most PLAN_STACK_MAX bytes of stack; a table that stands elsewhere takes none of them.
- * Measured, without the caller's table of 3,876 bytes:
+ * Measured, without the caller's table of 3,876 bytes; a conversion is lent none and keeps one of its own on the stack:
  *
  *     plan_edition, plan_sole_quotas, plan_fresh                                   88 bytes
  *     plan_is_sound, plan_counts, plan_image_length, plan_read                  7,280
  *     plan_add, plan_link                                                       7,360
  *     plan_clear                                                                8,560
  *     plan_squeeze                                                              7,568
- *     plan_trial, plan_write_image, plan_load_image                             7,280
+ *     plan_trial, plan_write_image                                              7,280
+ *     plan_load_image                                                           7,312
+ *     plan_convert_up, plan_convert_down                                       11,280
  *     plan_key_line                                                             8,640
  *
  * `cargo test --release --test stack -- --nocapture` in compare/ prints them.
@@ -54,7 +56,7 @@ extern "C" {
 #define PLAN_PLACES 128       /* the largest capacity */
 #define PLAN_EXITS 4          /* exits of a step */
 #define PLAN_CABINS 8         /* cabins that share a plan */
-#define PLAN_IMAGE_MAX 2858   /* bytes of the largest image that is written */
+#define PLAN_IMAGE_MAX 2858   /* bytes of the largest image that is written; the largest of edition 1 has 2,570 */
 #define PLAN_STACK_MAX 16384  /* bytes of stack for any call, with the caller's table */
 
 /* Kinds of step, and the content of each. */
@@ -86,11 +88,12 @@ enum plan_refusal {
     PLAN_NOT_KEY_LINE = 9,    /* not a key line */
     PLAN_BAD_RESULT = 10,     /* some line result above 3 */
     PLAN_TOO_SHORT = 11,      /* lent buffer shorter than needed */
-    PLAN_NOT_ACCEPTED = 12,   /* image not accepted */
+    PLAN_NOT_ACCEPTED = 12,   /* image not accepted; of a conversion also: image of the other edition */
     PLAN_DOES_NOT_FIT = 13,   /* capacity below the steps in use, or the charges do not fit the new quotas */
     PLAN_CABIN_AT_LIMIT = 14, /* cabin at its limit */
     PLAN_STEPS_RESERVED = 15, /* only steps reserved for other cabins are free */
-    PLAN_BAD_CABINS = 16      /* cabin above 7, or bad list of guarantees and limits */
+    PLAN_BAD_CABINS = 16,     /* cabin above 7, or bad list of guarantees and limits */
+    PLAN_NEEDS_EDITION_2 = 17 /* image needs edition 2: a cabin, guarantee or limit that edition 1 cannot say */
 };
 
 enum plan_ending {
@@ -242,6 +245,17 @@ plan_write_reply plan_write_image(const plan_table *t, uint8_t *buffer, size_t l
  * first and second: 0. Refusal: 12. */
 plan_reply plan_load_image(plan_table *t, const uint8_t *bytes, size_t length);
 
+/* Converts an image of edition 1, which is exactly these bytes, to edition 2 and writes it to the start of the buffer, with no table of the caller's.
+ * The plan and its strengths stay; all steps are of cabin 0, and the list is that of plan_sole_quotas for the capacity. The step records may come in
+ * any order and are written in ascending step number; bytes past the image are not touched. PLAN_IMAGE_MAX bytes are room enough for any image.
+ * length: 42 bytes and 22 for each step in use. Refusals, in order: 12, also for an image of edition 2; 11. */
+plan_write_reply plan_convert_up(const uint8_t *bytes, size_t length, uint8_t *buffer, size_t room);
+
+/* Converts an image of edition 2 to edition 1 in the same way; up and down again is the first image, its step records sorted. Edition 1 has no cabins:
+ * all steps have to be of cabin 0, and the list that of plan_sole_quotas for the capacity.
+ * length: 10 bytes and 20 for each step in use. Refusals, in order: 12, also for an image of edition 1; 17; 11. */
+plan_write_reply plan_convert_down(const uint8_t *bytes, size_t length, uint8_t *buffer, size_t room);
+
 /* Carries out a key line, given without its byte 10; any bytes of any length. It adds for cabin 0.
  * first and second: the two numbers that the program `keys` prints. Refusals: 1, 9, then those of its call. */
 plan_reply plan_key_line(plan_table *t, const uint8_t *line, size_t length);
@@ -266,6 +280,7 @@ static inline const char *plan_refusal_words(uint16_t refusal) {
     case PLAN_CABIN_AT_LIMIT: return "cabin at its limit";
     case PLAN_STEPS_RESERVED: return "only steps reserved for other cabins are free";
     case PLAN_BAD_CABINS: return "cabin above 7, or bad list of guarantees and limits";
+    case PLAN_NEEDS_EDITION_2: return "image needs edition 2: a cabin, guarantee or limit that edition 1 cannot say";
     default: return "unknown refusal";
     }
 }

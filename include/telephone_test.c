@@ -1,7 +1,7 @@
 /* Links libtelephone.a and tries each call from C, or from C++: edition, names and words, the worked examples P1 to P10, every refusal of every call,
- * cabins with their guarantees and limits, images of both editions, squeezes, trials, the case of `keys`, fields that all differ, lengths past 16
- * bits, and bytes that are no sound table. A table is lent with bytes around it, which have to stay; a refused call has to leave every byte. Prints a
- * line for each case that fails, and 'N passed, M failed' last. */
+ * cabins with their guarantees and limits, images of both editions and their conversions, squeezes, trials, the case of `keys`, fields that all
+ * differ, lengths past 16 bits, damaged images, and bytes that are no sound table. A table is lent with bytes around it, which have to stay; a refused
+ * call has to leave every byte. Prints a line for each case that fails, and 'N passed, M failed' last. */
 #include "telephone.h"
 #include <stdio.h>
 #include <string.h>
@@ -69,22 +69,23 @@ static lent p1(void) {
 }
 
 static void names(void) {
-    enum { KNOWN = 17 };
+    enum { KNOWN = 18 };
     static const char *const words[KNOWN] = {
         "done", "table not sound", "capacity not 1 to 128", "step not in use", "exit above 3", "exit to be filled holds a link",
         "exit to copy or clear is empty", "kind not 1 to 3, or content out of range", "steps in use equal the capacity", "not a key line",
         "some line result above 3", "lent buffer shorter than needed", "image not accepted",
         "capacity below the steps in use, or the charges do not fit the new quotas", "cabin at its limit",
-        "only steps reserved for other cabins are free", "cabin above 7, or bad list of guarantees and limits"};
+        "only steps reserved for other cabins are free", "cabin above 7, or bad list of guarantees and limits",
+        "image needs edition 2: a cabin, guarantee or limit that edition 1 cannot say"};
     static const int refusals[KNOWN] = {
         PLAN_DONE, PLAN_NOT_SOUND, PLAN_BAD_CAPACITY, PLAN_NOT_IN_USE, PLAN_BAD_EXIT, PLAN_EXIT_FILLED, PLAN_EXIT_EMPTY, PLAN_BAD_KIND, PLAN_FULL,
         PLAN_NOT_KEY_LINE, PLAN_BAD_RESULT, PLAN_TOO_SHORT, PLAN_NOT_ACCEPTED, PLAN_DOES_NOT_FIT, PLAN_CABIN_AT_LIMIT, PLAN_STEPS_RESERVED,
-        PLAN_BAD_CABINS};
+        PLAN_BAD_CABINS, PLAN_NEEDS_EDITION_2};
     int all = 1;
     expect(plan_edition() == PLAN_EDITION && PLAN_EDITION == 4, "edition");
     expect(sizeof(plan_table) == 3876, "size of a table");
     for (int i = 0; i < KNOWN; i++) all = all && refusals[i] == i && strcmp(plan_refusal_words((uint16_t)i), words[i]) == 0;
-    expect(all, "refusals 0 to 16 and their words");
+    expect(all, "refusals 0 to 17 and their words");
     all = 1;
     for (long i = KNOWN; i < 65536; i++) all = all && strcmp(plan_refusal_words((uint16_t)i), "unknown refusal") == 0;
     expect(all, "words of all other numbers");
@@ -357,6 +358,199 @@ static void image_fields(void) {
         expect(image[RECORD] == 22 && image[RECORD + 2] == 4 && image[RECORD + 4] == 2 && image[RECORD + 20] == 2, "the record of step 2");
         expect(gave(plan_load_image(&u, image, sizeof image), 0, 0, 0) && same(&u, &t), "it is loaded again");
     }
+}
+
+/* The conversion to an edition: 2 is up, 1 is down. */
+static plan_write_reply convert(int to, const uint8_t *bytes, size_t length, uint8_t *buffer, size_t room) {
+    return to == 2 ? plan_convert_up(bytes, length, buffer, room) : plan_convert_down(bytes, length, buffer, room);
+}
+
+/* Whether a conversion is refused so, with length 0, and writes nothing. */
+static int not_converted(int to, const uint8_t *bytes, size_t length, size_t room, int refusal) {
+    static uint8_t buffer[PLAN_IMAGE_MAX + EDGE];
+    memset(buffer, UNTOUCHED, sizeof buffer);
+    plan_write_reply w = convert(to, bytes, length, buffer, room);
+    return w.refusal == refusal && w.length == 0 && all_untouched(buffer, sizeof buffer);
+}
+
+/* Whether a conversion gives this image, and leaves the bytes given, those around the buffer and those past the image. The room is just enough, and
+ * then more; one byte less, or none, is refused. */
+static int converted(int to, const uint8_t *bytes, size_t length, const uint8_t *image, size_t size) {
+    static uint8_t given[PLAN_IMAGE_MAX], around[EDGE + PLAN_IMAGE_MAX + EDGE];
+    const size_t rooms[3] = {size, size + 1, PLAN_IMAGE_MAX};
+    int all = not_converted(to, bytes, length, size - 1, PLAN_TOO_SHORT) && not_converted(to, bytes, length, 0, PLAN_TOO_SHORT);
+    memcpy(given, bytes, length);
+    for (int i = 0; i < 3; i++) {
+        memset(around, UNTOUCHED, sizeof around);
+        plan_write_reply w = convert(to, given, length, around + EDGE, rooms[i]);
+        all = all && w.refusal == 0 && w.length == size && memcmp(given, bytes, length) == 0;
+        all = all && all_untouched(around, EDGE) && memcmp(around + EDGE, image, size) == 0;
+        all = all && all_untouched(around + EDGE + size, sizeof around - EDGE - size);
+    }
+    return all;
+}
+
+/* The same image with its step records in the opposite order. */
+static void turned(const uint8_t *image, size_t length, size_t header, size_t step, uint8_t *other) {
+    memcpy(other, image, header);
+    for (size_t at = header; at < length; at += step) memcpy(other + at, image + length + header - at - step, step);
+}
+
+/* Whether the images of a table in both editions are converted into each other, with their records in either order. */
+static int both_ways(const plan_table *t) {
+    static uint8_t image[PLAN_IMAGE_MAX], old[PLAN_IMAGE_MAX], other[PLAN_IMAGE_MAX];
+    const size_t length = plan_write_image(t, image, sizeof image).length, size = old_image(image, length, old);
+    int all = converted(2, old, size, image, length) && converted(1, image, length, old, size);
+    turned(old, size, 10, 20, other);
+    all = all && converted(2, other, size, image, length);
+    all = all && not_converted(1, other, size, 0, PLAN_NOT_ACCEPTED) && not_converted(1, other, size, PLAN_IMAGE_MAX, PLAN_NOT_ACCEPTED);
+    turned(image, length, 42, 22, other);
+    all = all && converted(1, other, length, old, size);
+    return all && not_converted(2, other, length, 0, PLAN_NOT_ACCEPTED) && not_converted(2, other, length, PLAN_IMAGE_MAX, PLAN_NOT_ACCEPTED);
+}
+
+/* Gives a table to cabin 0. */
+static void of_one_cabin(plan_table *t) {
+    memset(t->cabins, 0, sizeof t->cabins);
+    plan_sole_quotas(t->quotas, t->capacity);
+}
+
+/* Conversions (W6): P10, the smallest and the largest images, and tables in which the fields of step 2 all differ. */
+static void conversions(void) {
+    static const uint16_t capacities[4] = {1, 2, 127, 128};
+    uint8_t image[64];
+    lent m = f4();
+    plan_table *t = &m.table;
+    expect(plan_write_image(t, image, sizeof image).length == sizeof image, "F4 in edition 2");
+    expect(converted(1, image, sizeof image, p10, sizeof p10), "P10, F4 in edition 1");
+    expect(converted(2, p10, sizeof p10, image, sizeof image), "P10 in edition 2 again");
+    expect(not_converted(2, p10, 0, sizeof image, PLAN_NOT_ACCEPTED) && not_converted(1, p10, 0, sizeof image, PLAN_NOT_ACCEPTED), "no bytes");
+    for (int i = 0; i < 4; i++) {
+        fresh(t, capacities[i]);
+        expect(both_ways(t), "step 0 alone");
+    }
+    for (int p = 0; p < 3; p++) {
+        *t = different(patterns[p]);
+        of_one_cabin(t);
+        expect(plan_is_sound(t) == 1 && both_ways(t), "all fields of step 2 different");
+        t->own[0] = 1;
+        expect(both_ways(t), "and step 0 with bit 1");
+    }
+    fresh(t, 128);
+    for (uint16_t step = 0; step < 127; step++) plan_add(t, step, step % 4, PLAN_WAIT, 600, 0);
+    expect(plan_image_length(t).length == PLAN_IMAGE_MAX && both_ways(t), "128 steps");
+    expect(edges_stand(&m), "after the conversions");
+}
+
+/* Whether an image of edition 2 is loaded and needs edition 2, whatever the room; up, it is of the other edition. */
+static int needs_edition_2(const uint8_t *image, size_t length) {
+    plan_table t;
+    int all = gave(plan_load_image(&t, image, length), 0, 0, 0) && not_converted(2, image, length, PLAN_IMAGE_MAX, PLAN_NOT_ACCEPTED);
+    all = all && not_converted(1, image, length, 0, PLAN_NEEDS_EDITION_2);
+    return all && not_converted(1, image, length, PLAN_IMAGE_MAX, PLAN_NEEDS_EDITION_2);
+}
+
+/* What edition 1 cannot say (W6): P1's image with another list, and steps of other cabins; 12 comes before 17, and 17 before 11. */
+static void other_lists(void) {
+    enum { LENGTH = 42 + 2 * 22, LIST = 10, CABIN = 42 + 22 + 20 };
+    static const uint8_t sole[6][2] = {{2, 3}, {0, 3}, {3, 4}, {3, 255}, {0, 1}, {1, 1}};
+    uint8_t image[LENGTH], other[LENGTH];
+    lent m = p1();
+    expect(plan_write_image(&m.table, image, LENGTH).length == LENGTH, "P1's image");
+    for (int i = 0; i < 6; i++) {
+        memcpy(other, image, LENGTH);
+        other[LIST] = sole[i][0], other[LIST + 2] = sole[i][1];
+        expect(needs_edition_2(other, LENGTH), "another guarantee or limit of cabin 0");
+    }
+    memcpy(other, image, LENGTH);
+    other[LIST + 3] = 1;
+    expect(needs_edition_2(other, LENGTH), "a limit that differs in its high byte");
+    for (int cabin = 1; cabin < PLAN_CABINS; cabin++) {
+        uint8_t *pair = other + LIST + 4 * cabin;
+        memcpy(other, image, LENGTH);
+        pair[2] = 1;
+        expect(needs_edition_2(other, LENGTH), "a limit of another cabin");
+        pair[2] = 0, pair[3] = 128;
+        expect(needs_edition_2(other, LENGTH), "and one in its high byte");
+        pair[0] = pair[2] = 1, other[LIST] = 2;
+        expect(needs_edition_2(other, LENGTH), "a guarantee of another cabin");
+        memcpy(other, image, LENGTH);
+        other[CABIN] = (uint8_t)cabin;
+        expect(not_converted(1, other, LENGTH, PLAN_IMAGE_MAX, PLAN_NOT_ACCEPTED), "a step of another cabin, whose limit is 0");
+        pair[2] = 1, other[LIST] = 2;
+        expect(needs_edition_2(other, LENGTH), "a step of another cabin");
+        other[CABIN + 1] = 1;
+        expect(not_converted(1, other, LENGTH, 0, PLAN_NOT_ACCEPTED), "a cabin out of range, another list and no room");
+        other[CABIN + 1] = 0;
+        expect(not_converted(1, other, LENGTH - 1, 0, PLAN_NOT_ACCEPTED), "an image cut short, another list and no room");
+    }
+}
+
+/* Whether a table is one that edition 1 can say. */
+static int is_of_one_cabin(const plan_table *t) {
+    plan_table one = *t;
+    of_one_cabin(&one);
+    return same(t, &one);
+}
+
+/* Whether an image that may be damaged is converted to the other edition exactly if it is loaded and that edition can say it: then it is the image of
+ * the table loaded. Its own edition is refused. Counts the refusals. */
+static int answered(int edition, const uint8_t *bytes, size_t length, int met[18]) {
+    static uint8_t image[PLAN_IMAGE_MAX], old[PLAN_IMAGE_MAX];
+    plan_table t;
+    const int refusal = plan_load_image(&t, bytes, length).refusal, needs = edition == 2 && !is_of_one_cabin(&t) ? PLAN_NEEDS_EDITION_2 : PLAN_DONE;
+    const size_t full = plan_write_image(&t, image, sizeof image).length, size = old_image(image, full, old);
+    const int wanted = refusal ? refusal : needs;
+    met[wanted]++;
+    if (!not_converted(edition, bytes, length, PLAN_IMAGE_MAX, PLAN_NOT_ACCEPTED)) return 0;
+    if (wanted) return not_converted(3 - edition, bytes, length, PLAN_IMAGE_MAX, wanted) && not_converted(3 - edition, bytes, length, 0, wanted);
+    return edition == 1 ? converted(2, bytes, length, image, full) : converted(1, bytes, length, old, size);
+}
+
+/* Every value in every byte of an image; the image cut short, and with a byte more. */
+static int damaged(int edition, const uint8_t *image, size_t length, int met[18]) {
+    static uint8_t bytes[PLAN_IMAGE_MAX + 1];
+    int all = answered(edition, image, length, met);
+    memset(bytes, 0, sizeof bytes);
+    memcpy(bytes, image, length);
+    for (size_t i = 0; i < length; i++) {
+        for (int value = 0; value < 256; value++) {
+            bytes[i] = (uint8_t)value;
+            all = all && answered(edition, bytes, length, met);
+        }
+        bytes[i] = image[i];
+        all = all && not_converted(1, bytes, i, PLAN_IMAGE_MAX, PLAN_NOT_ACCEPTED) && not_converted(2, bytes, i, PLAN_IMAGE_MAX, PLAN_NOT_ACCEPTED);
+    }
+    return all && answered(edition, bytes, length + 1, met);
+}
+
+/* Damaged images of both editions: two steps, and three of two cabins with bits. Then bytes that are no image. */
+static void damaged_images(void) {
+    static const plan_quota quotas[PLAN_CABINS] = {{1, 3}, {0, 0}, {0, 0}, {1, 2}};
+    uint8_t image[42 + 3 * 22], old[10 + 3 * 20], other[sizeof image];
+    int met[18] = {0}, all = 1;
+    lent m = p1();
+    plan_table *t = &m.table;
+    plan_link(t, 0, 0, 1, 1);
+    const size_t length = plan_write_image(t, image, sizeof image).length, size = old_image(image, length, old);
+    expect(damaged(1, old, size, met) && met[PLAN_DONE] > 200 && met[PLAN_NOT_ACCEPTED] > 1000, "an image of edition 1, damaged");
+    expect(damaged(2, image, length, met) && met[PLAN_NEEDS_EDITION_2] > 1000, "an image of edition 2, damaged");
+    turned(image, length, 42, 22, other);
+    expect(damaged(2, other, length, met), "its records exchanged");
+    plan_fresh(t, 6, quotas);
+    plan_add(t, 0, 0, PLAN_CONTACT, 0, 3);
+    plan_add(t, 1, 0, PLAN_CONTACT, 99, 0);
+    plan_link(t, 1, 0, 0, 1);
+    plan_clear(t, 1, 0);
+    expect(plan_write_image(t, image, sizeof image).length == sizeof image, "two cabins");
+    expect(damaged(2, image, sizeof image, met), "an image of two cabins, damaged");
+    memcpy(image + 42 + 44, old + 10, 20);
+    expect(answered(2, image, sizeof image - 2, met) && answered(2, image, sizeof image, met), "the last step of edition 1");
+    for (int value = 0; value < 256; value++) {
+        memset(image, value, sizeof image);
+        all = all && answered(1, image, sizeof image, met) && answered(2, image, sizeof image, met);
+    }
+    expect(all, "one value in every byte");
 }
 
 /* Tries every call that can be refused on a table, whichever refusal comes, and says whether a refused call left every byte. */
@@ -804,6 +998,38 @@ static void lengths(void) {
     expect(gave(plan_load_image(&m.table, lent_bytes, LENGTH), 0, 0, 0) && same(&m.table, &was.table), "the image alone");
 }
 
+/* Conversions with lengths that 16 bits do not hold: the room, the image, and what a count of steps asks for. */
+static void converted_lengths(void) {
+    enum { FULL = 64, MOST = 70000 };
+    static const size_t rooms[4] = {65535, 65536, 65536 + 29, MOST};
+    static uint8_t bytes[MOST], buffer[MOST];
+    uint8_t image[FULL];
+    lent m = f4();
+    plan_write_image(&m.table, image, FULL);
+    for (int i = 0; i < 4; i++) {
+        memset(buffer, UNTOUCHED, sizeof buffer);
+        plan_write_reply w = plan_convert_up(p10, sizeof p10, buffer, rooms[i]);
+        expect(w.refusal == 0 && w.length == FULL && memcmp(buffer, image, FULL) == 0 && all_untouched(buffer + FULL, MOST - FULL), "much room, up");
+        memset(buffer, UNTOUCHED, sizeof buffer);
+        w = plan_convert_down(image, FULL, buffer, rooms[i]);
+        expect(w.refusal == 0 && w.length == 30 && memcmp(buffer, p10, 30) == 0 && all_untouched(buffer + 30, MOST - 30), "much room, down");
+    }
+    memcpy(bytes, p10, sizeof p10);
+    expect(not_converted(2, bytes, 65536 + sizeof p10, PLAN_IMAGE_MAX, PLAN_NOT_ACCEPTED), "an image of edition 1 and 65,536 bytes");
+    /* 3,277 records, whose length is 14 in 16 bits, and 2,978, whose length is 22 */
+    for (size_t at = 10; at < 10 + 20 * 3277; at += 20) memcpy(bytes + at, p10 + 10, 20);
+    bytes[8] = 3277 % 256, bytes[9] = 3277 / 256;
+    expect(not_converted(2, bytes, 10 + 20 * 3277, PLAN_IMAGE_MAX, PLAN_NOT_ACCEPTED), "3,277 records");
+    expect(not_converted(2, bytes, 14, PLAN_IMAGE_MAX, PLAN_NOT_ACCEPTED), "the length of 3,277 records in 16 bits");
+    memset(bytes, 0, sizeof bytes);
+    memcpy(bytes, image, FULL);
+    expect(not_converted(1, bytes, 65536 + FULL, PLAN_IMAGE_MAX, PLAN_NOT_ACCEPTED), "an image of edition 2 and 65,536 bytes");
+    for (size_t at = 42; at < 42 + 22 * 2978; at += 22) memcpy(bytes + at, image + 42, 22);
+    bytes[8] = 2978 % 256, bytes[9] = 2978 / 256;
+    expect(not_converted(1, bytes, 42 + 22 * 2978, PLAN_IMAGE_MAX, PLAN_NOT_ACCEPTED), "2,978 records");
+    expect(not_converted(1, bytes, 22, PLAN_IMAGE_MAX, PLAN_NOT_ACCEPTED), "the length of 2,978 records in 16 bits");
+}
+
 static void keys(void) {
     static const char *const lines[5] = {"H*100001000A", "H*200000012A", "H*30000A", "H*4A", "H*30000A"};
     static const int answers[5][3] = {{0, 1, 0}, {0, 0, 0}, {0, 1, 1}, {0, 1, 127}, {6, 0, 0}};
@@ -838,6 +1064,9 @@ int main(void) {
     editions();
     one_image();
     image_fields();
+    conversions();
+    other_lists();
+    damaged_images();
     refusals();
     lists();
     cabins();
@@ -848,6 +1077,7 @@ int main(void) {
     squeezed_lists();
     trials();
     lengths();
+    converted_lengths();
     keys();
     wild();
     printf("%d passed, %d failed\n", passed, failed);

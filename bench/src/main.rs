@@ -1,9 +1,10 @@
 //! Prints the numbers: times as median and best of many passes, all measured in this process but those of the program `keys`, then stack and size.
-//! (a) is the proved library through its interface, (b) `counted`, (c) `marked`, (d) `tuned`. Before anything is timed, (b), (c) and (d) are held
-//! to (a) after every edit, the soundness tests of (b) and (d) on damaged tables, and the trials of (d). With the word `edits`, it prints the edits
-//! that `versions` reads, and nothing else.
+//! (a) is the proved library through its interface, (b) `counted`, (c) `marked`, (d) `tuned` and `convert`. Before anything is timed, (b), (c) and
+//! (d) are held to (a) after every edit, the soundness tests of (b) and (d) on damaged tables, and the trials and conversions of (d). With the word
+//! `edits`, it prints the edits that `versions` reads, and nothing else.
 
 mod clock;
+mod convert;
 mod counted;
 mod keys;
 mod marked;
@@ -14,8 +15,10 @@ use compare::stack::depth;
 use compare::{kept, lend, lend_list, ring, rounds, words, WORDS};
 use reference::cabins::{list, one_cabin};
 use reference::calls::Command;
+use reference::convert::Way;
 use reference::generate::{key_text, Random};
 use reference::history::Call;
+use reference::image::{encode, in_edition_1, records};
 use reference::plan::Plan;
 use reference::sound::{CONTACT, WAIT};
 use reference::table::Quotas;
@@ -507,6 +510,69 @@ fn trial_row(name: &str, kind: u16) {
     row(name, &times.map(|time| time.each(1000)));
 }
 
+/// A conversion by (a).
+fn proved_conversion(way: Way, image: &[u8], buffer: &mut [u8]) -> Result<u16, u16> {
+    let reply = match way {
+        Way::Up => raw::convert_up(image, buffer),
+        Way::Down => raw::convert_down(image, buffer),
+    };
+    match reply.refusal {
+        0 => Ok(reply.length),
+        refusal => Err(refusal),
+    }
+}
+
+/// A conversion by (d).
+fn tuned_conversion(way: Way, image: &[u8], buffer: &mut [u8]) -> Result<u16, u16> {
+    match way {
+        Way::Up => convert::up(image, buffer),
+        Way::Down => convert::down(image, buffer),
+    }
+}
+
+/// Converts an image by (a) and (d), and holds the answer and the buffer to those of (a). Gives the answer.
+fn conversion(way: Way, image: &[u8], room: usize) -> Result<u16, u16> {
+    let (mut a, mut d) = (vec![0xEE; room], vec![0xEE; room]);
+    let answer = proved_conversion(way, image, &mut a);
+    assert_eq!(tuned_conversion(way, image, &mut d), answer, "(d) differs: {way:?} {image:?}");
+    assert!(a == d, "(d) has other bytes: {way:?} {image:?}");
+    answer
+}
+
+/// Converting a table's image, with its records in ascending or descending order, by (a) and (d).
+fn conversion_rows(name: &str, table: &Table, descending: bool) {
+    for (way, image) in timed_images(table, descending) {
+        let mut buffer = [0; telephone::IMAGE_MAX];
+        let mut other = buffer;
+        assert!(conversion(way, &image, buffer.len()).is_ok(), "{name}");
+        let times = passes(
+            500,
+            [
+                &mut || {
+                    black_box(proved_conversion(way, black_box(&image), &mut buffer)).unwrap();
+                },
+                &mut || {
+                    black_box(tuned_conversion(way, black_box(&image), &mut other)).unwrap();
+                },
+            ],
+        );
+        let way = if way == Way::Up { "up" } else { "down" };
+        row(&format!("{way}, {name}"), &times);
+    }
+}
+
+/// The images of a table that are converted up and down.
+fn timed_images(table: &Table, descending: bool) -> [(Way, Vec<u8>); 2] {
+    let image = encode(&kept(table));
+    [(Way::Up, in_edition_1(&image)), (Way::Down, image)].map(|(way, image)| {
+        let mut records = records(&image);
+        if descending {
+            records[1..].reverse();
+        }
+        (way, records.concat())
+    })
+}
+
 /// What holds the first step of a chain beside the link that is cleared, and what stands in the exits that the chain leaves empty.
 #[derive(Clone, Copy)]
 enum Chain {
@@ -619,7 +685,7 @@ fn print_numbers() {
     println!("(a) the proved library");
     println!("(b) Rust with bits and counters, and a linear soundness test on every call");
     println!("(c) Rust with the plain plan, which marks after each clearing; it has no bits, no counters and no soundness test");
-    println!("(d) the job of (b), and trials, in safe Rust written for speed");
+    println!("(d) the job of (b), trials and conversions, in safe Rust written for speed");
     println!("All four agree in each answer, and in the table or plan after each of {} edits; (a), (b) and (d) agree on", mixes.len() * EDITS);
     println!("{sound} tables that are sound and {unsound} that are not. Nanoseconds of processor time, median and best of {PASSES} passes;");
     println!("of ratios, the median over the passes and the ratio of the best.");
@@ -660,6 +726,12 @@ fn print_numbers() {
     head("A trial of 65535 moves, microseconds", &["(a)", "(d)"]);
     trial_row("ring of 127 waits", WAIT);
     trial_row("ring of 127 contacts", CONTACT);
+
+    head("Converting an image", &["(a)", "(d)"]);
+    conversion_rows("fresh, capacity 128", &sole(), false);
+    conversion_rows("chain of 127 steps", &freed, false);
+    conversion_rows("chain, no exit empty", &taken_back[3].1, false);
+    conversion_rows("the same, records descending", &taken_back[3].1, true);
     println!();
 
     keys::print();
@@ -675,6 +747,7 @@ fn print_numbers() {
 mod tests {
     use super::*;
     use compare::Refusals;
+    use reference::convert::Conversion;
     use reference::generate::{trials, Generator};
     use reference::plan::plan_of;
 
@@ -748,6 +821,41 @@ mod tests {
         }
         let many = endings.into_iter().chain([1, 10, 11].map(|refusal: usize| refusals[refusal]));
         assert!(many.into_iter().all(|number| number > 100), "{endings:?} {refusals:?}");
+    }
+
+    /// Every image that is timed, with each byte at a few values, and generated conversions, with every refusal.
+    #[test]
+    fn conversions_agree() {
+        let mut found = [Refusals::default(); 2];
+        let mut note = |way: Way, image: &[u8], room| {
+            let answer = conversion(way, image, room);
+            found[way as usize][usize::from(answer.err().unwrap_or(0))] += 1;
+        };
+        for table in [sole(), chain(1..128, Chain::Free), chain(1..128, Chain::Dense)] {
+            for (way, mut image) in [true, false].into_iter().flat_map(|d| timed_images(&table, d))
+            {
+                for at in 0..image.len() {
+                    let was = image[at];
+                    for now in [0, 1, was ^ 1, was ^ 16, was.wrapping_add(1), 128, 255] {
+                        image[at] = now;
+                        note(way, &image, telephone::IMAGE_MAX);
+                    }
+                    image[at] = was;
+                }
+                for length in 0..image.len() {
+                    note(way, &image[..length], telephone::IMAGE_MAX);
+                    note(way, &image, length);
+                }
+            }
+        }
+        let mut random = Random(7);
+        for _ in 0..20_000 {
+            let Conversion { way, image, buffer } = random.conversion();
+            note(way, &image, buffer);
+        }
+        for (found, refusals) in found.iter().zip([&[0, 11, 12][..], &[0, 11, 12, 17]]) {
+            assert!(refusals.iter().all(|&refusal: &usize| found[refusal] > 200), "{found:?}");
+        }
     }
 
     /// Every chain that is timed, cleared once by all four.

@@ -7,16 +7,16 @@ use crate::counted::only_below;
 use crate::quotas::{fit, refuse_list, refuse_step, Charges};
 use telephone::raw::{Quotas, Table};
 
-const PLACES: usize = 128;
-const EXITS: usize = 4;
-const LINKS: usize = PLACES * EXITS;
-const COUNTERS: usize = PLACES * 2;
+pub const PLACES: usize = 128;
+pub const EXITS: usize = 4;
+pub const LINKS: usize = PLACES * EXITS;
+pub const COUNTERS: usize = PLACES * 2;
 const CABINS: usize = 8;
 /// The kind of a contact.
 const CONTACT: u16 = 1;
 
 /// Set in a counter of weak links while a search runs, so that it never comes to 0.
-const WEAK: u16 = 0x8000;
+pub const WEAK: u16 = 0x8000;
 /// The bits that a counter may have: there are 512 links.
 const COUNT: u16 = 0x03FF;
 
@@ -142,7 +142,7 @@ fn sorted(cabins: &[u16; PLACES], size: u16) -> Charges {
 /// Withdraws the exits of step 0 and of each step whose last strong link is withdrawn; gives how many steps that are. The step to go on with is
 /// kept beside the stack, at the bottom of which stands a 0.
 #[inline(always)]
-fn withdraw(counter: &[u16; LINKS], left: &mut [u16; 2 * COUNTERS]) -> u16 {
+pub fn withdraw(counter: &[u16; LINKS], left: &mut [u16; 2 * COUNTERS]) -> u16 {
     let mut stack = [0u8; 256];
     let (mut next, mut height, mut entered) = (0u8, 1u8, 1);
     loop {

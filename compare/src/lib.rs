@@ -1,4 +1,4 @@
-//! Runs a call of a history through the interface and on the second program, and says where they differ.
+//! Runs a call of a history, or a conversion, through the interface and on the second program, and says where they differ.
 //! The interface is lent a table and buffers with bytes around them; after each call the answers, the lent bytes, the tables and the bytes around are
 //! compared whole.
 
@@ -7,6 +7,7 @@ pub mod stack;
 
 use reference::cabins::{list, pairs};
 use reference::calls::{add, fresh_for_cabin_0, link, Command};
+use reference::convert::{self, Conversion, Way};
 use reference::faults::Fault;
 use reference::generate::{key_text, Generator};
 use reference::history::{self, agrees, Call, Outcome, Start, UNTOUCHED};
@@ -20,7 +21,7 @@ use telephone::raw::{self, Quota};
 pub const WORDS: usize = size_of::<raw::Table>() / 2;
 
 /// How often each refusal, 0 to the highest, came up.
-pub type Refusals = [usize; 17];
+pub type Refusals = [usize; 18];
 
 /// The same table for the interface.
 pub fn lend(table: &Table) -> raw::Table {
@@ -175,6 +176,18 @@ pub fn call(table: &mut raw::Table, call: &Call) -> Outcome {
     }
 }
 
+/// Makes a conversion through the interface.
+pub fn convert(conversion: &Conversion) -> Outcome {
+    let Conversion { way, image, buffer } = conversion;
+    let convert = match way {
+        Way::Up => raw::convert_up,
+        Way::Down => raw::convert_down,
+    };
+    let (reply, lent) =
+        with_buffer(*buffer, |buffer| with_bytes(image, |image| convert(image, buffer)));
+    Outcome { lent, ..length(reply) }
+}
+
 /// The outcome of a reply with two numbers.
 fn two(reply: raw::Reply) -> Outcome {
     let numbers = vec![reply.first.into(), reply.second.into()];
@@ -249,23 +262,7 @@ impl Pair {
         proved: Outcome,
         second: &Outcome,
     ) -> Result<Outcome, Difference> {
-        let mut found = Vec::new();
-        if proved.refusal != second.refusal {
-            let words = format!("refusal: proved {}, second {}", proved.refusal, second.refusal);
-            found.push((Evidence::Refusal, words));
-        }
-        assert_eq!(proved.numbers.len(), second.numbers.len(), "{made:?}");
-        for (i, (a, b)) in proved.numbers.iter().zip(&second.numbers).enumerate() {
-            if a != b {
-                let words = format!("number {i}: proved {a}, second {b}");
-                found.push((Evidence::Number(i), words));
-            }
-        }
-        if proved.lent != second.lent {
-            let at = (0..proved.lent.len()).find(|&i| proved.lent.get(i) != second.lent.get(i));
-            let [a, b] = [&proved.lent, &second.lent].map(|lent| at.and_then(|i| lent.get(i)));
-            found.push((Evidence::Lent, format!("lent byte {at:?}: proved {a:?}, second {b:?}")));
-        }
+        let mut found = differences(made, &proved, second);
         let table = kept(&self.proved.lent);
         if table != self.second {
             found.push((Evidence::Table, difference(&table, &self.second)));
@@ -273,13 +270,50 @@ impl Pair {
         if !self.proved.edges_stand() {
             found.push((Evidence::Beside, "a byte beside the table was written".to_string()));
         }
-        if found.is_empty() {
-            return Ok(proved);
-        }
-        let start: String = format!("{made:?}").chars().take(200).collect();
-        let (evidence, words): (_, Vec<_>) = found.into_iter().unzip();
-        Err(Difference { evidence, words: format!("{start}: {}", words.join("; ")) })
+        settled(made, proved, found)
     }
+}
+
+/// A difference between two programs, and the words for it.
+type Found = (Evidence, String);
+
+/// What differs between two outcomes.
+fn differences(made: &dyn Debug, proved: &Outcome, second: &Outcome) -> Vec<Found> {
+    let mut found = Vec::new();
+    if proved.refusal != second.refusal {
+        let words = format!("refusal: proved {}, second {}", proved.refusal, second.refusal);
+        found.push((Evidence::Refusal, words));
+    }
+    assert_eq!(proved.numbers.len(), second.numbers.len(), "{made:?}");
+    for (i, (a, b)) in proved.numbers.iter().zip(&second.numbers).enumerate() {
+        if a != b {
+            let words = format!("number {i}: proved {a}, second {b}");
+            found.push((Evidence::Number(i), words));
+        }
+    }
+    if proved.lent != second.lent {
+        let at = (0..proved.lent.len()).find(|&i| proved.lent.get(i) != second.lent.get(i));
+        let [a, b] = [&proved.lent, &second.lent].map(|lent| at.and_then(|i| lent.get(i)));
+        found.push((Evidence::Lent, format!("lent byte {at:?}: proved {a:?}, second {b:?}")));
+    }
+    found
+}
+
+/// The outcome, if nothing differs.
+fn settled(made: &dyn Debug, proved: Outcome, found: Vec<Found>) -> Result<Outcome, Difference> {
+    if found.is_empty() {
+        return Ok(proved);
+    }
+    let start: String = format!("{made:?}").chars().take(200).collect();
+    let (evidence, words): (_, Vec<_>) = found.into_iter().unzip();
+    Err(Difference { evidence, words: format!("{start}: {}", words.join("; ")) })
+}
+
+/// Makes a conversion by both programs, with a fault in the second or none. Gives the outcome, or what differs.
+pub fn converted(conversion: &Conversion, fault: Fault) -> Result<Outcome, Difference> {
+    let (proved, second) = (convert(conversion), convert::run(conversion, fault));
+    let found = differences(conversion, &proved, &second);
+    settled(conversion, proved, found)
 }
 
 /// A call made by both programs, which have to agree. The table becomes the one that they hand back.

@@ -1,12 +1,13 @@
 //! Faults planted in the second program. The comparison has to find each, by the evidence that it leaves, in the calls that have it and in no other.
 
-use compare::{ring, rounds, Evidence, Pair};
+use compare::{converted, ring, rounds, Evidence, Pair};
 use reference::cabins::one_cabin;
 use reference::calls::{fresh_for_cabin_0, Command};
+use reference::convert::{Conversion, Way};
 use reference::faults::{Fault, Length, Part, Sort};
 use reference::generate::{key_text, start, Generator, Random};
 use reference::history::{run, Call, Start};
-use reference::image::encode;
+use reference::image::{encode, in_edition_1};
 use reference::plan::plan_of;
 use reference::sound::{ALARM, CONTACT, MESSAGE, WAIT};
 use reference::table::Table;
@@ -14,6 +15,19 @@ use std::collections::BTreeSet;
 
 /// Sorts of calls that differed, each with all that differed in one call.
 type Found = BTreeSet<(Sort, Vec<Evidence>)>;
+
+/// What both programs are run on.
+struct Cases {
+    starts: Vec<Start>,
+    calls: Vec<(Table, Call)>,
+    conversions: Vec<Conversion>,
+}
+
+impl Cases {
+    fn all() -> Cases {
+        Cases { starts: starts(), calls: cases(), conversions: conversions() }
+    }
+}
 
 /// Calls on tables: those of made-up histories, half of them by key lines, each sort on a table that is not sound, a key line with two refusals, and
 /// some calls with lengths past 8 and 16 bits.
@@ -74,13 +88,32 @@ fn starts() -> Vec<Start> {
     (0..72).map(start).chain(fresh).chain(loads).collect()
 }
 
+/// Conversions: made-up ones, and some with lengths past 16 bits.
+fn conversions() -> Vec<Conversion> {
+    let mut random = Random(81);
+    let mut cases: Vec<Conversion> = (0..500).map(|_| random.conversion()).collect();
+    let new = encode(&ring(&[CONTACT; 5]));
+    for (way, image) in [(Way::Up, in_edition_1(&new)), (Way::Down, new)] {
+        let long = [&image[..], &vec![0; 65_536]].concat();
+        cases.push(Conversion { way, image: long, buffer: 300 });
+        cases.push(Conversion { way, image, buffer: 65_536 });
+    }
+    cases
+}
+
 /// What the comparison finds of a fault.
-fn found(fault: Fault, starts: &[Start], cases: &[(Table, Call)]) -> Found {
-    let begun = starts.iter().map(|start| (Sort::of_start(start), Pair::begin(start, fault).1));
-    let called =
-        cases.iter().map(|(table, call)| (Sort::of(call), Pair::new(table, fault).call(call)));
+fn found(fault: Fault, cases: &Cases) -> Found {
+    let begun =
+        cases.starts.iter().map(|start| (Sort::of_start(start), Pair::begin(start, fault).1));
+    let called = cases
+        .calls
+        .iter()
+        .map(|(table, call)| (Sort::of(call), Pair::new(table, fault).call(call)));
+    let converted =
+        cases.conversions.iter().map(|made| (Sort::of_way(made.way), converted(made, fault)));
     begun
         .chain(called)
+        .chain(converted)
         .filter_map(|(sort, compared)| Some((sort, compared.err()?.evidence)))
         .collect()
 }
@@ -94,8 +127,13 @@ fn ways(sorts: &[Sort], ways: &[&[Evidence]]) -> Found {
 fn named() -> Vec<(Fault, Found)> {
     use Evidence::*;
     use Fault::*;
-    use Sort::{Add, Clear, Count, Fresh, KeyLine, Link, Load, Read, Squeeze, Trial, Write};
+    use Sort::{
+        Add, Clear, ConvertDown, ConvertUp, Count, Fresh, KeyLine, Link, Load, Read, Squeeze,
+        Trial, Write,
+    };
     let added: &[Evidence] = &[Refusal, Number(0), Table];
+    let written: &[Evidence] = &[Refusal, Number(0), Lent];
+    let convert = &[ConvertUp, ConvertDown];
     vec![
         (CopyKeepsStrength, ways(&[Link, KeyLine], &[&[Table]])),
         (CounterOffByOne, ways(&[Link, KeyLine], &[&[Table]])),
@@ -133,6 +171,24 @@ fn named() -> Vec<(Fault, Found)> {
         (StoppedBeforeOpen, ways(&[Trial], &[&[Number(0)]])),
         (StoppedBeforeSpent, ways(&[Trial], &[&[Number(0)]])),
         (OpenBeforeSpent, ways(&[Trial], &[&[Number(0)]])),
+        (CabinsBeforeImage, ways(&[ConvertDown], &[&[Refusal]])),
+        (BufferBeforeCabins, ways(&[ConvertDown], &[&[Refusal]])),
+        (BufferBeforeEdition, ways(convert, &[&[Refusal]])),
+        (SameEditionTaken, ways(convert, &[&[Refusal], written])),
+        (CabinsDropped, ways(&[ConvertDown], &[&[Refusal], written])),
+        (ListDropped, ways(&[ConvertDown], &[&[Refusal], written])),
+        (LimitsDropped, ways(&[ConvertDown], &[&[Refusal], written])),
+        (OtherPairsDropped, ways(&[ConvertDown], &[&[Refusal], written])),
+        (AlarmGuaranteed, ways(&[ConvertUp], &[&[Lent]])),
+        (BitsDropped(31), ways(convert, &[&[Lent]])),
+        (BitsDropped(16), ways(convert, &[&[Lent]])),
+        (AlarmBitDropped, ways(convert, &[&[Lent]])),
+        (LastIsHighest, ways(convert, &[&[Lent]])),
+        (OrderKept, ways(convert, &[&[Lent]])),
+        (RoomForEither, ways(&[ConvertDown], &[written])),
+        (WrittenAsFits, ways(convert, &[&[Lent]])),
+        (ZeroBehind, ways(convert, &[&[Lent]])),
+        (LengthOfGiven, ways(convert, &[&[Number(0)]])),
         (DoubtfulSaidFreed, ways(&[Clear], &[&[Number(1)]])),
         (CountsExchanged, ways(&[Count], &[&[Number(0), Number(1)]])),
         (CountersExchanged, ways(&[Read], &[&[Number(11), Number(12)]])),
@@ -146,10 +202,10 @@ fn named() -> Vec<(Fault, Found)> {
 
 #[test]
 fn planted_faults_show() {
-    let (starts, cases) = (starts(), cases());
-    assert_eq!(found(Fault::None, &starts, &cases), Found::new());
+    let cases = Cases::all();
+    assert_eq!(found(Fault::None, &cases), Found::new());
     for (fault, ways) in named() {
-        let found = found(fault, &starts, &cases);
+        let found = found(fault, &cases);
         println!("{fault:?} is found by {found:?}");
         assert_eq!(found, ways, "{fault:?}");
     }
@@ -160,7 +216,7 @@ fn planted_faults_show() {
 #[test]
 fn faults_of_trials_show() {
     use Evidence::*;
-    let (starts, cases) = (starts(), cases());
+    let cases = Cases::all();
     let numbers = [Number(0), Number(1), Number(2)];
     for (fault, refusal) in [
         (Fault::UsesUp(ALARM), false),
@@ -171,7 +227,7 @@ fn faults_of_trials_show() {
         (Fault::TraceAsResults, true),
         (Fault::UsedResultsOnly, true),
     ] {
-        let found = found(fault, &starts, &cases);
+        let found = found(fault, &cases);
         println!("{fault:?} is found by {found:?}");
         for (sort, way) in &found {
             assert_eq!((*sort, way.contains(&Refusal)), (Sort::Trial, refusal), "{fault:?}");
@@ -182,10 +238,11 @@ fn faults_of_trials_show() {
     }
 }
 
-/// For each sort of call, accepted and refused: a wrong refusal, each number, a lent byte written or not, the table. Nothing else may differ.
+/// For each sort of call, accepted and refused: a wrong refusal, each number, a lent byte written or not, the table if it has one. Nothing else may
+/// differ.
 #[test]
 fn each_part_of_each_call_is_compared() {
-    let (starts, cases) = (starts(), cases());
+    let cases = Cases::all();
     let faults = Fault::spoiled();
     assert!(faults.len() > 100);
     for fault in faults {
@@ -196,7 +253,7 @@ fn each_part_of_each_call_is_compared() {
             Part::Written | Part::Unwritten => Evidence::Lent,
             Part::Table => Evidence::Table,
         };
-        let found = found(fault, &starts, &cases);
+        let found = found(fault, &cases);
         println!("{fault:?} is found by {found:?}");
         assert_eq!(found, Found::from([(sort, vec![evidence])]), "{fault:?}");
     }
@@ -205,17 +262,17 @@ fn each_part_of_each_call_is_compared() {
 /// A length cut to 16 bits shows in the calls that are lent it.
 #[test]
 fn cut_lengths_show() {
-    let (starts, cases) = (starts(), cases());
-    for (length, sort) in [
-        (Length::Results, Sort::Trial),
-        (Length::Trace, Sort::Trial),
-        (Length::Buffer, Sort::Write),
-        (Length::Line, Sort::KeyLine),
-        (Length::Image, Sort::Load),
+    let cases = Cases::all();
+    for (length, sorts) in [
+        (Length::Results, &[Sort::Trial][..]),
+        (Length::Trace, &[Sort::Trial]),
+        (Length::Buffer, &[Sort::Write, Sort::ConvertUp, Sort::ConvertDown]),
+        (Length::Line, &[Sort::KeyLine]),
+        (Length::Image, &[Sort::Load, Sort::ConvertUp, Sort::ConvertDown]),
     ] {
-        let found = found(Fault::Cut(length), &starts, &cases);
+        let found = found(Fault::Cut(length), &cases);
         println!("{length:?} cut is found by {found:?}");
-        let sorts: BTreeSet<Sort> = found.into_iter().map(|(sort, _)| sort).collect();
-        assert_eq!(sorts, BTreeSet::from([sort]), "{length:?}");
+        let found: BTreeSet<Sort> = found.into_iter().map(|(sort, _)| sort).collect();
+        assert_eq!(found, sorts.iter().copied().collect(), "{length:?}");
     }
 }

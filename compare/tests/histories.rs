@@ -140,7 +140,7 @@ fn histories_agree() {
     assert!(seen.squeezed > 300 && seen.renumbered > 100, "squeezes gave new numbers");
     assert!(seen.endings.iter().all(|&ended| ended > 300), "trials ended {:?}", seen.endings);
     for (refusal, &calls) in seen.refusals.iter().enumerate() {
-        assert_eq!(calls > 100, !matches!(refusal, 1 | 12), "{calls} with refusal {refusal}");
+        assert_eq!(calls > 100, !matches!(refusal, 1 | 12 | 17), "{calls} with refusal {refusal}");
         assert_eq!(seen.begun[refusal] > 0, matches!(refusal, 0 | 2 | 12 | 16));
     }
     assert!(seen.bad_lists > 100 && seen.too_small > 100 && seen.unfit_lists > 100);

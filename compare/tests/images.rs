@@ -2,7 +2,7 @@
 //! buffers one byte short, exact and longer.
 
 use compare::{kept, Pair};
-use reference::cabins::{list, one_cabin};
+use reference::cabins::{for_cabin_0, list};
 use reference::calls::fresh_for_cabin_0;
 use reference::faults::Fault;
 use reference::generate::Random;
@@ -47,11 +47,6 @@ fn image_of(table: &Table) -> Vec<u8> {
 fn tables(seeds: std::ops::Range<u64>) -> impl Iterator<Item = Table> {
     let ends = [1, 2, 4, 128].into_iter().map(fresh_for_cabin_0);
     ends.chain(seeds.map(|seed| Random(seed).sound_table()))
-}
-
-/// The table that an image of edition 1 makes of this one: all steps are cabin 0's.
-fn for_cabin_0(table: &Table) -> Table {
-    Table { cabins: [0; 128], quotas: one_cabin(table.capacity), ..table.clone() }
 }
 
 /// The image that both programs write, and the same in edition 1, each with the table that it is to load as.

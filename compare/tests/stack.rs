@@ -1,10 +1,11 @@
-//! Every call keeps to 16 kB of stack, the caller's table counted. Each is measured by itself, on tables where it has the most to do.
+//! Every call keeps to 16 kB of stack, the caller's table counted where it has one. Each is measured by itself, on tables and images where it has the
+//! most to do.
 
 use compare::stack::depth;
 use compare::{lend, lend_list, ring, rounds};
 use reference::cabins::{list, one_cabin};
 use reference::calls::{add, clear, fresh, fresh_for_cabin_0, link};
-use reference::image::{encode, in_edition_1};
+use reference::image::{encode, in_edition_1, OLD_HEADER, OLD_RECORD};
 use reference::sound::{CONTACT, WAIT};
 use reference::table::Table;
 use std::hint::black_box;
@@ -14,6 +15,8 @@ const LIMIT: usize = 16 * 1024;
 const TABLE: usize = size_of::<raw::Table>();
 /// Bytes of the largest image.
 const IMAGE: u16 = telephone::IMAGE_MAX as u16;
+/// The same in edition 1.
+const OLD_IMAGE: u16 = (OLD_HEADER + 128 * OLD_RECORD) as u16;
 
 /// A table of 128 places with a chain of steps, step i held by exit `exit` of the step before it.
 fn chain(steps: u16, exit: u16) -> Table {
@@ -57,28 +60,40 @@ fn shared(exit: u16) -> Table {
     table
 }
 
-/// A call by name, and the stack that it takes. It gives a number, which is checked. The table stands outside the stack that is measured; its
-/// bytes are added.
+/// A call by name, and the bytes that it takes: of the caller's table, and of stack.
+#[derive(Debug)]
+struct Taken {
+    name: &'static str,
+    table: usize,
+    stack: usize,
+}
+
+/// Measures a call. It gives a number, which is checked.
+fn measured(name: &'static str, number: u16, table: usize, mut call: impl FnMut() -> u16) -> Taken {
+    let mut given = None;
+    let stack = depth(|| given = Some(call()));
+    assert_eq!(given, Some(number), "{name}");
+    Taken { name, table, stack }
+}
+
+/// A call on a table, which stands outside the stack that is measured.
 fn taken(
     name: &'static str,
     table: &Table,
     number: u16,
     mut call: impl FnMut(&mut raw::Table) -> u16,
-) -> (&'static str, usize) {
+) -> Taken {
     let mut table = lend(table);
-    let mut given = None;
-    let bytes = depth(|| given = Some(call(black_box(&mut table))));
-    assert_eq!(given, Some(number), "{name}");
-    (name, bytes + TABLE)
+    measured(name, number, TABLE, || call(black_box(&mut table)))
 }
 
 /// Every call on chains along an exit.
-fn calls(exit: u16) -> Vec<(&'static str, usize)> {
+fn calls(exit: u16) -> Vec<Taken> {
     let (chain, open, held, gap) = (chain(127, exit), chain(126, exit), held(exit), gap(exit));
     let shared = shared(exit);
     let mut unsound = chain.clone();
     unsound.counts[255] += 1;
-    let image = encode(&chain);
+    let (image, shared_image) = (encode(&chain), encode(&shared));
     let old_image = in_edition_1(&image);
     let [least, most, bad] = [127, 128, 129].map(|capacity| lend_list(&one_cabin(capacity)));
     let own = lend_list(&shared.quotas);
@@ -130,6 +145,29 @@ fn calls(exit: u16) -> Vec<(&'static str, usize)> {
         taken("load image", &open, 0, |t| raw::load_image(t, &image).refusal),
         taken("load image of edition 1", &open, 0, |t| raw::load_image(t, &old_image).refusal),
         taken("load image, refused", &open, 12, |t| raw::load_image(t, &image[1..]).refusal),
+        measured("convert up", IMAGE, 0, || raw::convert_up(&old_image, &mut buffer).length),
+        measured("convert up, not accepted", 12, 0, || {
+            raw::convert_up(&old_image[1..], &mut buffer).refusal
+        }),
+        measured("convert up, other edition", 12, 0, || {
+            raw::convert_up(&image, &mut buffer).refusal
+        }),
+        measured("convert up, no room", 11, 0, || {
+            raw::convert_up(&old_image, &mut buffer[1..]).refusal
+        }),
+        measured("convert down", OLD_IMAGE, 0, || raw::convert_down(&image, &mut buffer).length),
+        measured("convert down, not accepted", 12, 0, || {
+            raw::convert_down(&image[1..], &mut buffer).refusal
+        }),
+        measured("convert down, other edition", 12, 0, || {
+            raw::convert_down(&old_image, &mut buffer).refusal
+        }),
+        measured("convert down, eight cabins", 17, 0, || {
+            raw::convert_down(&shared_image, &mut buffer).refusal
+        }),
+        measured("convert down, no room", 11, 0, || {
+            raw::convert_down(&image, &mut buffer[..2569]).refusal
+        }),
         taken("key line that adds", &open, 127, |t| raw::key_line(t, &adds).first),
         taken("key line that links", &chain, 0, |t| raw::key_line(t, &links).refusal),
         taken("key line, 127 freed", &chain, 127, |t| raw::key_line(t, &clears).second),
@@ -144,15 +182,15 @@ fn every_call_keeps_to_the_limit() {
     assert_eq!(LIMIT, telephone::STACK_MAX);
     let mut deepest = calls(0);
     for exit in 1..4 {
-        for (most, (_, bytes)) in deepest.iter_mut().zip(calls(exit)) {
-            most.1 = most.1.max(bytes);
+        for (most, taken) in deepest.iter_mut().zip(calls(exit)) {
+            most.stack = most.stack.max(taken.stack);
         }
     }
     println!("bytes of stack: with the caller's table, without");
-    for (name, bytes) in &deepest {
-        println!("{bytes:6} {:6}  {name}", bytes - TABLE);
+    for Taken { name, table, stack } in &deepest {
+        println!("{:6} {stack:6}  {name}", stack + table);
     }
-    deepest.retain(|(_, bytes)| *bytes > LIMIT);
+    deepest.retain(|taken| taken.stack + taken.table > LIMIT);
     assert!(deepest.is_empty(), "more than {LIMIT} bytes: {deepest:?}");
 }
 

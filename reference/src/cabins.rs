@@ -9,7 +9,7 @@ use std::iter::zip;
 
 use crate::faults::Fault;
 use crate::sound::capacity_fits;
-use crate::table::{Charges, Quotas, Table, CABINS};
+use crate::table::{Charges, Quotas, Table, CABINS, PLACES};
 
 /// The list with these guarantees and limits, from cabin 0 on, and zeros for all other cabins.
 pub fn list(pairs: &[[u16; 2]]) -> Quotas {
@@ -22,6 +22,11 @@ pub fn list(pairs: &[[u16; 2]]) -> Quotas {
 /// has capacity 0; its list is that of capacity 1.
 pub fn one_cabin(capacity: u16) -> Quotas {
     list(&[[capacity.saturating_sub(1); 2]])
+}
+
+/// A table with all its steps charged to cabin 0, and W5's list for edition 1.
+pub fn for_cabin_0(table: &Table) -> Table {
+    Table { cabins: [0; PLACES], quotas: one_cabin(table.capacity), ..table.clone() }
 }
 
 /// The guarantee and the limit of each cabin.

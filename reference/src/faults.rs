@@ -1,9 +1,11 @@
 //! Deliberate errors, so that wrong variants can be run against the right one.
 //! The first fifteen are other ways to edit and stand in `calls`, `cabins` and `clearing`, the next
-//! two are of lists, two of images, eleven are other ways to squeeze, and eight other ways to make
-//! a trial. Each of the rest spoils what a right call gives, in one part of it.
+//! two are of lists, two of images, eleven are other ways to squeeze, eight other ways to make a
+//! trial, and seventeen other ways to convert an image. Each of the rest spoils what a right call
+//! gives, in one part of it.
 
 use crate::calls::{Command, Ending};
+use crate::convert::Way;
 use crate::history::{Call, Outcome, Start};
 use crate::image::{HEADER, RECORD};
 use crate::table::Table;
@@ -90,6 +92,40 @@ pub enum Fault {
     TraceAsResults,
     /// Only results that a contact uses up are looked at for refusal 10.
     UsedResultsOnly,
+    /// A conversion down looks at cabins and list before it asks whether the image is accepted.
+    CabinsBeforeImage,
+    /// A conversion down looks at the buffer before cabins and list.
+    BufferBeforeCabins,
+    /// A conversion looks at the buffer before the edition of an accepted image.
+    BufferBeforeEdition,
+    /// A conversion takes an image that is of the edition to be written already.
+    SameEditionTaken,
+    /// A conversion down drops cabins and list, whatever they are.
+    CabinsDropped,
+    /// A conversion down looks at the cabins, and drops the list.
+    ListDropped,
+    /// A conversion down looks at the cabins and at the guarantees, and drops the limits.
+    LimitsDropped,
+    /// A conversion down looks at the cabins and at the pair of cabin 0, and drops the others.
+    OtherPairsDropped,
+    /// A conversion up guarantees the place of step 0 to cabin 0 too.
+    AlarmGuaranteed,
+    /// A conversion drops these of the bits of each step, of the sum in its record.
+    BitsDropped(u8),
+    /// A conversion drops the own bit of step 0, which has no effect.
+    AlarmBitDropped,
+    /// A conversion puts the highest step's number for the last number given.
+    LastIsHighest,
+    /// A conversion keeps the order of the step records.
+    OrderKept,
+    /// The buffer of a conversion must have room for either image.
+    RoomForEither,
+    /// A conversion with too short a buffer writes what fits into it.
+    WrittenAsFits,
+    /// A conversion puts a zero behind the image, where the buffer has room for it.
+    ZeroBehind,
+    /// A conversion answers the length of the image given to it.
+    LengthOfGiven,
     /// Clearing says that all doubtful steps were freed.
     DoubtfulSaidFreed,
     /// A count gives the free steps first.
@@ -137,6 +173,8 @@ pub enum Sort {
     Write,
     ImageLength,
     KeyLine,
+    ConvertUp,
+    ConvertDown,
 }
 
 /// A part of what a call gives.
@@ -152,7 +190,7 @@ pub enum Part {
 }
 
 impl Sort {
-    pub const ALL: [Sort; 12] = [
+    pub const ALL: [Sort; 14] = [
         Sort::Fresh,
         Sort::Load,
         Sort::Add,
@@ -165,6 +203,8 @@ impl Sort {
         Sort::Write,
         Sort::ImageLength,
         Sort::KeyLine,
+        Sort::ConvertUp,
+        Sort::ConvertDown,
     ];
 
     pub fn of(call: &Call) -> Sort {
@@ -189,6 +229,18 @@ impl Sort {
         }
     }
 
+    pub fn of_way(way: Way) -> Sort {
+        match way {
+            Way::Up => Sort::ConvertUp,
+            Way::Down => Sort::ConvertDown,
+        }
+    }
+
+    /// Whether calls of this sort convert an image. They have no table, and are in no history.
+    pub fn converts(self) -> bool {
+        matches!(self, Sort::ConvertUp | Sort::ConvertDown)
+    }
+
     /// How many numbers a call of this sort answers.
     fn numbers(self) -> usize {
         match self {
@@ -200,9 +252,10 @@ impl Sort {
 
     /// The parts of what a call of this sort gives.
     fn parts(self, refused: bool) -> Vec<Part> {
-        let mut parts = vec![Part::Refusal, Part::Table];
+        let mut parts = vec![Part::Refusal];
+        parts.extend((!self.converts()).then_some(Part::Table));
         parts.extend((0..self.numbers()).map(Part::Number));
-        if matches!(self, Sort::Trial | Sort::Write) {
+        if self.converts() || matches!(self, Sort::Trial | Sort::Write) {
             parts.push(Part::Unwritten);
             parts.extend((!refused).then_some(Part::Written));
         }
@@ -233,8 +286,8 @@ pub fn cut(fault: Fault, which: Length, length: usize) -> usize {
     }
 }
 
-/// Spoils what a right call gave.
-pub fn spoil(fault: Fault, sort: Sort, table: &mut Table, outcome: &mut Outcome) {
+/// Spoils what a right call gave: its outcome, and the table if it has one.
+pub fn spoil(fault: Fault, sort: Sort, table: Option<&mut Table>, outcome: &mut Outcome) {
     let accepted = outcome.refusal == 0;
     let ended = |ending| sort == Sort::Trial && outcome.numbers[0] == ending as usize;
     match fault {
@@ -262,12 +315,12 @@ pub fn spoil(fault: Fault, sort: Sort, table: &mut Table, outcome: &mut Outcome)
                 _ => outcome.numbers[0],
             };
             match part {
-                Part::Refusal => outcome.refusal = outcome.refusal % 16 + 1,
+                Part::Refusal => outcome.refusal = outcome.refusal % 17 + 1,
                 Part::Number(i) => outcome.numbers[i] += 1,
                 Part::Written if written > 0 => outcome.lent[written - 1] ^= 1,
                 Part::Unwritten if written < outcome.lent.len() => outcome.lent[written] ^= 1,
                 Part::Written | Part::Unwritten => {}
-                Part::Table => table.own[0] ^= 1,
+                Part::Table => table.expect("a sort with a table").own[0] ^= 1,
             }
         }
         _ => {}

@@ -1,13 +1,14 @@
-//! Made-up calls, key lines, lists, images, sound tables and unsound ones, the same for the same
-//! seed. Most calls suit the plan at hand; the rest have odd numbers, wrong keys, short buffers, or
-//! lists that are bad or do not fit.
-//! Serves the tests of "A history is a list" of document 01.
+//! Made-up calls, key lines, lists, images, conversions, sound tables and unsound ones, the same
+//! for the same seed. Most calls suit the plan at hand; the rest have odd numbers, wrong keys,
+//! short buffers, or lists that are bad or do not fit.
+//! Serves the tests of "A history is a list" of document 01, and of W6 of document 02.
 
 use std::array::from_fn;
 use std::ops::Range;
 
-use crate::cabins::one_cabin;
+use crate::cabins::{for_cabin_0, one_cabin};
 use crate::calls::Command;
+use crate::convert::{Conversion, Way};
 use crate::history::{Call, Start};
 use crate::image::{encode, in_edition_1, in_edition_2, records, HEADER, RECORD};
 use crate::plan::{plan_of, Plan, PlanStep};
@@ -295,7 +296,8 @@ impl Random {
     /// time those of an image of edition 1.
     fn charge(&mut self, table: &mut Table) {
         if self.once_in(4) {
-            return for_cabin_0(table);
+            *table = for_cabin_0(table);
+            return;
         }
         let mut steps: Vec<usize> = members(table.in_use() & !1).collect();
         self.shuffle(&mut steps);
@@ -305,6 +307,51 @@ impl Random {
             steps.by_ref().take(charge.into()).for_each(|step| table.cabins[step] = cabin);
         }
         table.quotas = self.fitting_list(table.capacity, &charges);
+    }
+
+    /// W5's list for edition 1 with one other number, such as a table of this capacity, above 1,
+    /// can have: cabin 0 is guaranteed less, or a limit is higher.
+    fn near_list(&mut self, capacity: u16) -> Quotas {
+        let mut quotas = one_cabin(capacity);
+        let cabin = self.below(CABINS);
+        if cabin == 0 && self.once_in(2) {
+            quotas[0] = self.below(quotas[0].into()) as u16;
+        } else {
+            let limit = &mut quotas[2 * cabin + 1];
+            *limit = self.pick(&[*limit + 1, *limit + 2, u16::MAX]);
+        }
+        quotas
+    }
+
+    /// An accepted image with its step records in any order.
+    pub fn reordered(&mut self, image: &[u8]) -> Vec<u8> {
+        let mut records = records(image);
+        self.shuffle(&mut records[1..]);
+        records.concat()
+    }
+
+    /// A conversion of a sound table's image, with its step records in any order, into a buffer
+    /// about as long as it has to be. Most images are of the edition that the way begins with;
+    /// going down, about half of the lists are W5's for edition 1. The rest are of the other
+    /// edition, damaged, or have more than edition 1 can say: another list, or one other number.
+    pub fn conversion(&mut self) -> Conversion {
+        let way = self.pick(&[Way::Up, Way::Down]);
+        let mut table = self.sound_table();
+        if self.once_in(2) {
+            table = for_cabin_0(&table);
+            if self.once_in(4) && table.capacity > 1 {
+                table.quotas = self.near_list(table.capacity);
+            }
+        }
+        let new = self.reordered(&encode(&table));
+        let old = in_edition_1(&new);
+        let (given, written) = if way == Way::Up { (old, new) } else { (new, old) };
+        let needed = written.len();
+        let mut image = if self.once_in(6) { written } else { given };
+        if self.once_in(6) {
+            self.damage_image(&mut image);
+        }
+        Conversion { way, image, buffer: self.around(needed) }
     }
 
     /// Puts an image of edition 2 together from both editions: this record, where 0 is the header,
@@ -375,7 +422,7 @@ impl Random {
 /// the other.
 pub fn start(seed: u64) -> Start {
     let mut random = Random(!seed);
-    let mut table = random.sound_table();
+    let table = random.sound_table();
     let image = match seed % 18 {
         0..=5 => {
             let capacity = random.pick(&[128, 128, 1, 2, 3, 4, 5, 8, 12, 24, 60, 0, 129]);
@@ -390,18 +437,9 @@ pub fn start(seed: u64) -> Start {
             random.damage_image(&mut image);
             image
         }
-        _ => {
-            for_cabin_0(&mut table);
-            random.mixed_image(&encode(&table), 0)
-        }
+        _ => random.mixed_image(&encode(&for_cabin_0(&table)), 0),
     };
     Start::Load { image }
-}
-
-/// Charges all steps of a table to cabin 0, with W5's list for edition 1.
-fn for_cabin_0(table: &mut Table) {
-    table.cabins = [0; PLACES];
-    table.quotas = one_cabin(table.capacity);
 }
 
 /// Makes up the calls of one history.

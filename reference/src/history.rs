@@ -58,7 +58,7 @@ pub fn begin(start: &Start, fault: Fault) -> (Table, Outcome) {
         Start::Load { image } => load_with(&image[..cut(fault, Length::Image, image.len())], fault),
     };
     let mut outcome = plain(answer, Vec::new());
-    spoil(fault, Sort::of_start(start), &mut table, &mut outcome);
+    spoil(fault, Sort::of_start(start), Some(&mut table), &mut outcome);
     (table, outcome)
 }
 
@@ -102,12 +102,12 @@ pub fn run(table: &mut Table, call: &Call, fault: Fault) -> Outcome {
             }
         }
     };
-    spoil(fault, Sort::of(call), table, &mut outcome);
+    spoil(fault, Sort::of(call), Some(table), &mut outcome);
     outcome
 }
 
 /// An outcome with two numbers.
-fn plain(answer: Answer, lent: Vec<u8>) -> Outcome {
+pub fn plain(answer: Answer, lent: Vec<u8>) -> Outcome {
     Outcome {
         refusal: answer.refusal,
         numbers: vec![answer.first.into(), answer.second.into()],

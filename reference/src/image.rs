@@ -56,8 +56,11 @@ pub fn in_edition_2(image: &[u8]) -> Option<Vec<u8>> {
     raised(image, Fault::None)
 }
 
-/// An image of edition 2 in edition 1, without its list and its cabins.
+/// An accepted image of either edition in edition 1, without its list and its cabins.
 pub fn in_edition_1(image: &[u8]) -> Vec<u8> {
+    if is_old(image) {
+        return image.to_vec();
+    }
     let (header, steps) = image.split_at(HEADER);
     let mut old = [&[OLD_HEADER as u8, 0, 1, 0], &header[4..OLD_HEADER]].concat();
     for step in steps.chunks(RECORD) {
@@ -66,11 +69,27 @@ pub fn in_edition_1(image: &[u8]) -> Vec<u8> {
     old
 }
 
+/// Bytes of the header and of a step record, in the edition that an image begins with.
+pub fn sizes(image: &[u8]) -> (usize, usize) {
+    if is_old(image) {
+        (OLD_HEADER, OLD_RECORD)
+    } else {
+        (HEADER, RECORD)
+    }
+}
+
 /// The records of an accepted image of either edition, the header first.
 pub fn records(image: &[u8]) -> Vec<&[u8]> {
-    let (header, record) = if is_old(image) { (OLD_HEADER, OLD_RECORD) } else { (HEADER, RECORD) };
+    let (header, record) = sizes(image);
     let (header, steps) = image.split_at(header);
     [header].into_iter().chain(steps.chunks(record)).collect()
+}
+
+/// An accepted image of either edition, its step records in ascending step number.
+pub fn sorted(image: &[u8]) -> Vec<u8> {
+    let mut records = records(image);
+    records[1..].sort_by_key(|record| fields::<3>(record)[2]);
+    records.concat()
 }
 
 /// The two-byte fields at the start of some bytes.
@@ -100,7 +119,7 @@ pub fn encode(table: &Table) -> Vec<u8> {
 }
 
 /// Whether bytes begin with the length and the kind of edition 1's first record.
-fn is_old(image: &[u8]) -> bool {
+pub fn is_old(image: &[u8]) -> bool {
     image.starts_with(&[OLD_HEADER as u8, 0, 1, 0])
 }
 

@@ -1,22 +1,31 @@
-//! What a squeeze has to keep, what the limit of a trial does, and what cabins are promised,
-//! checked on generated tables with any strengths, and histories. It is stated of any program that
-//! makes calls, so that it can be asked of this one and of the one it is held to. Renders W2, W3
-//! and W5 of document 02. Each law gives how often it met the case that it is about.
+//! What a squeeze has to keep, what the limit of a trial does, what cabins are promised, and what
+//! conversions leave, checked on generated tables with any strengths, and histories. It is stated
+//! of any program that makes calls, so that it can be asked of this one and of the one it is held
+//! to. Renders W2, W3, W5 and W6 of document 02. Each law gives how often it met the case that it
+//! is about.
 
 use std::collections::BTreeMap;
 use std::ops::Range;
 
-use crate::cabins::pairs;
+use crate::cabins::{for_cabin_0, pairs};
 use crate::calls::{Command, Ending};
+use crate::convert::{Conversion, Way};
 use crate::faults::Fault;
 use crate::generate::{start, Generator, Random};
-use crate::history::{begin, Call, Outcome};
-use crate::plan::plan_of;
+use crate::history::{begin, Call, Outcome, Start};
+use crate::image::{encode, in_edition_1, sorted, HEADER, RECORD};
+use crate::plan::{plan_of, Plan};
 use crate::sound::{sound, CONTACT};
 use crate::table::{members, Quotas, Table, CABINS, EXITS, PLACES};
 
 /// Makes a call on a table.
 pub type Program<'a> = &'a dyn Fn(&mut Table, &Call) -> Outcome;
+
+/// Makes the first call of a history; gives its table.
+pub type Beginner<'a> = &'a dyn Fn(&Start) -> (Table, Outcome);
+
+/// Makes a conversion.
+pub type Converter<'a> = &'a dyn Fn(&Conversion) -> Outcome;
 
 /// The steps in their order get the numbers from 0 upward, with all their fields, and targets
 /// follow. The table is sound and has the capacity and the list given, and its plain plan is the
@@ -211,6 +220,49 @@ pub fn charges_are_counted(program: Program, seeds: Range<u64>) -> usize {
         }
     }
     freed
+}
+
+/// An image converted to the other edition loads as the same table, and its plan is the one that
+/// its records say; converted back, it is the first image, sorted. What an image of edition 1 is
+/// converted to is what it is loaded and written as. Gives the images that were not sorted.
+pub fn there_and_back(
+    convert: Converter,
+    begin: Beginner,
+    program: Program,
+    seeds: Range<u64>,
+) -> usize {
+    let loaded = |image: &[u8]| {
+        let (table, outcome) = begin(&Start::Load { image: image.to_vec() });
+        assert_eq!(outcome.refusal, 0);
+        table
+    };
+    let mut unsorted = 0;
+    for (table, ..) in tables(seeds) {
+        let table = for_cabin_0(&table);
+        let mut random = Random(table.size().into());
+        let new = random.reordered(&encode(&table));
+        let old = random.reordered(&in_edition_1(&new));
+        let [raised, lowered] =
+            [converted(convert, Way::Up, &old), converted(convert, Way::Down, &new)];
+        for image in [&old, &new, &raised, &lowered] {
+            assert_eq!(loaded(image), table);
+            assert_eq!(Plan::of_image(image), plan_of(&table));
+        }
+        assert_eq!(converted(convert, Way::Down, &raised), sorted(&old));
+        assert_eq!(converted(convert, Way::Up, &lowered), sorted(&new));
+        let written = program(&mut loaded(&old), &Call::Write { buffer: raised.len() });
+        assert_eq!(written.lent, raised);
+        unsorted += [&old, &new].into_iter().filter(|image| sorted(image) != **image).count();
+    }
+    unsorted
+}
+
+/// What an image is converted to, which has to be accepted.
+fn converted(convert: Converter, way: Way, image: &[u8]) -> Vec<u8> {
+    let buffer = HEADER + RECORD * PLACES;
+    let outcome = convert(&Conversion { way, image: image.to_vec(), buffer });
+    assert_eq!(outcome.refusal, 0);
+    outcome.lent[..outcome.numbers[0]].to_vec()
 }
 
 /// Adds a contact for a cabin at the first empty exit; gives the refusal.

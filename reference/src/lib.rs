@@ -1,13 +1,15 @@
 //! The call plan table of document 01, written a second time to compare with the product.
 //! Reach is marked afresh and counters are recounted from the links; no search works on counters.
 //! `table`, `sound`, `cabins`, `calls`, `clearing`, `squeeze`, `image` and `keys` keep a table;
-//! `plan` draws the plain plan; `history` runs calls given as values; `generate` makes up calls,
-//! key lines, tables, lists and images; `faults` has deliberate errors; `laws` has what every
-//! squeeze has to keep, what the limit of a trial does, and what cabins are promised.
+//! `convert` has one edition of an image for the other; `plan` draws the plain plan; `history` runs
+//! calls given as values; `generate` makes up calls, key lines, tables, lists, images and
+//! conversions; `faults` has deliberate errors; `laws` has what every squeeze has to keep, what the
+//! limit of a trial does, what cabins are promised, and what conversions leave.
 
 pub mod cabins;
 pub mod calls;
 pub mod clearing;
+pub mod convert;
 pub mod faults;
 pub mod generate;
 pub mod history;

@@ -2,6 +2,7 @@
 //! Small cases: self links, two exits to one step, which step is taken first, numbers going round.
 
 use reference::calls::{add, clear, fresh_for_cabin_0, link, read, Answer, ReadAnswer};
+use reference::convert::{convert, Way};
 use reference::image::{load, write};
 use reference::sound::sound;
 use reference::table::Table;
@@ -93,13 +94,12 @@ fn p9_two_exits_lead_to_one_step() {
     assert_eq!(clear(&mut weak_first, 0, 0), yes(1, 1));
 }
 
-/// P10's bytes are of edition 1 and load as F4, which is written in edition 2: guarantee and limit
-/// of cabin 0 are 3.
+/// F4 is written in edition 2, where guarantee and limit of cabin 0 are 3. Converted down, which W6
+/// makes of P10, it is P10's 30 bytes; converted up again, it is the 64 bytes written.
 #[test]
 fn p10_f4_as_an_image() {
     let mut old = vec![0x0A, 0, 1, 0, 4, 0, 0, 0, 1, 0, 0x14, 0, 2, 0];
     old.extend([0; 16]);
-    assert_eq!(load(&old), (f4(), yes(0, 0)));
     let mut new = vec![0x2A, 0, 3, 0, 4, 0, 0, 0, 1, 0, 3, 0, 3, 0];
     new.extend([0; 28]);
     new.extend([0x16, 0, 4, 0]);
@@ -108,7 +108,15 @@ fn p10_f4_as_an_image() {
     assert_eq!(write(&f4(), &mut buffer), yes(64, 0));
     assert_eq!(buffer[..64], new);
     assert_eq!(buffer[64..], [0xEE; 2]);
-    assert_eq!(load(&new), (f4(), yes(0, 0)));
+    let mut lowered = [0xEE; 32];
+    assert_eq!(convert(Way::Down, &buffer[..64], &mut lowered), yes(30, 0));
+    assert_eq!(lowered[..30], old);
+    assert_eq!(lowered[30..], [0xEE; 2]);
+    buffer.fill(0xEE);
+    assert_eq!(convert(Way::Up, &lowered[..30], &mut buffer), yes(64, 0));
+    assert_eq!(buffer[..64], new);
+    assert_eq!(buffer[64..], [0xEE; 2]);
+    assert_eq!([load(&old), load(&new)], [(f4(), yes(0, 0)), (f4(), yes(0, 0))]);
 }
 
 /// A weak self link is strong once its step's bit is flipped, so it is turned.

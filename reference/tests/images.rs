@@ -4,10 +4,10 @@
 mod common;
 
 use common::image_of;
-use reference::cabins::{list, one_cabin};
+use reference::cabins::{for_cabin_0, list};
 use reference::calls::{add, clear, fresh, fresh_for_cabin_0, link, Answer};
 use reference::generate::Random;
-use reference::image::{in_edition_1, in_edition_2, length, load, records, write};
+use reference::image::{in_edition_1, in_edition_2, length, load, records, sorted, write};
 use reference::plan::{plan_of, Plan};
 use reference::table::Table;
 
@@ -35,16 +35,11 @@ fn after_p5() -> Table {
     table
 }
 
-/// What an image of edition 1 makes of a table: all is cabin 0's.
-fn for_cabin_0(table: Table) -> Table {
-    Table { cabins: [0; 128], quotas: one_cabin(table.capacity), ..table }
-}
-
 /// The image of the table after P5 in edition 2 and in edition 1, each with the table it loads as.
 fn both_editions() -> [(Vec<u8>, Table); 2] {
     let image = image_of(&after_p5());
     let old = in_edition_1(&image);
-    [(image, after_p5()), (old, for_cabin_0(after_p5()))]
+    [(image, after_p5()), (old, for_cabin_0(&after_p5()))]
 }
 
 /// An image with one two-byte field set.
@@ -58,20 +53,13 @@ fn bytes(fields: &[u16]) -> Vec<u8> {
     fields.iter().flat_map(|field| field.to_le_bytes()).collect()
 }
 
-/// The image of either edition in edition 2, with its step records in ascending order.
-fn sorted(image: &[u8]) -> Vec<u8> {
-    let image = in_edition_2(image).expect("an accepted image");
-    let mut records = records(&image);
-    records[1..].sort_by_key(|record| [record[5], record[4]]);
-    records.concat()
-}
-
 /// Checks that an image is refused, or that its table is written as the same image, sorted and in
 /// edition 2. Gives whether it is accepted.
 fn accepted_rightly(image: &[u8]) -> bool {
     let (table, answer) = load(image);
     if answer.refusal == 0 {
-        assert_eq!(image_of(&table), sorted(image));
+        let new = in_edition_2(image).expect("an accepted image");
+        assert_eq!(image_of(&table), sorted(&new));
         assert_eq!(Plan::of_image(image), plan_of(&table));
     } else {
         not_accepted(image);
@@ -102,7 +90,7 @@ fn fields_of_an_image_of_edition_1() {
     ];
     let table = accepted(&bytes(&fields));
     assert_eq!(table.quotas, [3, 3, 0, 0, 0, 0, 0, 0, 0, 0, 0, 0, 0, 0, 0, 0]);
-    assert_eq!(table, for_cabin_0(after_p5()));
+    assert_eq!(table, for_cabin_0(&after_p5()));
     assert_eq!(in_edition_1(&image_of(&after_p5())), bytes(&fields));
 }
 
@@ -196,14 +184,14 @@ fn records_in_other_orders() {
 /// Each record of either edition: only the two images of one edition are accepted.
 #[test]
 fn editions_do_not_mix() {
-    let new = image_of(&for_cabin_0(after_p5()));
+    let new = image_of(&for_cabin_0(&after_p5()));
     let old = in_edition_1(&new);
     let editions = [records(&new), records(&old)];
     for choice in 0..16 {
         let record = |number: usize| editions[choice >> number & 1][number];
         let image = [record(0), record(1), record(2), record(3)].concat();
         match choice {
-            0 | 15 => assert_eq!(accepted(&image), for_cabin_0(after_p5())),
+            0 | 15 => assert_eq!(accepted(&image), for_cabin_0(&after_p5())),
             _ => not_accepted(&image),
         }
     }
@@ -328,10 +316,8 @@ fn round_trips() {
         let table = random.sound_table();
         let image = image_of(&table);
         assert_eq!(usize::from(length(&table).first), image.len());
-        for (image, table) in [(in_edition_1(&image), for_cabin_0(table.clone())), (image, table)] {
-            let mut records = records(&image);
-            random.shuffle(&mut records[1..]);
-            let shuffled = records.concat();
+        for (image, table) in [(in_edition_1(&image), for_cabin_0(&table)), (image, table)] {
+            let shuffled = random.reordered(&image);
             assert_eq!([accepted(&image), accepted(&shuffled)], [table.clone(), table]);
             assert!(accepted_rightly(&shuffled));
         }

@@ -5,9 +5,10 @@
 --   guarantee-kept charges-counted   every history: what a cabin below its guarantee may add, and what the cabins are charged (W5)
 --   demand-2-*                every accepted call
 --   written-equal loaded-equal   one table, one image (W1); demand-2-old-*, an image of edition 1 (W5)
+--   convert-*                 an image converted to the other edition (W6)
 --   squeeze-*                 an accepted squeeze, and what its table does (W2)
 --   trial-demand trial-only trial-longer   an accepted trial, and one with a larger limit (W3)
---   examples-shown ..         P1 to P9, P10's bytes loaded, each refusal of each call, key lines byte by byte, a table for each clause of soundness
+--   examples-shown ..         P1 to P10, each refusal of each call, key lines byte by byte, a table for each clause of soundness
 --   keys-demand keys-blocks   the program `keys`
 --   words-table table-words   the table in memory
 --   plan-*                    each exported function meets its contract, which is the equation with its definition (crates/telephone/src/lib.rt)
@@ -25,12 +26,13 @@ use Rattle.table.specs.Clear.{clearRefusal, clearCall}
 use Rattle.table.specs.Squeeze.{newNumber, squeezeRefusal, squeezeCall, ClearsAlike}
 use Rattle.table.specs.Plan.{planOf}
 use Rattle.table.proofs.Sound as Soundness
-use Rattle.image.specs.Image.{edition1, edition2, image, editionIn, imageLength, writeCall, accepted, loadCall, Bytes}
+use Rattle.image.specs.Image.{Edition, edition1, edition2, image, editionIn, imageLength, writeCall, written, accepted, loadCall, Bytes}
+use Rattle.image.specs.Convert.{convertRefusal, convertCall}
 use Rattle.image.proofs.Laws as Images
 use Rattle.keyline.specs.Keys.{spokenCounts}
 use Rattle.history.specs.History.{First, Call, tableAfter, heardBy, planAfter, drawnBy, firstRefusal, planFirstRefusal, firstTable, firstPlan}
 use Rattle.history.specs.Acts.{Act}
-use Rattle.history.specs.Demands.{Demand1, Demand3, GuaranteeDemand, ChargesDemand, AddDemand, LinkDemand, ClearDemand, CountDemand, SqueezeDemand, TwiceDemand, WriteDemand, EqualDemand, LoadDemand, OldDemand, SameTableDemand}
+use Rattle.history.specs.Demands.{Demand1, Demand3, GuaranteeDemand, ChargesDemand, AddDemand, LinkDemand, ClearDemand, CountDemand, SqueezeDemand, TwiceDemand, WriteDemand, EqualDemand, SortedDemand, OldDemand, ConvertDemand, NeedsDemand, SameTableDemand}
 use Rattle.table.specs.Trial.{TrialOutcome, trialRefusal, trialCall, TrialDemand, SameTrial, LongerDemand, underNumbers}
 use Rattle.history.proofs.Demand1 as Refusals
 use Rattle.history.proofs.Demand2
@@ -63,6 +65,10 @@ use Rattle.telephone.proofs.plan_write_image.Statement as write-image-contract
 use Rattle.telephone.proofs.plan_write_image.Met as write-image-met
 use Rattle.telephone.proofs.plan_load_image.Statement as load-image-contract
 use Rattle.telephone.proofs.plan_load_image.Met as load-image-met
+use Rattle.telephone.proofs.plan_convert_up.Statement as convert-up-contract
+use Rattle.telephone.proofs.plan_convert_up.Met as convert-up-met
+use Rattle.telephone.proofs.plan_convert_down.Statement as convert-down-contract
+use Rattle.telephone.proofs.plan_convert_down.Met as convert-down-met
 use Rattle.telephone.proofs.plan_key_line.Statement as key-line-contract
 use Rattle.telephone.proofs.plan_key_line.Met as key-line-met
 use Rattle.telephone.proofs.plan_is_sound.Statement as is-sound-contract
@@ -83,7 +89,7 @@ test-sound = Soundness.test-sound
 pub sound-test : (t : Table) → Sound t → sound t ≡ true
 sound-test = Soundness.sound-test
 
--- Demand 1: for every table, call and argument, and for fresh and load.
+-- Demand 1: for every table, call and argument, for fresh and load, and for a conversion of any bytes.
 pub demand-1 : (t : Table) (a : Act) → Demand1 t a
 demand-1 = Refusals.demand-1
 
@@ -141,12 +147,13 @@ pub demand-2-counts : (t : Table) → Sound t → CountDemand t (spokenCounts t)
 demand-2-counts = Demand2.count-demand
 
 -- Demand 2: "A sound table written as an image loads as the same table", in a buffer that has the room
-pub demand-2-written : (t : Table) → Sound t → (buffer : List ℕ) → imageLength t ≤ length buffer → WriteDemand t buffer (writeCall t buffer)
+pub demand-2-written : (t : Table) → Sound t → (buffer : List ℕ) → imageLength edition2 t ≤ length buffer →
+    WriteDemand edition2 t buffer (writeCall t buffer)
 demand-2-written = Demand2.write-demand
 
 -- "and an accepted image is written with the same records.", in ascending step number (W1), and no other image has them so; of edition 2, which is written
 pub demand-2-loaded : (bs : List ℕ) → Bytes bs → accepted bs ≡ true → editionIn bs ≡ edition2 → (buffer : List ℕ) → length bs ≤ length buffer →
-    LoadDemand bs (writeCall (loadCall bs .table) buffer)
+    SortedDemand bs (writeCall (loadCall bs .table) buffer)
 demand-2-loaded = Demand2.load-demand
 
 -- W5: an accepted image of edition 1 loads with all steps charged to cabin 0 and its list
@@ -158,7 +165,7 @@ pub demand-2-old-image : (t : Table) → Sound t → t .quotas ≡ soleQuotas (t
 demand-2-old-image = Images.load-sole
 
 -- W1: "Two sound tables are equal exactly when their written images are", in buffers that have the room
-pub written-equal : (t u : Table) → Sound t → Sound u → (a b : List ℕ) → imageLength t ≤ length a → imageLength u ≤ length b →
+pub written-equal : (t u : Table) → Sound t → Sound u → (a b : List ℕ) → imageLength edition2 t ≤ length a → imageLength edition2 u ≤ length b →
     EqualDemand t u (writeCall t a) (writeCall u b)
 written-equal = Demand2.equal-demand
 
@@ -166,6 +173,24 @@ written-equal = Demand2.equal-demand
 pub loaded-equal : (bs cs : List ℕ) → Bytes bs → Bytes cs → accepted bs ≡ true → accepted cs ≡ true → editionIn bs ≡ editionIn cs →
     SameTableDemand bs cs (loadCall bs) (loadCall cs)
 loaded-equal = Demand2.same-table-demand
+
+-- W6: an accepted conversion of any bytes, to edition 1 or 2: both images load as one table
+pub convert-demand : (v : Edition) (bs buffer : List ℕ) → convertRefusal v bs (length buffer) ≡ 0 → ConvertDemand v bs buffer (convertCall v bs buffer)
+convert-demand = Demand2.convert-demand
+
+-- "so up and down again gives the first image sorted", and so does down and up again: what was written, converted back into a buffer with the room
+pub convert-back : (v : Edition) (bs : List ℕ) → Bytes bs → (buffer : List ℕ) → convertRefusal v bs (length buffer) ≡ 0 → (room : List ℕ) →
+    length bs ≤ length room → SortedDemand bs (convertCall (editionIn bs) (written (convertCall v bs buffer)) room)
+convert-back = Demand2.back-demand
+
+-- W5: "an edition 1 image loaded and written is W6's conversion of it", into any buffer, refused or not
+pub convert-up-written : (bs : List ℕ) → accepted bs ≡ true → editionIn bs ≡ edition1 → (buffer : List ℕ) →
+    convertCall edition2 bs buffer ≡ writeCall (loadCall bs .table) buffer
+convert-up-written = Demand2.up-demand
+
+-- 17 exactly where no image of edition 1 loads as the table of this one
+pub convert-needs : (bs : List ℕ) → accepted bs ≡ true → editionIn bs ≡ edition2 → (buffer : List ℕ) → NeedsDemand bs (convertCall edition1 bs buffer)
+convert-needs = Demand2.needs-demand
 
 -- W2: an accepted squeeze of a sound table, and a second one
 pub squeeze-demand : (t : Table) → Sound t → (c : ℕ) (q : List ℕ) → squeezeRefusal t c q ≡ 0 → SqueezeDemand t c q (squeezeCall t c q)
@@ -257,6 +282,12 @@ module _ {M : Type 1} where
 
   pub plan-load-image : load-image-contract.statement M
   plan-load-image = load-image-met.met
+
+  pub plan-convert-up : convert-up-contract.statement M
+  plan-convert-up = convert-up-met.met
+
+  pub plan-convert-down : convert-down-contract.statement M
+  plan-convert-down = convert-down-met.met
 
   pub plan-key-line : key-line-contract.statement M
   plan-key-line = key-line-met.met

@@ -21,16 +21,17 @@ use Rattle.table.specs.Trial.{isContact, exitOf, resultsAfter, noResult, atStep
 use Rattle.table.specs.Clear.{emptied, heldStrongly, stops, doubtful, wanted, flipped, weakened, restored, repair, repairOf, unlinked, blanked, eachDoubtful, release, size, repaired, clearRefusal, clearCall}
 use Rattle.table.specs.Squeeze.{newNumber, oldNumber, moved, squeezed, squeezeRefusal, squeezeCall}
 use Rattle.table.specs.Plan.{planStep, planOf}
-use Rattle.image.specs.Image.{headerAdds, stepAdds, editionIn, quotasBy, quotasIn, cabinBy, cabinIn, word, wordAt, words, recordSize, recordBytes, headerFieldsOf, bitsOf, stepFieldsOf, stepsBelow, image, imageLength, writeRefusal, writeCall, fieldAt, recordAt, capacityIn, lastIn, countIn, stepPlace, numberIn, kindIn, contentIn, bitsIn, targetIn, bitIn, recordOf, hasRecord, recordField, counted, imageTable, framed, accepted, loadCall}
+use Rattle.image.specs.Image.{headerAdds, stepAdds, editionIn, quotasBy, quotasIn, cabinBy, cabinIn, word, wordAt, words, recordSize, recordBytes, headerFieldsOf, bitsOf, stepFieldsOf, stepsBelow, image, imageLength, put, writeRefusal, writeCall, fieldAt, recordAt, capacityIn, lastIn, countIn, stepPlace, numberIn, kindIn, contentIn, bitsIn, targetIn, bitIn, recordOf, hasRecord, recordField, counted, imageTable, framed, accepted, loadCall}
+use Rattle.image.specs.Convert.{hasSoleQuotas, sayable, convertRefusal, convertCall}
 use Rattle.keyline.specs.Keys.{isDigit, isLine, decimal, decode, spokenCounts, perform, performLine, keyCall}
 use Rattle.history.specs.History.{firstTable}
-use Rattle.history.specs.Acts.{told, fieldNumbers, triedNumbers, callDone, doneBy, answerSize, lentTo, refusedBy}
-use Rattle.examples.specs.Examples.{oldHeaderP5, oldStep0P5, oldStep1P5, oldStep2P5, newImageF4, editions, shares5, shared, lists, headerP5, step0P5, step1P5, step2P5, imageP5, twoCandidates, squeezes, waits, messages, ends, sorted, imageTwin, firstStrong, secondStrong, Twins, keyLines, Decodes, failing, tableP1, unsound, failAsSaid, takeOne, taken, takenBy, strength, usedBelow, seen, same, sameTable, doneTests, factsHold, passed, walk, tableF4, p1ToP7, p8, p9, imageF4, p10, digits, line, beginnings, noAlarm, notSoundReasons, reasons, Entry, Run, tableLeft, Shown, everyRun, examples, refusals}
+use Rattle.history.specs.Acts.{told, wrote, fieldNumbers, triedNumbers, callDone, doneBy, answerSize, lentTo, refusedBy}
+use Rattle.examples.specs.Examples.{conversions, oldHeaderP5, oldStep0P5, oldStep1P5, oldStep2P5, newImageF4, editions, shares5, shared, lists, headerP5, step0P5, step1P5, step2P5, imageP5, twoCandidates, squeezes, waits, messages, ends, sorted, imageTwin, firstStrong, secondStrong, Twins, keyLines, Decodes, failing, tableP1, unsound, failAsSaid, takeOne, taken, takenBy, strength, usedBelow, seen, same, sameTable, doneTests, factsHold, passed, walk, tableF4, p1ToP7, p8, p9, imageF4, p10, digits, line, beginnings, noAlarm, notSoundReasons, reasons, Entry, Run, tableLeft, Shown, everyRun, examples, refusals}
 use Rattle.examples.proofs.Laws.{run-shown, run-at}
 
 -- a name for the list of definitions below, which each run unfolds
 computes : Bool
-unfolding oldHeaderP5 oldStep0P5 oldStep1P5 oldStep2P5 newImageF4 editions shares5 shared lists total cabinOf guaranteeOf limitOf quotasFit listFits soleQuotas unmet reserved atLimit noneToSpare chargesFit charged charge freeSteps refusedTable headerAdds stepAdds editionIn quotasBy quotasIn cabinBy cabinIn headerP5 step0P5 step1P5 step2P5 imageP5 twoCandidates squeezes waits messages ends sorted imageTwin firstStrong secondStrong failing tableP1 unsound failAsSaid all any count find lowest rounds tabulateFrom tabulate grow reach reaches exitPlace counterPlace inUse kindOf contentOf ownBit targetOf linkBit counterOf holds strong leads linked stronglyLinked countsAt linksTo stepsInUse withNumbers withLinks withSteps capacityFits contentFits kindFits eachUsed shapeTests blankTests ringless soundTests sound first refusalOf firstOf secondOf unless endingNumber triedRefusal endingOf lastOf movesOf freshTable freshCall lowered raised relink after numberGiven addRefusal withStep addTable addCall linkRefusal weakBit linkTable linkCall fieldsOf noFields readRefusal readCall isContact exitOf resultsAfter noResult atStep tryFrom resultsFit trialRefusal trialCall emptied heldStrongly stops doubtful wanted flipped weakened restored repair repairOf unlinked blanked eachDoubtful release size repaired clearRefusal clearCall newNumber oldNumber moved squeezed squeezeRefusal squeezeCall word wordAt words recordSize recordBytes headerFieldsOf bitsOf stepFieldsOf stepsBelow image imageLength writeRefusal writeCall fieldAt recordAt capacityIn lastIn countIn stepPlace numberIn kindIn contentIn bitsIn targetIn bitIn recordOf hasRecord recordField counted imageTable framed accepted loadCall isDigit isLine decimal decode spokenCounts perform performLine keyCall firstTable told fieldNumbers triedNumbers callDone doneBy takeOne taken takenBy strength usedBelow seen answerSize lentTo refusedBy same sameTable doneTests factsHold passed walk tableF4 p1ToP7 p8 p9 imageF4 p10 digits line beginnings noAlarm notSoundReasons reasons
+unfolding conversions oldHeaderP5 oldStep0P5 oldStep1P5 oldStep2P5 newImageF4 editions shares5 shared lists total cabinOf guaranteeOf limitOf quotasFit listFits soleQuotas unmet reserved atLimit noneToSpare chargesFit charged charge freeSteps refusedTable headerAdds stepAdds editionIn quotasBy quotasIn cabinBy cabinIn headerP5 step0P5 step1P5 step2P5 imageP5 twoCandidates squeezes waits messages ends sorted imageTwin firstStrong secondStrong failing tableP1 unsound failAsSaid all any count find lowest rounds tabulateFrom tabulate grow reach reaches exitPlace counterPlace inUse kindOf contentOf ownBit targetOf linkBit counterOf holds strong leads linked stronglyLinked countsAt linksTo stepsInUse withNumbers withLinks withSteps capacityFits contentFits kindFits eachUsed shapeTests blankTests ringless soundTests sound first refusalOf firstOf secondOf unless endingNumber triedRefusal endingOf lastOf movesOf freshTable freshCall lowered raised relink after numberGiven addRefusal withStep addTable addCall linkRefusal weakBit linkTable linkCall fieldsOf noFields readRefusal readCall isContact exitOf resultsAfter noResult atStep tryFrom resultsFit trialRefusal trialCall emptied heldStrongly stops doubtful wanted flipped weakened restored repair repairOf unlinked blanked eachDoubtful release size repaired clearRefusal clearCall newNumber oldNumber moved squeezed squeezeRefusal squeezeCall word wordAt words recordSize recordBytes headerFieldsOf bitsOf stepFieldsOf stepsBelow image imageLength put writeRefusal writeCall hasSoleQuotas sayable convertRefusal convertCall fieldAt recordAt capacityIn lastIn countIn stepPlace numberIn kindIn contentIn bitsIn targetIn bitIn recordOf hasRecord recordField counted imageTable framed accepted loadCall isDigit isLine decimal decode spokenCounts perform performLine keyCall firstTable told wrote fieldNumbers triedNumbers callDone doneBy takeOne taken takenBy strength usedBelow seen answerSize lentTo refusedBy same sameTable doneTests factsHold passed walk tableF4 p1ToP7 p8 p9 imageF4 p10 digits line beginnings noAlarm notSoundReasons reasons
 computes = true
 
 -- one declaration for each run, since antt bounds the steps of one
@@ -74,6 +75,10 @@ editions-hold : walk tableF4 editions ≡ true
 unfolding computes
 editions-hold = refl
 
+conversions-hold : walk tableF4 conversions ≡ true
+unfolding computes
+conversions-hold = refl
+
 shared-holds : walk tableF4 (shared ++ lists) ≡ true
 unfolding computes
 shared-holds = refl
@@ -111,12 +116,13 @@ examples-hold =
     (and-intro ends-hold
     (and-intro sorted-holds
     (and-intro editions-hold
+    (and-intro conversions-hold
     (and-intro shared-holds
     (and-intro first-strong-holds
     (and-intro second-strong-holds
     (and-intro beginnings-hold
     (and-intro not-sound-reasons-hold
-    (and-intro reasons-hold refl)))))))))))))))
+    (and-intro reasons-hold refl))))))))))))))))
 
 pub examples-shown : (r : Run) → List·Memᴰ r (examples ++ refusals) → (before : List Entry) (x : Entry) (after : List Entry) →
     r .entries ≡ before ++ (x ∷ after) → Shown (tableLeft (r .table) before) x

@@ -17,7 +17,7 @@ use Rattle.table.specs.Table.{Table}
 use Rattle.table.specs.Calls.{refusedTable}
 use Rattle.table.specs.Clear.{Repair, wanted, repair}
 use Rattle.history.specs.History.{First, fresh, load, Call, add, link, clear, read, trial, write, keyLine, squeeze, onlyRefusal, heardAs, ran, run, tableAfter, firstTable}
-use Rattle.history.specs.Acts.{Act, begin, call, Done, told, callDone, doneBy, refusedBy}
+use Rattle.history.specs.Acts.{Act, begin, call, convert, Done, told, wrote, callDone, doneBy, refusedBy}
 use Rattle.examples.specs.Examples.{takeOne, taken, takeAll, Fact, _is_, seen, Entry, accepts, refuses, actOf, Run, tableLeft, Holds, Shown, same, sameTable, doneTests, factsHold, passed, walk, everyRun}
 
 same-true : (xs ys : List ℕ) → same xs ys ≡ true → xs ≡ ys
@@ -82,6 +82,7 @@ unfolding walk
 walk-head t (accepts a fs) xs p = and-left (passed t (doneBy t a) (accepts a fs)) (walk (doneBy t a .table) xs) p
 walk-head t (refuses (begin f) n) xs p = and-left (passed t (doneBy t (begin f)) (refuses (begin f) n)) (walk refusedTable xs) p
 walk-head t (refuses (call c) n) xs p = and-left (passed t (doneBy t (call c)) (refuses (call c) n)) (walk t xs) p
+walk-head t (refuses (convert v bs buffer) n) xs p = and-left (passed t (doneBy t (convert v bs buffer)) (refuses (convert v bs buffer) n)) (walk t xs) p
 
 -- and the walk goes on with the table that it leaves
 walk-tail : (t : Table) (x : Entry) (xs : List Entry) → walk t (x ∷ xs) ≡ true → walk (doneBy t (actOf x) .table) xs ≡ true
@@ -95,6 +96,10 @@ walk-tail t (refuses (call c) n) xs p =
     let e = entry-shown t (refuses (call c) n) (walk-head t (refuses (call c) n) xs p) in
     subst (λ (d : Done). walk (d .table) xs ≡ true) (sym e)
     (and-right (passed t (doneBy t (call c)) (refuses (call c) n)) (walk t xs) p)
+walk-tail t (refuses (convert v bs buffer) n) xs p =
+    let e = entry-shown t (refuses (convert v bs buffer) n) (walk-head t (refuses (convert v bs buffer) n) xs p) in
+    subst (λ (d : Done). walk (d .table) xs ≡ true) (sym e)
+    (and-right (passed t (doneBy t (convert v bs buffer)) (refuses (convert v bs buffer) n)) (walk t xs) p)
 
 pub run-shown : (t : Table) (before : List Entry) (x : Entry) (after : List Entry) → walk t (before ++ (x ∷ after)) ≡ true →
     Shown (tableLeft t before) x
@@ -125,7 +130,7 @@ taken-repair (suc f) r = round (ltb k (r .table .capacity)) (taken-repair f (tak
     round false h = refl
 
 pub done-run : (t : Table) (c : Call) → doneBy t (call c) .table ≡ run t c .table
-unfolding doneBy callDone told run ran
+unfolding doneBy callDone told wrote run ran
 done-run t (add holder e kind content cabin) = refl
 done-run t (link source e second f) = refl
 done-run t (clear i e) = refl
@@ -136,7 +141,7 @@ done-run t (keyLine bs) = refl
 done-run t (squeeze c q) = refl
 
 pub done-refusal : (t : Table) (c : Call) → doneBy t (call c) .refusal ≡ run t c .heard .refusal
-unfolding doneBy callDone told run ran heardAs onlyRefusal
+unfolding doneBy callDone told wrote run ran heardAs onlyRefusal
 done-refusal t (add holder e kind content cabin) = refl
 done-refusal t (link source e second f) = refl
 done-refusal t (clear i e) = refl

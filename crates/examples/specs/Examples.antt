@@ -1,6 +1,6 @@
--- The examples in one table: P1 to P10 of document 01 ("Edits on F4"; of P10 that its bytes load), what they do not show, W1's to W3's and W5's, then
--- each call refused for each of its reasons ("Reasons for no") and the calls that P1 to P10 do not make. The entries of a run are made one after the
--- other, each on the table that the one before left. Assumes nothing.
+-- The examples in one table: P1 to P10 of document 01 ("Edits on F4"), what they do not show, W1's to W3's, W5's and W6's, then each call refused
+-- for each of its reasons ("Reasons for no") and the calls that P1 to P10 do not make. The entries of a run are made one after the other, each on the
+-- table that the one before left. Assumes nothing.
 --   taken              the steps that a repair takes back, in their order
 --   Look, seen         what can be looked at after an act, and the numbers that it shows
 --   Fact               l is ns: the look l shows the numbers ns
@@ -25,13 +25,13 @@ use Rattle.table.specs.Sound.{soundTests}
 use Rattle.table.specs.Calls.{refusedTable, addCall}
 use Rattle.table.specs.Clear.{Repair, stops, emptied, doubtful, wanted, restored}
 use Rattle.table.specs.Plan.{planOf}
-use Rattle.image.specs.Image.{writtenEdition, image}
+use Rattle.image.specs.Image.{edition1, edition2, writtenEdition, image}
 use Rattle.keyline.specs.declared.Command.the-variants.{Add, Link, Clear, Count}
 use Rattle.keyline.specs.declared.Decoded.{Decoded}
 use Rattle.keyline.specs.declared.Decoded.the-variants.{Line, Nothing}
 use Rattle.keyline.specs.Keys.{decode}
 use Rattle.history.specs.History.{fresh, load, add, link, clear, read, trial, write, keyLine, squeeze, firstTable}
-use Rattle.history.specs.Acts.{Act, begin, call, Done, doneBy, refusedBy}
+use Rattle.history.specs.Acts.{Act, begin, call, convert, Done, doneBy, refusedBy}
 
 -- one round of rule 3 of clearing: step k is taken back and counted no longer doubtful
 unfoldable pub takeOne : Repair → ℕ → Repair
@@ -175,6 +175,7 @@ walk t [] = true
 walk t (accepts a fs ∷ xs) = let d = doneBy t a in passed t d (accepts a fs) && walk (d .table) xs
 walk t (refuses (begin f) n ∷ xs) = passed t (doneBy t (begin f)) (refuses (begin f) n) && walk refusedTable xs
 walk t (refuses (call c) n ∷ xs) = passed t (doneBy t (call c)) (refuses (call c) n) && walk t xs
+walk t (refuses (convert v bs buffer) n ∷ xs) = passed t (doneBy t (convert v bs buffer)) (refuses (convert v bs buffer) n) && walk t xs
 
 unfoldable pub everyRun : List Run → Bool
 everyRun [] = true
@@ -296,14 +297,16 @@ unfoldable pub imageF4 : List ℕ
 imageF4 =
     0x0A ∷ 0x00 ∷ 0x01 ∷ 0x00 ∷ 0x04 ∷ 0x00 ∷ 0x00 ∷ 0x00 ∷ 0x01 ∷ 0x00 ∷ 0x14 ∷ 0x00 ∷ 0x02 ∷ 0x00 ∷ replicate 16 0x00
 
--- W5: "The writer writes edition 2, .. and P10 belongs to W6." These bytes, of edition 1, load: what they load as is written as F4 is, header of 42 bytes
--- with cabin 0's 3 and 3, record of 22 bytes
+-- W5: "The writer writes edition 2, .. and P10 belongs to W6." F4 is written with a header of 42 bytes, which has cabin 0's 3 and 3, and a record of 22
+-- bytes; converted down it is P10's image, and that converted up is what was written. Both load as F4.
 unfoldable pub newImageF4 : List ℕ
 newImageF4 = 0x2A ∷ 0 ∷ 3 ∷ 0 ∷ 4 ∷ 0 ∷ 0 ∷ 0 ∷ 1 ∷ 0 ∷ 3 ∷ 0 ∷ 3 ∷ 0 ∷ (replicate 28 0 ++ (0x16 ∷ 0 ∷ 4 ∷ 0 ∷ replicate 18 0))
 
 unfoldable pub p10 : List Entry
 p10 =
     accepts (call (write (replicate 66 0xFF))) (answer is (64 ∷ 0 ∷ []) ∷ bytes is (newImageF4 ++ replicate 2 0xFF) ∷ []) ∷
+    accepts (convert edition1 newImageF4 (replicate 32 0xFF)) (answer is (30 ∷ 0 ∷ []) ∷ bytes is (imageF4 ++ replicate 2 0xFF) ∷ []) ∷
+    accepts (convert edition2 imageF4 (replicate 64 0xFF)) (answer is (64 ∷ 0 ∷ []) ∷ bytes is newImageF4 ∷ []) ∷
     accepts (begin (load imageF4))
     (answer is (0 ∷ 0 ∷ []) ∷ sizes is (4 ∷ 0 ∷ []) ∷ steps is (0 ∷ []) ∷ what 0 is (0 ∷ 0 ∷ []) ∷ quotas is (3 ∷ 3 ∷ replicate 14 0) ∷ []) ∷
     accepts (call (write (replicate 66 0xFF))) (bytes is (newImageF4 ++ replicate 2 0xFF) ∷ []) ∷
@@ -465,6 +468,40 @@ editions =
     refuses (begin (load (set (set imageP5 10 1) 12 1))) 12 ∷
     []
 
+-- W1: two tables with one plain plan, in which exits 0 and 1 of step 0 lead to step 1, and with other strengths: their images differ in the bits of
+-- step 0, which are 2 where exit 0 is strong and 1 where exit 1 is
+unfoldable pub imageTwin : ℕ → List ℕ
+imageTwin bits =
+    0x2A ∷ 0 ∷ 3 ∷ 0 ∷ 4 ∷ 0 ∷ 1 ∷ 0 ∷ 2 ∷ 0 ∷ 3 ∷ 0 ∷ 3 ∷ 0 ∷
+    (replicate 28 0 ++
+    (0x16 ∷ 0 ∷ 4 ∷ 0 ∷ 0 ∷ 0 ∷ 0 ∷ 0 ∷ 0 ∷ 0 ∷ bits ∷ 0 ∷ 1 ∷ 0 ∷ 1 ∷ 0 ∷ 0 ∷ 0 ∷ 0 ∷ 0 ∷ 0 ∷ 0 ∷
+    0x16 ∷ 0 ∷ 4 ∷ 0 ∷ 1 ∷ 0 ∷ 1 ∷ 0 ∷ 0 ∷ 0 ∷ 0 ∷ 0 ∷ 0 ∷ 0 ∷ 0 ∷ 0 ∷ 0 ∷ 0 ∷ 0 ∷ 0 ∷ 0 ∷ 0 ∷ []))
+
+-- W6: the records that P5 leaves, in other orders, up and down: bits and targets go along, and the records come out in ascending order. The lengths are
+-- 42 + 3 * 22 and 10 + 3 * 20.
+unfoldable pub conversions : List Entry
+conversions =
+    accepts (convert edition2 (oldHeaderP5 ++ oldStep2P5 ++ oldStep0P5 ++ oldStep1P5) (replicate 110 0xFF))
+    (answer is (108 ∷ 0 ∷ []) ∷ bytes is (imageP5 ++ (0xFF ∷ 0xFF ∷ [])) ∷ []) ∷
+    accepts (convert edition1 (headerP5 ++ step1P5 ++ step2P5 ++ step0P5) (replicate 70 0xFF))
+    (answer is (70 ∷ 0 ∷ []) ∷ bytes is (oldHeaderP5 ++ oldStep0P5 ++ oldStep1P5 ++ oldStep2P5) ∷ []) ∷
+    -- up: 12 for no image and for one of edition 2, whatever the buffer; then 11
+    refuses (convert edition2 [] []) 12 ∷
+    refuses (convert edition2 newImageF4 []) 12 ∷
+    refuses (convert edition2 newImageF4 (replicate 64 7)) 12 ∷
+    refuses (convert edition2 imageF4 (replicate 63 7)) 11 ∷
+    -- down: 12 for an image of edition 1, and for a bad one that has another list too (byte 6: the last number given is the capacity)
+    refuses (convert edition1 imageF4 (replicate 64 7)) 12 ∷
+    refuses (convert edition1 (set (set newImageF4 40 1) 6 4) []) 12 ∷
+    -- 17: cabin 0's guarantee is 2, its limit is 4, cabin 7's limit is 1; the last with a buffer that is too short
+    refuses (convert edition1 (set newImageF4 10 2) (replicate 30 7)) 17 ∷
+    refuses (convert edition1 (set newImageF4 12 4) (replicate 30 7)) 17 ∷
+    refuses (convert edition1 (set newImageF4 40 1) (replicate 29 7)) 17 ∷
+    -- and a step of cabin 1, which may have it, as cabin 0 is guaranteed 2 only: bytes 10, 16 and 84
+    refuses (convert edition1 (set (set (set (imageTwin 2) 10 2) 16 1) 84 1) (replicate 50 7)) 17 ∷
+    refuses (convert edition1 newImageF4 (replicate 29 7)) 11 ∷
+    []
+
 -- W5: capacity 5, so 4 steps for the cabins. Cabin 0 is guaranteed 1 and may have 2, cabin 1 is guaranteed 2 and may have 2, cabin 2 is guaranteed none and
 -- may have 4, the others may have none.
 unfoldable pub shares5 : List ℕ
@@ -542,15 +579,6 @@ lists =
     accepts (begin (fresh 5 (replicate 8 1 ++ (0 ∷ 65535 ∷ 0 ∷ 65535 ∷ 0 ∷ 65535 ∷ 0 ∷ 65535 ∷ [])))) (charges is replicate 8 0 ∷ []) ∷
     []
 
--- W1: two tables with one plain plan, in which exits 0 and 1 of step 0 lead to step 1, and with other strengths: their images differ in the bits of
--- step 0, which are 2 where exit 0 is strong and 1 where exit 1 is
-unfoldable pub imageTwin : ℕ → List ℕ
-imageTwin bits =
-    0x2A ∷ 0 ∷ 3 ∷ 0 ∷ 4 ∷ 0 ∷ 1 ∷ 0 ∷ 2 ∷ 0 ∷ 3 ∷ 0 ∷ 3 ∷ 0 ∷
-    (replicate 28 0 ++
-    (0x16 ∷ 0 ∷ 4 ∷ 0 ∷ 0 ∷ 0 ∷ 0 ∷ 0 ∷ 0 ∷ 0 ∷ bits ∷ 0 ∷ 1 ∷ 0 ∷ 1 ∷ 0 ∷ 0 ∷ 0 ∷ 0 ∷ 0 ∷ 0 ∷ 0 ∷
-    0x16 ∷ 0 ∷ 4 ∷ 0 ∷ 1 ∷ 0 ∷ 1 ∷ 0 ∷ 0 ∷ 0 ∷ 0 ∷ 0 ∷ 0 ∷ 0 ∷ 0 ∷ 0 ∷ 0 ∷ 0 ∷ 0 ∷ 0 ∷ 0 ∷ 0 ∷ []))
-
 unfoldable pub firstStrong : List Entry
 firstStrong =
     accepts (call (add 0 0 1 0 0)) [] ∷
@@ -581,6 +609,7 @@ examples =
     record { table = tableF4; entries = ends } ∷
     record { table = tableF4; entries = sorted } ∷
     record { table = tableF4; entries = editions } ∷
+    record { table = tableF4; entries = conversions } ∷
     record { table = tableF4; entries = shared ++ lists } ∷
     record { table = tableF4; entries = firstStrong } ∷
     record { table = tableF4; entries = secondStrong } ∷

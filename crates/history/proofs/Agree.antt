@@ -28,6 +28,7 @@ use Rattle.table.proofs.Calls.{done, next, first-same, past-sound, unless-zero,
 use Rattle.table.specs.Squeeze.{squeezeCall}
 use Rattle.table.proofs.Squeeze.{squeeze-fits, squeeze-sound, squeeze-plan, squeeze-refusal}
 use Rattle.image.specs.Image.{writtenEdition, imageSize, imageLength, writeRefusal, writeCall}
+use Rattle.image.proofs.Laws.{put-refusal}
 use Rattle.keyline.specs.declared.Command.{Command}
 use Rattle.keyline.specs.declared.Command.the-variants.{Add, Link, Clear, Count}
 use Rattle.keyline.specs.declared.Decoded.{Decoded}
@@ -171,12 +172,8 @@ module _ {t : Table} (s : Sound t) where
       past-sound s _ ∙ first-same (next (ap (λ (n : ℕ). ltb room (imageSize writtenEdition n)) (sym (plan-count (sound-wired s)))) (λ _. done))
 
   written-refusal : (buffer : List ℕ) → refusalOf (writeCall t buffer .answer) ≡ writeRefusal t (length buffer)
-  unfolding writeCall refusalOf
-  written-refusal buffer =
-      ⊎-elim
-      (λ (z : writeRefusal t (length buffer) ≡ 0). rw (eq-eqb _ 0 z) (sym z))
-      (λ (z : writeRefusal t (length buffer) ≡ 0 → ⊥). rw (ne-eqb _ 0 z))
-      (eq-or-ne (writeRefusal t (length buffer)) 0)
+  unfolding writeCall
+  written-refusal buffer = put-refusal (writeRefusal t (length buffer)) writtenEdition t buffer
 
 -- what a call on a sound table comes to
 pub record Agrees (t : Table) (c : Call) : Type 0 where

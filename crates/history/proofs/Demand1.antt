@@ -18,14 +18,15 @@ use Rattle.table.specs.Squeeze.{squeezeRefusal, squeezeCall}
 use Rattle.table.specs.Table.{Table}
 use Rattle.table.proofs.Calls.{nonzero, first-append, unless-zero, unless-refused, read-refused, trial-refused}
 use Rattle.table.proofs.Trials.{trial-refusal-given}
-use Rattle.image.specs.Image.{writeConditions, writeRefusal, writeCall, loadCall}
-use Rattle.image.proofs.Laws.{write-refused, write-made}
+use Rattle.image.specs.Image.{Edition, writtenEdition, writeConditions, writeRefusal, writeCall, imageTable, loadCall}
+use Rattle.image.specs.Convert.{convertConditions, convertRefusal, convertCall}
+use Rattle.image.proofs.Laws.{put-refused, put-refusal}
 use Rattle.keyline.specs.declared.Command.the-variants.{Add, Link, Clear, Count}
 use Rattle.keyline.specs.declared.Decoded.{Decoded}
 use Rattle.keyline.specs.declared.Decoded.the-variants.{Line, Nothing}
 use Rattle.keyline.specs.Keys.{decode, spokenCounts, perform, callConditions, lineConditions, keyConditions, performLine, keyCall}
 use Rattle.history.specs.History.{fresh, load, add, link, clear, read, trial, write, keyLine, squeeze}
-use Rattle.history.specs.Acts.{Act, begin, call, Done, told, fieldNumbers, triedNumbers, callDone, doneBy, answerSize, lentTo, refusedBy, conditionsOf}
+use Rattle.history.specs.Acts.{Act, begin, call, convert, Done, told, wrote, fieldNumbers, triedNumbers, callDone, doneBy, answerSize, lentTo, refusedBy, conditionsOf}
 use Rattle.history.specs.Demands.{FirstHeld, none, some, Demand1}
 
 -- the first condition that holds, for an order with no number 0
@@ -149,17 +150,23 @@ trial-demand t limit results trace =
     }
 
 write-demand : (t : Table) (buffer : List ℕ) → Demand1 t (call (write buffer))
-unfolding doneBy callDone conditionsOf refusedBy answerSize lentTo refusalOf firstOf secondOf
+unfolding doneBy callDone wrote conditionsOf refusedBy answerSize lentTo refusalOf firstOf secondOf writeCall
 write-demand t buffer =
     let n = writeRefusal t (length buffer) in
-    let e : refusalOf (writeCall t buffer .answer) ≡ n =
-    ⊎-elim
-    (λ (z : n ≡ 0). rw (write-made t buffer z) (sym z))
-    (λ (d : n ≡ 0 → ⊥). rw (write-refused t buffer d))
-    (eq-or-ne n 0) in
+    let e = put-refusal n writtenEdition t buffer in
     record {
       listed = rw e (unfold writeRefusal in (first-held (writeConditions t (length buffer)) (unfold nonzero in refl)));
-      refused = λ h. rw (write-refused t buffer (λ z. h (e ∙ z)));
+      refused = λ h. rw (put-refused n (λ z. h (e ∙ z)) writtenEdition t buffer);
+    }
+
+convert-demand : (t : Table) (v : Edition) (bs buffer : List ℕ) → Demand1 t (convert v bs buffer)
+unfolding doneBy wrote conditionsOf refusedBy refusalOf firstOf secondOf convertCall
+convert-demand t v bs buffer =
+    let n = convertRefusal v bs (length buffer) in
+    let e = put-refusal n v (imageTable bs) buffer in
+    record {
+      listed = rw e (unfold convertRefusal in (first-held (convertConditions v bs (length buffer)) (unfold nonzero in refl)));
+      refused = λ h. rw (put-refused n (λ z. h (e ∙ z)) v (imageTable bs) buffer);
     }
 
 pub demand-1 : (t : Table) (a : Act) → Demand1 t a
@@ -178,3 +185,4 @@ demand-1 t (call (write buffer)) = write-demand t buffer
 demand-1 t (call (keyLine bs)) = key-demand t bs
 demand-1 t (call (squeeze c q)) =
     (unfold squeezeCall squeezeRefusal refusalOf in outcome-demand t t (call (squeeze c q)) _ _ refl refl refl refl (λ n. refl))
+demand-1 t (convert v bs buffer) = convert-demand t v bs buffer

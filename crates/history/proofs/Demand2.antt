@@ -1,15 +1,16 @@
 -- Demand 2, call by call: what an accepted add, link, clear and squeeze do on a sound table, the spoken counts, and both ways of an image. Assumes
 -- nothing.
 use mathlib.Core.Path.{_≡_, refl, sym, _∙_, ap}
-use mathlib.Core.Bool.{true, _&&_, not}
-use mathlib.Core.Logic.{_↔_}
+use mathlib.Core.Bool.{true, false, _&&_, not}
+use mathlib.Core.Logic.{_↔_, ⊎-elim}
 use mathlib.Core.List.{List}
 use Prim.Native.Nat.{ℕ, _≤_, _<_}
 use native.Mathlib.Omega.{arith}
 use lib.ListN.{length, drop, length-append, length-drop}
 use lib.Seq.{take-at, drop-at}
+use lib.Dec.{eqb}
 use Rattle.finite.specs.Reach.{Chain, reaches}
-use Rattle.finite.proofs.Bools.{and-intro, and-left, and-right, clash, refute, not-true-false}
+use Rattle.finite.proofs.Bools.{test, and-intro, and-left, and-right, clash, refute, not-true-false}
 use Rattle.finite.proofs.Reach.{reach-sound, reach-complete}
 use Rattle.table.specs.declared.Answer.the-variants.{Given}
 use Rattle.table.specs.Table.{Table, inUse, linked, stronglyLinked, withLinks}
@@ -30,11 +31,14 @@ use Rattle.table.proofs.Follow.{renumbered-follows, used-new-step, follow-stron
 use Rattle.table.proofs.Squeeze.{squeeze-made, squeeze-answer, squeeze-fits, squeeze-sound, squeeze-plan}
 use Rattle.table.proofs.Squeezed.{squeeze-refusal-same, squeeze-twice, squeeze-trial}
 use Rattle.table.proofs.SqueezeClear.{squeeze-clear}
-use Rattle.image.specs.Image.{Edition, edition1, edition2, writtenEdition, editionIn, SameRecords, image, imageLength, WriteOutcome, written, writeCall, imageTable, accepted, loadCall, Bytes}
-use Rattle.image.proofs.Laws.{written-length, image-edition, edition1-says, write-made, room-enough, load-written, accepted-sound, accepted-rewritten, image-ascending, image-equal, accepted-only, loaded-equal}
+use Rattle.image.specs.Image.{Edition, edition1, edition2, headerKindOf, writtenEdition, editionIn, image, imageLength, WriteOutcome, written, put, writeRefusal, writeCall, imageTable, accepted, loadCall, Bytes}
+use Rattle.image.specs.Convert.{sayable, convertRefusal, convertCall}
+use Rattle.image.proofs.RoundTrip.{Says}
+use Rattle.image.proofs.Converted.{sayable-says, says-sayable, refusal-converts, convert-put, converts-back, refusal-unsaid, refusal-room, room-other}
+use Rattle.image.proofs.Laws.{image-length, image-edition, edition1-says, put-made, put-refusal, room-enough, decode-encode, encode-accepted, load-encode, accepted-sound, accepted-rewritten, image-ascending, image-equal, accepted-only, loaded-equal}
 use Rattle.keyline.specs.Keys.{spokenCounts}
 use Rattle.keyline.proofs.Laws.{spoken-plan}
-use Rattle.history.specs.Demands.{AddDemand, LinkDemand, ClearDemand, CountDemand, SqueezeDemand, TwiceDemand, WriteDemand, EqualDemand, LoadDemand, OldDemand, SameTableDemand}
+use Rattle.history.specs.Demands.{AddDemand, LinkDemand, ClearDemand, CountDemand, SqueezeDemand, TwiceDemand, WriteDemand, EqualDemand, SortedDemand, OldDemand, ConvertDemand, NeedsDemand, SameTableDemand}
 
 pub add-demand : (t : Table) → Sound t → (holder e kind content cabin : ℕ) → addRefusal t holder e kind content cabin ≡ 0 →
     AddDemand t holder e kind content cabin (addCall t holder e kind content cabin)
@@ -142,54 +146,79 @@ clear-demand t s i e z =
 pub count-demand : (t : Table) → Sound t → CountDemand t (spokenCounts t)
 count-demand t s = rw (spoken-plan t s) (record { same = refl; spoken = refl })
 
--- what write leaves in a buffer that has the room: the bytes written are the image
-written-image : (t : Table) → Sound t → (buffer : List ℕ) → imageLength t ≤ length buffer → written (writeCall t buffer) ≡ image writtenEdition t
+-- what is put into a buffer that has the room: the bytes written are the image
+written-image : (v : Edition) (t : Table) (buffer : List ℕ) → written (put 0 v t buffer) ≡ image v t
 unfolding written firstOf
-written-image t s buffer l =
-    rw (write-made t buffer (room-enough t s buffer l)) (take-at (image writtenEdition t) _ (imageLength t) (written-length t))
+written-image v t buffer = rw (put-made 0 refl v t buffer) (take-at (image v t) _ (imageLength v t) (image-length v t))
 
-pub write-demand : (t : Table) → Sound t → (buffer : List ℕ) → imageLength t ≤ length buffer → WriteDemand t buffer (writeCall t buffer)
-write-demand t s buffer l =
-    let n = written-length t in
-    let made = written-image t s buffer l in
-    let w : length (written (writeCall t buffer)) ≡ imageLength t = ap length made ∙ n in
-    let m = write-made t buffer (room-enough t s buffer l) in
+put-demand : (v : Edition) (t : Table) → Sound t → Says v t → (buffer : List ℕ) → imageLength v t ≤ length buffer → WriteDemand v t buffer (put 0 v t buffer)
+put-demand v t s p buffer l =
+    let n = image-length v t in
+    let made = written-image v t buffer in
+    let w : length (written (put 0 v t buffer)) ≡ imageLength v t = ap length made ∙ n in
+    let m = put-made 0 refl v t buffer in
     record {
       answer = ap (λ (o : WriteOutcome). o .answer) m ∙ ap (λ (k : ℕ). Given k 0) (sym w);
-      loads = ap loadCall made ∙ load-written t s;
-      edition = ap editionIn made ∙ image-edition writtenEdition t;
-      past = rw (w, m) (drop-at (image writtenEdition t) _ (imageLength t) n);
-      size =
-          rw m
-          (let a = length-append (image writtenEdition t) (drop (imageLength t) buffer) in let d = length-drop (imageLength t) buffer in omega arith);
+      loads = ap loadCall made ∙ load-encode v t s p;
+      edition = ap editionIn made ∙ image-edition v t;
+      ascending = rw made (image-ascending v t);
+      past = rw (w, m) (drop-at (image v t) _ (imageLength v t) n);
+      size = rw m (let a = length-append (image v t) (drop (imageLength v t) buffer) in let d = length-drop (imageLength v t) buffer in omega arith);
     }
 
-pub equal-demand : (t u : Table) → Sound t → Sound u → (a b : List ℕ) → imageLength t ≤ length a → imageLength u ≤ length b →
-    EqualDemand t u (writeCall t a) (writeCall u b)
+-- write is put, where the table is sound and the buffer has the room
+written-put : (t : Table) → Sound t → (buffer : List ℕ) → imageLength writtenEdition t ≤ length buffer → writeCall t buffer ≡ put 0 writtenEdition t buffer
+unfolding writeCall
+written-put t s buffer l = ap (λ (n : ℕ). put n writtenEdition t buffer) (room-enough t s buffer l)
+
+pub write-demand : (t : Table) → Sound t → (buffer : List ℕ) → imageLength writtenEdition t ≤ length buffer →
+    WriteDemand writtenEdition t buffer (writeCall t buffer)
+write-demand t s buffer l = rw (written-put t s buffer l) (put-demand writtenEdition t s tt buffer l)
+
+pub equal-demand : (t u : Table) → Sound t → Sound u → (a b : List ℕ) → imageLength writtenEdition t ≤ length a →
+    imageLength writtenEdition u ≤ length b → EqualDemand t u (writeCall t a) (writeCall u b)
 equal-demand t u s v a b l m =
-    rw (written-image t s a l, written-image u v b m) ((λ e. ap (image writtenEdition) e), image-equal t u s v)
+    rw (written-put t s a l, written-put u v b m, written-image writtenEdition t a, written-image writtenEdition u b)
+    ((λ e. ap (image writtenEdition) e), image-equal t u s v)
 
 -- an accepted image is loaded as its table
 loaded-table : (bs : List ℕ) → accepted bs ≡ true → loadCall bs .table ≡ imageTable bs
 unfolding loadCall unless first
 loaded-table bs a = rw a
 
-pub load-demand : (bs : List ℕ) → Bytes bs → accepted bs ≡ true → editionIn bs ≡ edition2 → (buffer : List ℕ) → length bs ≤ length buffer →
-    LoadDemand bs (writeCall (loadCall bs .table) buffer)
+loaded-answer : (bs : List ℕ) → accepted bs ≡ true → loadCall bs .answer ≡ Given 0 0
+unfolding loadCall unless first
+loaded-answer bs a = rw a
+
+-- an accepted image that comes out in its edition
+sorted-demand : (bs : List ℕ) → Bytes bs → accepted bs ≡ true → (buffer : List ℕ) → SortedDemand bs (put 0 (editionIn bs) (imageTable bs) buffer)
+sorted-demand bs by a buffer =
+    let v = editionIn bs in
+    let t = imageTable bs in
+    let r = accepted-rewritten bs by a in
+    let w = written-image v t buffer in
+    record {
+      answer =
+          ap (λ (o : WriteOutcome). o .answer) (put-made 0 refl v t buffer)
+          ∙ ap (λ (k : ℕ). Given k 0) (sym (image-length v t) ∙ sym (r .size));
+      records = rw w r;
+      ascending = rw w (image-ascending v t);
+      only = λ cs x y. rw w (accepted-only bs by a cs x y);
+    }
+
+-- its length
+accepted-length : (bs : List ℕ) → Bytes bs → accepted bs ≡ true → imageLength (editionIn bs) (imageTable bs) ≡ length bs
+accepted-length bs by a = sym (image-length (editionIn bs) (imageTable bs)) ∙ sym (accepted-rewritten bs by a .size)
+
+pub load-demand : (bs : List ℕ) → Bytes bs → accepted bs ≡ true → editionIn bs ≡ writtenEdition → (buffer : List ℕ) → length bs ≤ length buffer →
+    SortedDemand bs (writeCall (loadCall bs .table) buffer)
 load-demand bs by a e buffer l =
     let t = imageTable bs in
     let s = test-sound t (accepted-sound bs a) in
-    let same : image (editionIn bs) t ≡ image writtenEdition t = ap (λ (v : Edition). image v t) e in
-    let r : SameRecords bs (image writtenEdition t) = rw same at (accepted-rewritten bs by a) in
-    let n : imageLength t ≡ length bs = sym (written-length t) ∙ sym (r .size) in
-    let w = written-image t s buffer (rw n l) in
-    rw (loaded-table bs a)
-    (record {
-      answer = write-demand t s buffer (rw n l) .answer ∙ ap (λ (k : ℕ). Given k 0) (ap length w ∙ sym (r .size));
-      records = rw w r;
-      ascending = rw w (image-ascending writtenEdition t);
-      only = λ cs x y. rw w (accepted-only bs by a cs x y ∙ same);
-    })
+    let n : imageLength writtenEdition t ≡ length bs = ap (λ (v : Edition). imageLength v t) (sym e) ∙ accepted-length bs by a in
+    let same : writeCall t buffer ≡ put 0 (editionIn bs) t buffer =
+    written-put t s buffer (omega arith) ∙ ap (λ (v : Edition). put 0 v t buffer) (sym e) in
+    rw (loaded-table bs a, same) (sorted-demand bs by a buffer)
 
 pub old-demand : (bs : List ℕ) → Bytes bs → accepted bs ≡ true → editionIn bs ≡ edition1 → OldDemand bs (loadCall bs)
 old-demand bs by a e =
@@ -200,3 +229,59 @@ old-demand bs by a e =
 pub same-table-demand : (bs cs : List ℕ) → Bytes bs → Bytes cs → accepted bs ≡ true → accepted cs ≡ true → editionIn bs ≡ editionIn cs →
     SameTableDemand bs cs (loadCall bs) (loadCall cs)
 same-table-demand bs cs by cy a c e = rw (loaded-table bs a, loaded-table cs c) (loaded-equal bs by a cs cy c e)
+
+-- W6: a conversion that is not refused
+pub convert-demand : (v : Edition) (bs buffer : List ℕ) → convertRefusal v bs (length buffer) ≡ 0 → ConvertDemand v bs buffer (convertCall v bs buffer)
+convert-demand v bs buffer z =
+    let c = refusal-converts v bs (length buffer) z in
+    let t = imageTable bs in
+    rw (convert-put v bs buffer c)
+    (record {
+      other = c .other;
+      taken = loaded-answer bs (c .taken);
+      image = rw (loaded-table bs (c .taken)) (put-demand v t (test-sound t (accepted-sound bs (c .taken))) (c .says) buffer (c .fits));
+    })
+
+-- and back
+pub back-demand : (v : Edition) (bs : List ℕ) → Bytes bs → (buffer : List ℕ) → convertRefusal v bs (length buffer) ≡ 0 → (room : List ℕ) →
+    length bs ≤ length room → SortedDemand bs (convertCall (editionIn bs) (written (convertCall v bs buffer)) room)
+back-demand v bs by buffer z room l =
+    let c = refusal-converts v bs (length buffer) z in
+    let t = imageTable bs in
+    let n = accepted-length bs by (c .taken) in
+    let b = converts-back v bs (length buffer) c (length room) (omega arith) in
+    let same : imageTable (image v t) ≡ t = decode-encode v t (test-sound t (accepted-sound bs (c .taken))) (c .says) in
+    rw (convert-put v bs buffer c, written-image v t buffer, convert-put (editionIn bs) (image v t) room b, same)
+    (sorted-demand bs by (c .taken) room)
+
+-- an image of edition 1 goes up as it is loaded and written
+pub up-demand : (bs : List ℕ) → accepted bs ≡ true → editionIn bs ≡ edition1 → (buffer : List ℕ) →
+    convertCall writtenEdition bs buffer ≡ writeCall (loadCall bs .table) buffer
+unfolding convertCall convertRefusal writeCall writeRefusal first sayable
+up-demand bs a e buffer =
+    let k : eqb (headerKindOf (editionIn bs)) (headerKindOf writtenEdition) ≡ false = ap (λ v. eqb (headerKindOf v) 3) e in
+    rw (loaded-table bs a, a, k, accepted-sound bs a)
+
+-- an image of edition 2 that edition 1 cannot say
+pub needs-demand : (bs : List ℕ) → accepted bs ≡ true → editionIn bs ≡ edition2 → (buffer : List ℕ) → NeedsDemand bs (convertCall edition1 bs buffer)
+unfolding convertCall
+needs-demand bs a e buffer =
+    let t = imageTable bs in
+    let s = test-sound t (accepted-sound bs a) in
+    let n = convertRefusal edition1 bs (length buffer) in
+    let other : editionIn bs ≡ edition1 → ⊥ = λ f. let z : _≡_ {A = ℕ} 1 3 = ap headerKindOf (sym f ∙ e) in omega arith in
+    let heard = put-refusal n edition1 t buffer in (
+      (λ h cs b f g.
+          let same : imageTable cs ≡ t = sym (loaded-table cs b) ∙ g ∙ loaded-table bs a in
+          let p : Says edition1 t = rw same at (edition1-says cs b f) in
+          room-other edition1 t (length buffer) (sym (refusal-room edition1 bs (length buffer) a other (says-sayable edition1 t s p)) ∙ sym heard ∙ h)),
+      λ h.
+          ⊎-elim
+          (λ (y : sayable edition1 t ≡ true).
+          let p = sayable-says edition1 t s y in
+          let x : loadCall (image edition1 t) .table ≡ loadCall bs .table =
+          ap (λ (o : Outcome). o .table) (load-encode edition1 t s p) ∙ sym (loaded-table bs a) in
+          absurd (h (image edition1 t) (encode-accepted edition1 t s p) (image-edition edition1 t) x))
+          (λ (y : sayable edition1 t ≡ false). heard ∙ refusal-unsaid edition1 bs (length buffer) a other y)
+          (test (sayable edition1 t)),
+    )

@@ -1,6 +1,6 @@
 -- What a call does, in numbers: its answer, the lent bytes as it leaves them, the table handed back; and what a refused call does (document 01,
 -- "Reasons for no"). Assumes nothing.
---   Act                fresh or load begins a table, any other call is made on the table at hand
+--   Act                fresh or load begins a table, any other call is made on the table at hand; a conversion has no table
 --   Done, doneBy       the answer of an act in the paper's numbers, the lent bytes as it leaves them, and the table handed back
 --   refusedBy n        an act refused with the number n
 --   conditionsOf       the conditions of its refusals with their numbers, in their order
@@ -16,13 +16,16 @@ use Rattle.table.specs.Calls.{refusedTable, freshConditions, freshCall, addCond
 use Rattle.table.specs.Clear.{clearConditions, clearCall}
 use Rattle.table.specs.Trial.{trialConditions, trialCall}
 use Rattle.table.specs.Squeeze.{squeezeConditions, squeezeCall}
-use Rattle.image.specs.Image.{writeConditions, writeCall, loadConditions, loadCall}
+use Rattle.image.specs.Image.{Edition, WriteOutcome, writeConditions, writeCall, loadConditions, loadCall}
+use Rattle.image.specs.Convert.{convertConditions, convertCall}
 use Rattle.keyline.specs.Keys.{keyConditions, keyCall}
 use Rattle.history.specs.History.{First, fresh, load, Call, add, link, clear, read, trial, write, keyLine, squeeze}
 
 pub data Act : Type 0 where
   begin : First → Act
   call : Call → Act
+  -- W6: an image is converted to an edition, into a lent buffer
+  convert : Edition → List ℕ → List ℕ → Act
 
 -- the refusal or 0, the other numbers of the answer, what was lent, the table handed back
 pub record Done : Type 0 where
@@ -34,6 +37,10 @@ pub record Done : Type 0 where
 -- the answer of a call that is lent nothing has two numbers
 unfoldable pub told : Outcome → Done
 told o = record { refusal = refusalOf (o .answer); numbers = firstOf (o .answer) ∷ secondOf (o .answer) ∷ []; lent = []; table = o .table }
+
+-- that of a call that writes an image has two as well, and leaves the table at hand
+unfoldable pub wrote : Table → WriteOutcome → Done
+wrote t o = record { refusal = refusalOf (o .answer); numbers = firstOf (o .answer) ∷ secondOf (o .answer) ∷ []; lent = o .buffer; table = t }
 
 -- "all its fields": kind, content, own bit, four targets, their four bits, two counters, the cabin
 unfoldable pub fieldNumbers : Fields → List ℕ
@@ -53,9 +60,7 @@ callDone t (read i) =
 callDone t (trial limit results trace) =
     let o = trialCall t limit results trace in
     record { refusal = triedRefusal (o .answer); numbers = triedNumbers (o .answer); lent = o .trace; table = t }
-callDone t (write buffer) =
-    let o = writeCall t buffer in
-    record { refusal = refusalOf (o .answer); numbers = firstOf (o .answer) ∷ secondOf (o .answer) ∷ []; lent = o .buffer; table = t }
+callDone t (write buffer) = wrote t (writeCall t buffer)
 callDone t (keyLine bs) = told (keyCall t bs)
 callDone t (squeeze c quotas) = told (squeezeCall t c quotas)
 
@@ -63,6 +68,7 @@ unfoldable pub doneBy : Table → Act → Done
 doneBy t (begin (fresh c quotas)) = told (freshCall c quotas)
 doneBy t (begin (load bs)) = told (loadCall bs)
 doneBy t (call c) = callDone t c
+doneBy t (convert v bs buffer) = wrote t (convertCall v bs buffer)
 
 -- how many numbers the answer of a call has, and what the call is lent
 unfoldable pub answerSize : Call → ℕ
@@ -90,6 +96,7 @@ lentTo (squeeze c quotas) = []
 unfoldable pub refusedBy : ℕ → Table → Act → Done
 refusedBy n t (begin f) = record { refusal = n; numbers = replicate 2 0; lent = []; table = refusedTable }
 refusedBy n t (call c) = record { refusal = n; numbers = replicate (answerSize c) 0; lent = lentTo c; table = t }
+refusedBy n t (convert v bs buffer) = record { refusal = n; numbers = replicate 2 0; lent = buffer; table = t }
 
 -- "a call is refused, by number, in the listed cases and in no other"
 unfoldable pub conditionsOf : Table → Act → List (Bool × ℕ)
@@ -103,3 +110,4 @@ conditionsOf t (call (trial limit results trace)) = trialConditions t limit resu
 conditionsOf t (call (write buffer)) = writeConditions t (length buffer)
 conditionsOf t (call (keyLine bs)) = keyConditions t bs
 conditionsOf t (call (squeeze c quotas)) = squeezeConditions t c quotas
+conditionsOf t (convert v bs buffer) = convertConditions v bs (length buffer)

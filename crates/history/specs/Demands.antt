@@ -1,13 +1,14 @@
 -- Demands 1 to 3 as statements over the definitions; the crate `claims` restates where each is proved. Assumes nothing.
 --   FirstHeld cs n      n is the number of the first condition that holds, or 0 where none does
---   Demand1 t a         of a call made on the table t, or of fresh or load
+--   Demand1 t a         of a call made on the table t, of fresh or load, or of a conversion
 --   Demand3 f cs        of the history that begins with f and makes the calls cs
 --   GuaranteeDemand ChargesDemand   of such a history: what a cabin below its guarantee may add, and what the cabins are charged (W5)
 --   AddDemand LinkDemand ClearDemand CountDemand   what an accepted call does on a sound table (demand 2)
 --   SqueezeDemand TwiceDemand   what an accepted squeeze does on a sound table, and a second one (W2)
---   WriteDemand LoadDemand   both ways of an image, over the calls (demand 2)
+--   WriteDemand SortedDemand   both ways of an image, over the calls (demand 2)
 --   EqualDemand SameTableDemand   one table, one image (W1)
 --   OldDemand           an image of edition 1 (W5)
+--   ConvertDemand NeedsDemand   an image converted to the other edition, and one that cannot be (W6)
 use mathlib.Core.Path.{_≡_}
 use mathlib.Core.Bool.{Bool, true, false}
 use mathlib.Core.Logic.{_↔_}
@@ -17,7 +18,7 @@ use lib.ListN.{length, getD, drop}
 use Rattle.finite.specs.Below.{count, total}
 use Rattle.finite.specs.Reach.{Chain}
 use Rattle.table.specs.declared.Answer.the-variants.{Given}
-use Rattle.table.specs.Answer.{Outcome, full, cabinAtLimit, stepsReserved, refusalOf}
+use Rattle.table.specs.Answer.{Outcome, full, cabinAtLimit, stepsReserved, needsEdition2, refusalOf}
 use Rattle.table.specs.Table.{Table, places, counters, cabinCount, exitsOf, inUse, cabinOf, counterOf, strong, linked, linksTo, stepsInUse, StrongChain}
 use Rattle.table.specs.Cabins.{guaranteeOf, soleQuotas, charge}
 use Rattle.table.specs.Sound.{Sound}
@@ -26,7 +27,7 @@ use Rattle.table.specs.Clear.{emptied}
 use Rattle.table.specs.Squeeze.{newNumber, squeezeRefusal, squeezeCall, Renumbered}
 use Rattle.table.specs.Plan.{planOf, planCount, planNumber, planAdd, planLink, planClear, planSqueeze}
 use Rattle.keyline.specs.Keys.{keyCabin, keyCall}
-use Rattle.image.specs.Image.{edition1, edition2, image, editionIn, WriteOutcome, written, loadCall, SameRecords, Ascending}
+use Rattle.image.specs.Image.{Edition, edition1, image, editionIn, WriteOutcome, written, accepted, loadCall, SameRecords, Ascending}
 use Rattle.history.specs.History.{First, Call, tableAfter, heardBy, planAfter, drawnBy, firstRefusal, planFirstRefusal, firstTable, firstPlan}
 use Rattle.history.specs.Accounts.{account, tally}
 use Rattle.history.specs.Acts.{Act, doneBy, refusedBy, conditionsOf}
@@ -136,13 +137,14 @@ pub record CountDemand (t : Table) (o : Outcome) : Type 0 where
   pub same : o .table ≡ t
   pub spoken : o .answer ≡ Given (planCount (planOf t)) (planOf t .capacity - planCount (planOf t))
 
--- "A sound table written as an image loads as the same table": the bytes that write wrote, in a buffer with the room
-pub record WriteDemand (t : Table) (buffer : List ℕ) (o : WriteOutcome) : Type 0 where
+-- "A sound table written as an image loads as the same table": the bytes that were written in the edition v, in a buffer with the room
+pub record WriteDemand (v : Edition) (t : Table) (buffer : List ℕ) (o : WriteOutcome) : Type 0 where
   -- "the answer is the image's length"
   pub answer : o .answer ≡ Given (length (written o)) 0
   pub loads : loadCall (written o) ≡ record { answer = Given 0 0; table = t }
-  -- "The writer writes edition 2" (W5)
-  pub edition : editionIn (written o) ≡ edition2
+  pub edition : editionIn (written o) ≡ v
+  -- "in ascending step number" (W1)
+  pub ascending : Ascending (written o)
   -- "as are those past a written image": untouched
   pub past : drop (length (written o)) (o .buffer) ≡ drop (length (written o)) buffer
   pub size : length (o .buffer) ≡ length buffer
@@ -151,11 +153,12 @@ pub record WriteDemand (t : Table) (buffer : List ℕ) (o : WriteOutcome) : Type
 abbrev pub EqualDemand : Table → Table → WriteOutcome → WriteOutcome → Type 0
 EqualDemand t u o p = (t ≡ u) ↔ (written o ≡ written p)
 
--- "and an accepted image is written with the same records": the image bs, of edition 2, is loaded, and its table written into a buffer
-pub record LoadDemand (bs : List ℕ) (o : WriteOutcome) : Type 0 where
+-- "and an accepted image is written with the same records": the image bs comes out again, into a buffer, when it was loaded or converted
+pub record SortedDemand (bs : List ℕ) (o : WriteOutcome) : Type 0 where
   pub answer : o .answer ≡ Given (length bs) 0
   pub records : SameRecords bs (written o)
-  -- W1: "loading and then writing an image now sorts its records", and no other image has these records in this order
+  -- W1: "loading and then writing an image now sorts its records"; W6: "up and down again gives the first image sorted"; and no other image has
+  -- these records in this order
   pub ascending : Ascending (written o)
   pub only : (cs : List ℕ) → SameRecords bs cs → Ascending cs → cs ≡ written o
 
@@ -165,6 +168,21 @@ pub record OldDemand (bs : List ℕ) (o : Outcome) : Type 0 where
   pub quotas : o .table .quotas ≡ soleQuotas (o .table .capacity)
   pub cabins : (i : ℕ) → inUse (o .table) i ≡ true → cabinOf (o .table) i ≡ 0
   pub records : SameRecords bs (image edition1 (o .table))
+
+-- W6: an accepted conversion of the image bs to the edition v; o is what it did
+pub record ConvertDemand (v : Edition) (bs buffer : List ℕ) (o : WriteOutcome) : Type 0 where
+  -- "from edition 1 to 2 and back"
+  pub other : editionIn bs ≡ v → ⊥
+  pub taken : loadCall bs .answer ≡ Given 0 0
+  -- "Both images describe one plan, with the same strengths. Both ways answer the length and write the steps in ascending order": what is written
+  -- loads as the table that bs loads as
+  pub image : WriteDemand v (loadCall bs .table) buffer o
+
+-- 17 is answered of an accepted image of edition 2 exactly if no image of edition 1 loads as its table
+abbrev pub NeedsDemand : List ℕ → WriteOutcome → Type 0
+NeedsDemand bs o =
+    (refusalOf (o .answer) ≡ needsEdition2) ↔
+    ((cs : List ℕ) → accepted cs ≡ true → editionIn cs ≡ edition1 → loadCall cs .table ≡ loadCall bs .table → ⊥)
 
 -- W1: two accepted images of one edition load as one table exactly if they have the same records, in whatever order; o and p are what load did for each
 abbrev pub SameTableDemand : List ℕ → List ℕ → Outcome → Outcome → Type 0

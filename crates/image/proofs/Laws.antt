@@ -1,22 +1,23 @@
 -- What is claimed of images (document 01, "Image"; document 02, W1 and W5), each law by citing where it is proved: images load as the table that was
 -- written, in each edition that can say it; accepted images are sound, draw the plan that their records say, and are written again in their edition
 -- with the same records, sorted; sound tables are equal exactly when their written images are (W1). Assumes nothing.
-use mathlib.Core.Path.{_≡_}
+use mathlib.Core.Path.{_≡_, sym}
 use mathlib.Core.Bool.{true}
-use mathlib.Core.Logic.{_↔_}
+use mathlib.Core.Logic.{_↔_, ⊎-elim}
 use mathlib.Core.List.{List, _++_}
 use Prim.Native.Nat.{ℕ, _≤_, _<_}
 use lib.ListN.{length, drop}
 use borrow.Author.Tests.{eq-eqb, ne-eqb, le-ltb}
 use Rattle.finite.specs.Below.{count}
+use Rattle.finite.proofs.Below.{eq-or-ne}
 use Rattle.table.specs.declared.Answer.the-variants.{Refused, Given}
-use Rattle.table.specs.Table.{Table, inUse, stepsInUse}
+use Rattle.table.specs.Table.{Table, inUse}
 use Rattle.table.specs.Cabins.{soleQuotas}
 use Rattle.table.specs.Sound.{Sound, sound}
-use Rattle.table.specs.Answer.{first}
+use Rattle.table.specs.Answer.{first, refusalOf}
 use Rattle.table.specs.Plan.{planOf}
 use Rattle.table.proofs.Sound.{sound-test}
-use Rattle.image.specs.Image.{Edition, edition1, image, imageSize, writtenEdition, imageLength, writeRefusal, writeCall, editionIn, countIn, numberIn, imageTable, accepted, loadCall, imagePlan, Bytes, Once, SameRecords, Ascending}
+use Rattle.image.specs.Image.{Edition, edition1, image, imageLength, writtenEdition, put, writeRefusal, editionIn, countIn, numberIn, imageTable, accepted, loadCall, imagePlan, Bytes, Once, SameRecords, Ascending}
 use Rattle.image.proofs.Written
 use Rattle.image.proofs.Loaded
 use Rattle.image.proofs.RoundTrip
@@ -24,13 +25,10 @@ use Rattle.image.proofs.RoundTrip.{Says}
 use Rattle.image.proofs.Rewritten
 use Rattle.image.proofs.Order
 
--- the length of the image: the header, and a record of one size for each step in use; and of the one that is written
-pub image-length : (v : Edition) (t : Table) → length (image v t) ≡ imageSize v (stepsInUse t)
-image-length = Written.image-length
-
-pub written-length : (t : Table) → length (image writtenEdition t) ≡ imageLength t
+-- the length of the image: the header, and a record of one size for each step in use
+pub image-length : (v : Edition) (t : Table) → length (image v t) ≡ imageLength v t
 unfolding imageLength
-written-length t = image-length writtenEdition t
+image-length = Written.image-length
 
 -- an image says its edition
 pub image-edition : (v : Edition) (t : Table) → editionIn (image v t) ≡ v
@@ -53,9 +51,6 @@ encode-accepted v t s p = RoundTrip.encode-accepted v t s p (sound-test t s)
 
 pub load-encode : (v : Edition) (t : Table) → Sound t → Says v t → loadCall (image v t) ≡ record { answer = Given 0 0; table = t }
 load-encode v t s p = RoundTrip.load-encode v t s p (sound-test t s)
-
-pub load-written : (t : Table) → Sound t → loadCall (image writtenEdition t) ≡ record { answer = Given 0 0; table = t }
-load-written t s = load-encode writtenEdition t s tt
 
 -- "Edition 1 images load with all steps charged to cabin 0, which has guarantee and limit capacity less 1, others zero" (W5)
 pub edition1-says : (bs : List ℕ) → accepted bs ≡ true → editionIn bs ≡ edition1 → Says edition1 (imageTable bs)
@@ -94,17 +89,22 @@ pub loaded-equal : (bs : List ℕ) → Bytes bs → accepted bs ≡ true → (cs
     (imageTable bs ≡ imageTable cs) ↔ SameRecords bs cs
 loaded-equal = Order.loaded-equal
 
--- what write leaves: nothing where it is refused, else the image and the bytes past it as they were
-pub write-refused : (t : Table) (buffer : List ℕ) → (writeRefusal t (length buffer) ≡ 0 → ⊥) →
-    writeCall t buffer ≡ record { answer = Refused (writeRefusal t (length buffer)); buffer = buffer }
-unfolding writeCall
-write-refused t buffer d = rw (ne-eqb (writeRefusal t (length buffer)) 0 d)
+-- what put leaves: nothing where it is refused, else the image and the bytes past it as they were
+pub put-refused : (n : ℕ) → (n ≡ 0 → ⊥) → (v : Edition) (t : Table) (buffer : List ℕ) → put n v t buffer ≡ record { answer = Refused n; buffer = buffer }
+unfolding put
+put-refused n d v t buffer = rw (ne-eqb n 0 d)
 
-pub write-made : (t : Table) (buffer : List ℕ) → writeRefusal t (length buffer) ≡ 0 →
-    writeCall t buffer ≡ record { answer = Given (imageLength t) 0; buffer = image writtenEdition t ++ drop (imageLength t) buffer }
-unfolding writeCall
-write-made t buffer z = rw (eq-eqb (writeRefusal t (length buffer)) 0 z)
+pub put-made : (n : ℕ) → n ≡ 0 → (v : Edition) (t : Table) (buffer : List ℕ) →
+    put n v t buffer ≡ record { answer = Given (imageLength v t) 0; buffer = image v t ++ drop (imageLength v t) buffer }
+unfolding put
+put-made n z v t buffer = rw (eq-eqb n 0 z)
 
-pub room-enough : (t : Table) → Sound t → (buffer : List ℕ) → imageLength t ≤ length buffer → writeRefusal t (length buffer) ≡ 0
+-- the refusal that it answers
+pub put-refusal : (n : ℕ) (v : Edition) (t : Table) (buffer : List ℕ) → refusalOf (put n v t buffer .answer) ≡ n
+unfolding refusalOf
+put-refusal n v t buffer =
+    ⊎-elim (λ (z : n ≡ 0). rw (put-made n z v t buffer) (sym z)) (λ (d : n ≡ 0 → ⊥). rw (put-refused n d v t buffer)) (eq-or-ne n 0)
+
+pub room-enough : (t : Table) → Sound t → (buffer : List ℕ) → imageLength writtenEdition t ≤ length buffer → writeRefusal t (length buffer) ≡ 0
 unfolding writeRefusal first
-room-enough t s buffer l = rw (sound-test t s, le-ltb (length buffer) (imageLength t) l)
+room-enough t s buffer l = rw (sound-test t s, le-ltb (length buffer) (imageLength writtenEdition t) l)

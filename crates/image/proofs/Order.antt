@@ -17,7 +17,8 @@ use Rattle.finite.proofs.Below.{le-or-lt}
 use Rattle.finite.proofs.Select.{count-grows, Rising, Found, rising-once, rising-same}
 use Rattle.table.specs.Table.{Table, inUse}
 use Rattle.table.specs.Sound.{Sound}
-use Rattle.image.specs.Image.{Edition, recordSize, headerFieldCount, stepFieldCount, image, imageSize, wordAt, fieldAt, editionIn, countIn, stepPlace, numberIn, imageTable, accepted, Bytes, SameBytes, SameRecord, SameRecords, Ascending}
+use Rattle.image.specs.Image.{Edition, recordSize, image, imageSize, wordAt, fieldAt, editionIn, countIn, stepPlace, numberIn, imageTable, accepted, Bytes, SameBytes, SameRecord, SameRecords, Ascending}
+use Rattle.image.proofs.Words.{headerSize, stepSize}
 use Rattle.image.proofs.Written.{old-header, old-fields, image-index, index-number, image-size}
 use Rattle.image.proofs.Loaded.{accepted-table}
 use Rattle.image.proofs.RoundTrip.{Says, decode-encode, accepted-says}
@@ -54,13 +55,6 @@ same-number bs cs k l s = same-field bs cs (stepPlace bs k) (stepPlace cs l) _ 0
 same-count : (bs cs : List ℕ) → SameRecords bs cs → countIn bs ≡ countIn cs
 unfolding countIn recordSize
 same-count bs cs s = same-field bs cs 0 0 _ 2 (s .header) (omega (arith, old-header (editionIn bs)))
-
--- the sizes of an edition's records
-abbrev headerSize : Edition → ℕ
-headerSize v = recordSize (headerFieldCount v)
-
-abbrev stepSize : Edition → ℕ
-stepSize v = recordSize (stepFieldCount v)
 
 -- having the same records goes back and on
 records-back : (bs cs : List ℕ) → SameRecords bs cs → SameRecords cs bs

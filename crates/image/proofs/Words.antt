@@ -9,7 +9,14 @@ use lib.ListN.{length, getD}
 use lib.Seq.{getD-append-add}
 use borrow.Author.Tests.{eq-eqb}
 use Rattle.finite.proofs.Bools.{and-intro}
-use Rattle.image.specs.Image.{word, wordAt, words, recordSize, recordBytes, fieldAt, recordAt}
+use Rattle.image.specs.Image.{Edition, headerFieldCount, stepFieldCount, word, wordAt, words, recordSize, recordBytes, fieldAt, recordAt}
+
+-- the sizes of an edition's records
+abbrev pub headerSize : Edition → ℕ
+headerSize v = recordSize (headerFieldCount v)
+
+abbrev pub stepSize : Edition → ℕ
+stepSize v = recordSize (stepFieldCount v)
 
 pub length-words : (ns : List ℕ) → length (words ns) ≡ 2 * length ns
 unfolding words word

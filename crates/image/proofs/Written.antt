@@ -22,12 +22,12 @@ use Rattle.image.specs.Image.{Edition, edition1, edition2, recordSize, r
 use Rattle.image.proofs.Words.{length-record, field-placed, record-placed}
 
 -- the records of an edition have as many fields as it says; the old fields are in both
-length-header : (e : Edition) (t : Table) → length (headerFieldsOf e t) ≡ headerFieldCount e
+pub length-header : (e : Edition) (t : Table) → length (headerFieldsOf e t) ≡ headerFieldCount e
 unfolding headerFieldsOf headerAdds tabulate tabulateFrom
 length-header edition1 t = refl
 length-header edition2 t = refl
 
-length-fields : (e : Edition) (t : Table) (i : ℕ) → length (stepFieldsOf e t i) ≡ stepFieldCount e
+pub length-fields : (e : Edition) (t : Table) (i : ℕ) → length (stepFieldsOf e t i) ≡ stepFieldCount e
 unfolding stepFieldsOf stepAdds
 length-fields edition1 t i = refl
 length-fields edition2 t i = refl

@@ -6,7 +6,9 @@
 --   recordBytes kind fields     a record: its length in bytes, its kind, its fields, each a word
 --   imageSize e n               the length in bytes of an image of edition e with n step records
 --   image e t                   the image of edition e: the header, then a record for each step in use, in ascending step number
---   lengthCall t                the length of the image, asked for by itself
+--   imageLength e t             its length
+--   lengthCall t                the length of the image that is written, asked for by itself
+--   put n e t buffer            refusal n, or the image of edition e at the start of a lent buffer
 --   writeCall t buffer          the call; written o, the bytes that it wrote
 --   editionIn bs                the edition that the header says; quotasIn, the list of quotas
 --   numberIn kindIn contentIn bitsIn targetIn cabinIn   the fields of the k-th step record of an image
@@ -108,20 +110,20 @@ image e t = recordBytes (headerKindOf e) (headerFieldsOf e t) ++ stepsBelow e t 
 abbrev pub imageSize : Edition → ℕ → ℕ
 imageSize e n = recordSize (headerFieldCount e) + recordSize (stepFieldCount e) * n
 
+unfoldable pub imageLength : Edition → Table → ℕ
+imageLength e t = imageSize e (stepsInUse t)
+
 -- "The writer writes edition 2" (W5)
 abbrev pub writtenEdition : Edition
 writtenEdition = edition2
-
-unfoldable pub imageLength : Table → ℕ
-imageLength t = imageSize writtenEdition (stepsInUse t)
 
 -- the length asked for by itself, which is the room that writing needs: refusal 1, else the length
 unfoldable pub lengthCall : Table → Answer
 lengthCall t =
     let n = first (tableTests t) in
-    cond (eqb n 0) (Given (imageLength t) 0) (Refused n)
+    cond (eqb n 0) (Given (imageLength writtenEdition t) 0) (Refused n)
 
--- the answer of write image, and the lent buffer as it is left
+-- the answer of a call that writes an image, and the lent buffer as it is left
 pub record WriteOutcome : Type 0 where
   pub answer : Answer
   pub buffer : List ℕ
@@ -130,20 +132,25 @@ pub record WriteOutcome : Type 0 where
 unfoldable pub written : WriteOutcome → List ℕ
 written o = take (firstOf (o .answer)) (o .buffer)
 
+-- "the answer is the image's length"; the bytes past the image are untouched
+unfoldable pub put : ℕ → Edition → Table → List ℕ → WriteOutcome
+put n e t buffer =
+    cond (eqb n 0)
+    (record { answer = Given (imageLength e t) 0; buffer = image e t ++ drop (imageLength e t) buffer })
+    (record { answer = Refused n; buffer = buffer })
+
+-- the image has to fit
+abbrev pub roomTests : Edition → Table → ℕ → List (Bool × ℕ)
+roomTests e t room = (ltb room (imageLength e t), tooShort) ∷ []
+
 abbrev pub writeConditions : Table → ℕ → List (Bool × ℕ)
-writeConditions t room =
-    tableTests t ++ ((ltb room (imageLength t), tooShort) ∷ [])
+writeConditions t room = tableTests t ++ roomTests writtenEdition t room
 
 unfoldable pub writeRefusal : Table → ℕ → ℕ
 writeRefusal t room = first (writeConditions t room)
 
--- "the answer is the image's length"; the bytes past the image are untouched
 unfoldable pub writeCall : Table → List ℕ → WriteOutcome
-writeCall t buffer =
-    let n = writeRefusal t (length buffer) in
-    cond (eqb n 0)
-    (record { answer = Given (imageLength t) 0; buffer = image writtenEdition t ++ drop (imageLength t) buffer })
-    (record { answer = Refused n; buffer = buffer })
+writeCall t buffer = put (writeRefusal t (length buffer)) writtenEdition t buffer
 
 -- field i of the record that begins at a place
 unfoldable pub fieldAt : List ℕ → ℕ → ℕ → ℕ

@@ -68,6 +68,10 @@ stepsReserved = 15
 abbrev pub badCabins : ℕ
 badCabins = 16
 
+-- document 02, W6
+abbrev pub needsEdition2 : ℕ
+needsEdition2 = 17
+
 unfoldable pub first : List (Bool × ℕ) → ℕ
 first [] = 0
 first (x ∷ xs) = cond (x .0) (x .1) (first xs)

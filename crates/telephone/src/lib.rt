@@ -11,7 +11,8 @@ ghost use Rattle.table.specs.Clear.{clearCall};
 ghost use Rattle.table.specs.Squeeze.{squeezeCall};
 ghost use Rattle.table.specs.Trial.{trialCall};
 ghost use Rattle.words.specs.Words.{tableOf, wordsOf};
-ghost use Rattle.image.specs.Image.{lengthCall, writeCall, loadCall};
+ghost use Rattle.image.specs.Image.{edition1, edition2, lengthCall, writeCall, loadCall};
+ghost use Rattle.image.specs.Convert.{convertCall};
 ghost use Rattle.keyline.specs.Keys.{countsCall, keyCall};
 ghost use Rattle.telephone.specs.Replies.{edition, replyOf, readReply, trialReply, writeReply};
 use table::Answer;
@@ -55,7 +56,7 @@ pub struct TrialReply {
     pub moves: u16,
 }
 
-// The answer of write image and of image length: the refusal or 0, and the image's length.
+// The answer of a call that writes an image, and of image length: the refusal or 0, and the image's length.
 #[repr(C)]
 pub struct WriteReply {
     pub refusal: u16,
@@ -111,7 +112,7 @@ fn trial_reply(a: Tried) -> TrialReply
     }
 }
 
-// The answer of write image, by number.
+// The answer of such a call, by number.
 fn write_reply(a: Answer) -> WriteReply
     ensures { λ r. ⌜ r ≡ writeReply a ⌝ }
 {
@@ -262,7 +263,7 @@ pub extern "C" fn plan_trial(
 pub extern "C" fn plan_image_length(t: &[u16; WORDS]) -> WriteReply
     ensures { λ r. ⌜ r ≡ writeReply (lengthCall (tableOf (now (t .entry)))) ⌝ }
 {
-    write_reply(images::image_length(t))
+    write_reply(writing::image_length(t))
 }
 
 // Write image: the image, of edition 2, at the start of the buffer, and its length; no other byte is written. Refusals: 1, 11.
@@ -271,7 +272,7 @@ pub extern "C" fn plan_write_image(t: &[u16; WORDS], buffer: &mut [u8]) -> Write
     ensures answer { λ r. ⌜ r ≡ writeReply (writeCall (tableOf (now (t .entry))) (now (buffer .entry)) .answer) ⌝ }
     ensures written { λ r. ⌜ now (buffer .exit) ≡ writeCall (tableOf (now (t .entry))) (now (buffer .entry)) .buffer ⌝ }
 {
-    write_reply(images::write_image(t, buffer))
+    write_reply(writing::write_image(t, buffer))
 }
 
 // Load image: the table of an accepted image of edition 1 or 2. Refusal: 12, with a fresh table of capacity 1.
@@ -280,7 +281,25 @@ pub extern "C" fn plan_load_image(t: &mut [u16; WORDS], bytes: &[u8]) -> Reply
     ensures answer { λ r. ⌜ r ≡ replyOf (loadCall (now (bytes .entry)) .answer) ⌝ }
     ensures table { λ r. ⌜ now (t .exit) ≡ wordsOf (loadCall (now (bytes .entry)) .table) ⌝ }
 {
-    reply_of(images::load_image(t, bytes))
+    reply_of(loading::load_image(t, bytes))
+}
+
+// Convert up: an image of edition 1 as one of edition 2 at the start of the buffer, and its length; no other byte is written. Refusals: 12, 11.
+#[no_mangle]
+pub extern "C" fn plan_convert_up(bytes: &[u8], buffer: &mut [u8]) -> WriteReply
+    ensures answer { λ r. ⌜ r ≡ writeReply (convertCall edition2 (now (bytes .entry)) (now (buffer .entry)) .answer) ⌝ }
+    ensures written { λ r. ⌜ now (buffer .exit) ≡ convertCall edition2 (now (bytes .entry)) (now (buffer .entry)) .buffer ⌝ }
+{
+    write_reply(converting::convert_up(bytes, buffer))
+}
+
+// Convert down: an image of edition 2 as one of edition 1 at the start of the buffer, and its length; no other byte is written. Refusals: 12, 17, 11.
+#[no_mangle]
+pub extern "C" fn plan_convert_down(bytes: &[u8], buffer: &mut [u8]) -> WriteReply
+    ensures answer { λ r. ⌜ r ≡ writeReply (convertCall edition1 (now (bytes .entry)) (now (buffer .entry)) .answer) ⌝ }
+    ensures written { λ r. ⌜ now (buffer .exit) ≡ convertCall edition1 (now (bytes .entry)) (now (buffer .entry)) .buffer ⌝ }
+{
+    write_reply(converting::convert_down(bytes, buffer))
 }
 
 // Key line: the call that its bytes make. First and second are the two numbers that the program `keys` prints. Refusals: 1, 9, then its call's.

@@ -81,6 +81,8 @@ pub const CABIN_AT_LIMIT: u16 = 14;
 pub const STEPS_RESERVED: u16 = 15;
 // A cabin above 7, or a bad list of guarantees and limits (W5).
 pub const BAD_CABINS: u16 = 16;
+// An image needs edition 2: edition 1 cannot say its cabins, guarantees or limits (W6).
+pub const NEEDS_EDITION_2: u16 = 17;
 
 // The same number, as an index.
 pub fn wide(x: u16) -> usize

@@ -1,8 +1,8 @@
 //! The commands. Each reads what it is given, asks the library, and only then writes.
 
 use crate::files::{
-    broken_rule, give, give_image, goes_nowhere, image_bytes, input, input_failed, load, print,
-    say, shown,
+    broken_rule, give, give_image, give_table, goes_nowhere, image_bytes, input, input_failed,
+    load, print, refused_image, say, shown,
 };
 use crate::{number, Failure, Request};
 use plan::change::{checked, Change};
@@ -15,7 +15,9 @@ use plan::words::{count, refused};
 use std::ffi::{OsStr, OsString};
 use std::io::{self, BufRead, BufReader, IsTerminal, Read};
 use std::path::Path;
-use telephone::{raw, sole_quotas, Quota, Quotas, Refusal, Table, CABINS};
+use telephone::{
+    convert_down, convert_up, raw, sole_quotas, Quota, Quotas, Refusal, Table, CABINS, IMAGE_MAX,
+};
 
 /// A command of the program.
 pub struct Command {
@@ -51,7 +53,7 @@ const STORE: &str = "-o FILE";
 /// Guarantees and limits.
 const LIST: &str = "[G/L ..]";
 
-pub const COMMANDS: [Command; 11] = [
+pub const COMMANDS: [Command; 12] = [
     Command {
         name: "fresh",
         words: &["CAPACITY", LIST],
@@ -125,6 +127,14 @@ pub const COMMANDS: [Command; 11] = [
         run: squeeze,
     },
     Command {
+        name: "convert",
+        words: &["IMAGE", "EDITION"],
+        options: &[STORE],
+        gist: "the image in the other edition",
+        help: CONVERT,
+        run: convert,
+    },
+    Command {
         name: "diff",
         words: &["A", "B"],
         options: &[],
@@ -192,6 +202,15 @@ Where none is given, they stay as they are; only a plan that cabin 0 has to
 itself gets those of the new capacity. Which step has which number then is said
 on standard error; the image goes to FILE, which may be IMAGE itself, or to
 standard output.
+";
+
+const CONVERT: &str = "\
+Converts an image to the other edition of the format. EDITION is the one to be
+written: 1, for an old telephone, or 2. The plan and its strengths stay, and the
+step records come out in ascending step number. Edition 1 has no cabins: an
+image is converted to it only where cabin 0 has the plan to itself, and is
+refused by 17 where not. Editions and lengths are said on standard error; the
+image goes to FILE, which may be IMAGE itself, or to standard output.
 ";
 
 const DRAW: &str = "\
@@ -295,7 +314,7 @@ fn fresh(request: &Request) -> Result<u8, Failure> {
     let table = Table::fresh(capacity, &list(pairs, sole_quotas(capacity))?).map_err(refused)?;
     let view = View::of(&table);
     say(&format!("{}\n{}", pages::numbers(&view), said_cabins(&view, pairs)))?;
-    give_image(request, &table)?;
+    give_table(request, &table)?;
     Ok(0)
 }
 
@@ -310,7 +329,7 @@ fn add(request: &Request) -> Result<u8, Failure> {
     let (table, answer) = added.map_err(refused)?;
     let after = View::of(&table);
     say(&format!("{}\n", pages::answered(&after, &checked(&before, &after, answer)?)))?;
-    give_image(request, &table)?;
+    give_table(request, &table)?;
     Ok(0)
 }
 
@@ -346,7 +365,7 @@ fn clear(request: &Request) -> Result<u8, Failure> {
         return Err("no exit was cleared".to_string());
     };
     say(&pages::cleared(&before, &after, &clearing))?;
-    give_image(request, &table)?;
+    give_table(request, &table)?;
     Ok(0)
 }
 
@@ -380,8 +399,44 @@ fn squeeze(request: &Request) -> Result<u8, Failure> {
     let (table, _) = squeezed.map_err(refused)?;
     let after = View::of(&table);
     say(&(pages::squeezed(&before, &after) + &said_cabins(&after, pairs)))?;
-    give_image(request, &table)?;
+    give_table(request, &table)?;
     Ok(0)
+}
+
+fn convert(request: &Request) -> Result<u8, Failure> {
+    let name = &request.words[0];
+    let bytes = image_bytes(Path::new(name))?;
+    let to = number("the edition", &request.words[1])?;
+    let mut image = [0; IMAGE_MAX];
+    let converted = match to {
+        1 => convert_down(&bytes, &mut image),
+        2 => convert_up(&bytes, &mut image),
+        _ => return Err(format!("the edition to be written is 1 or 2, and not {to}")),
+    };
+    let length = converted
+        .map_err(|refusal| refused_image(name, refusal, &why_not_converted(&bytes, to, refusal)))?;
+    let (image, from) = (&image[..length], edition_of(&bytes)?);
+    if Table::load(image) != Table::load(&bytes) || u16::from(edition_of(image)?) != to {
+        return Err("the image converted is another table, or of another edition".to_string());
+    }
+    let given = bytes.len();
+    say(&format!("edition {from}, {given} bytes, to edition {to}, {length} bytes\n"))?;
+    give_image(request, image)?;
+    Ok(0)
+}
+
+/// What to look at in an image that the library does not convert to an edition. One that it loads and yet does not accept here is of that edition.
+fn why_not_converted(bytes: &[u8], to: u16, refusal: Refusal) -> String {
+    match (Table::load(bytes), refusal) {
+        (Ok(table), Refusal::NeedsEdition2) => pages::needs_edition_2(&View::of(&table)),
+        (Ok(_), Refusal::NotAccepted) => format!("it is of edition {to} already"),
+        _ => broken_rule(bytes),
+    }
+}
+
+/// The edition of an image that the library accepts.
+fn edition_of(image: &[u8]) -> Result<u8, Failure> {
+    edition(image).map(|edition| edition.number).map_err(|fault| fault.words)
 }
 
 fn differ(request: &Request) -> Result<u8, Failure> {
@@ -400,7 +455,7 @@ fn check(request: &Request) -> Result<u8, Failure> {
     let bytes = image_bytes(Path::new(&request.words[0]))?;
     match Table::load(&bytes) {
         Ok(table) => {
-            let edition = edition(&bytes).map_err(|fault| fault.words)?.number;
+            let edition = edition_of(&bytes)?;
             let numbers = pages::numbers(&View::of(&table));
             print(&format!("accepted, edition {edition}: {numbers}\n"))?;
             Ok(0)
@@ -442,7 +497,7 @@ fn key(request: &Request) -> Result<u8, Failure> {
     if refusals > 0 && !skip {
         return Err(format!("{} refused: nothing is stored", count(refusals, "line")));
     }
-    give_image(request, &table)?;
+    give_table(request, &table)?;
     Ok(0)
 }
 

@@ -9,7 +9,7 @@ use std::io::{self, IsTerminal, Read, Write};
 use std::os::fd::AsFd;
 use std::os::unix::fs::{fchown, MetadataExt};
 use std::path::{Path, PathBuf};
-use telephone::{Table, IMAGE_MAX};
+use telephone::{Refusal, Table, IMAGE_MAX};
 
 /// A word of the command line as it can be shown in one line.
 pub fn shown(word: &OsStr) -> String {
@@ -34,12 +34,13 @@ pub fn image_bytes(path: &Path) -> Result<Vec<u8>, Failure> {
 
 /// The table of an image file.
 pub fn load(path: &OsStr) -> Result<Table, Failure> {
-    let path = Path::new(path);
-    let bytes = image_bytes(path)?;
-    Table::load(&bytes).map_err(|refusal| {
-        let name = shown(path.as_os_str());
-        format!("{name}: {}; {}", refused(refusal), broken_rule(&bytes))
-    })
+    let bytes = image_bytes(Path::new(path))?;
+    Table::load(&bytes).map_err(|refusal| refused_image(path, refusal, &broken_rule(&bytes)))
+}
+
+/// The refusal of an image file, and what to look at.
+pub fn refused_image(path: &OsStr, refusal: Refusal, why: &str) -> Failure {
+    format!("{}: {}; {why}", shown(path), refused(refusal))
 }
 
 /// The first rule that bytes break which the library refused.
@@ -93,17 +94,22 @@ pub fn give(request: &Request, text: &str) -> Result<(), Failure> {
     }
 }
 
-/// Gives the image of a table to standard output, or stores it where the command line says. A terminal gets no image.
-pub fn give_image(request: &Request, table: &Table) -> Result<(), Failure> {
+/// Gives the image of a table.
+pub fn give_table(request: &Request, table: &Table) -> Result<(), Failure> {
     let mut image = [0; IMAGE_MAX];
     let length = table.write_image(&mut image).map_err(refused)?;
+    give_image(request, &image[..length])
+}
+
+/// Gives an image to standard output, or stores it where the command line says. A terminal gets no image.
+pub fn give_image(request: &Request, image: &[u8]) -> Result<(), Failure> {
     match &request.output {
         Some(path) => {
-            store(path, &image[..length])?;
+            store(path, image)?;
             say(&format!("stored in {}\n", shown(path.as_os_str())))
         }
         None if goes_nowhere(request) => say("not stored: -o FILE stores the new image\n"),
-        None => write(&image[..length]),
+        None => write(image),
     }
 }
 

@@ -1,6 +1,6 @@
-//! The program `plan`: shows, draws, explains, compares and edits images of call plans. Words about a table go to standard output; a command that gives
-//! a new image says what it did on standard error. Status 0: done. 1: the answer is no (`check`, `diff`). 2: bad input, or something could not be read
-//! or written; then one line on standard error says what, and nothing is stored.
+//! The program `plan`: shows, draws, explains, compares, converts and edits images of call plans. Words about a table go to standard output; a command
+//! that gives a new image says what it did on standard error. Status 0: done. 1: the answer is no (`check`, `diff`). 2: bad input, or something could
+//! not be read or written; then one line on standard error says what, and nothing is stored.
 
 mod commands;
 mod files;

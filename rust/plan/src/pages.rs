@@ -3,7 +3,7 @@
 use crate::change::{Change, Clearing};
 use crate::view::{Held, View};
 use crate::words::{self, count, for_cabin, listed, named, place, row, steps, strength};
-use telephone::{Ending, Exit, Kind, Trial, CABINS, PLACES};
+use telephone::{sole_quotas, Ending, Exit, Kind, Trial, CABINS, PLACES};
 
 /// Steps of which one line says what holds them; a page says it of all.
 const HELD_IN_A_LINE: usize = 4;
@@ -265,6 +265,22 @@ pub fn squeezed(before: &View, after: &View) -> String {
         }
     }
     text(&page)
+}
+
+/// The first thing in a table that an image of edition 1 cannot say: a step of another cabin than 0, or a guarantee or limit that is not the one which
+/// such an image is loaded with.
+pub fn needs_edition_2(view: &View) -> String {
+    if let Some((&number, step)) = view.steps.iter().find(|(_, step)| step.cabin != 0) {
+        return format!("{} is charged to cabin {}", named(view, number), step.cabin);
+    }
+    for (cabin, (given, old)) in view.quotas.iter().zip(sole_quotas(view.capacity)).enumerate() {
+        let pairs =
+            [("guarantee", given.guarantee, old.guarantee), ("limit", given.limit, old.limit)];
+        if let Some((what, given, old)) = pairs.into_iter().find(|(_, given, old)| given != old) {
+            return format!("the {what} of cabin {cabin} is {given}, and in edition 1 it is {old}");
+        }
+    }
+    "nothing was found that edition 1 cannot say".to_string()
 }
 
 /// A key line as it can be shown: its first bytes, within marks where one of them could not be seen.

@@ -8,12 +8,13 @@ use telephone::{Table, IMAGE_MAX};
 
 /// Each command line, by the name of its output. The images stand in tests/images; those with a file .keys beside them were keyed. They are of edition 1
 /// but for ring-2, which is ring in edition 2, and those of several cabins.
-const CASES: [(&str, &str); 64] = [
+const CASES: [(&str, &str); 75] = [
     ("help", "--help"),
     ("help-key", "key --help"),
     ("help-add", "add --help"),
     ("help-fresh", "fresh --help"),
     ("help-trial", "trial ring.img --help"),
+    ("help-convert", "convert --help"),
     ("no-command", ""),
     ("wrong-command", "shew ring.img"),
     ("wrong-option", "show --dot ring.img"),
@@ -67,6 +68,16 @@ const CASES: [(&str, &str); 64] = [
     ("squeeze-list-kept", "squeeze cabins.img 8"),
     ("squeeze-list-too-large", "squeeze cabins.img 5"),
     ("squeeze-bad-list", "squeeze cabins.img 4 4/3"),
+    ("convert-up", "convert unordered.img 2"),
+    ("convert-down", "convert ring-2.img 1"),
+    ("convert-up-again", "convert ring-2.img 2"),
+    ("convert-down-again", "convert unordered.img 1"),
+    ("convert-cabins", "convert cabins.img 1"),
+    ("convert-damaged", "convert target.img 2"),
+    ("convert-mixed", "convert mixed.img 1"),
+    ("convert-missing", "convert missing.img 2"),
+    ("convert-edition-3", "convert ring.img 3"),
+    ("convert-no-edition", "convert ring.img up"),
     ("diff-strengths", "diff twin.img twin-strengths.img"),
     ("diff-bits", "diff twin.img twin-bits.img"),
     ("diff-plans", "diff ring.img cleared.img"),
@@ -124,8 +135,9 @@ fn readable(bytes: &[u8]) -> String {
     match String::from_utf8(bytes.to_vec()) {
         Ok(text) if !text.contains('\0') => text,
         _ => {
-            let (header, steps) = bytes.split_at(bytes.len().min(42));
-            let lines = [header].into_iter().chain(steps.chunks(22)).map(hex);
+            let (header, step) = if bytes[0] == 10 { (10, 20) } else { (42, 22) };
+            let (header, steps) = bytes.split_at(bytes.len().min(header));
+            let lines = [header].into_iter().chain(steps.chunks(step)).map(hex);
             lines.map(|line| line.trim_end().to_string() + "\n").collect()
         }
     }
@@ -257,6 +269,51 @@ fn cabins_one_by_one() {
     assert_eq!(given.stdout, image("cabins.img"), "{}", text(&given.stderr));
 }
 
+/// Conversions to the byte, there and back: an image of edition 1 is written as its table is, and comes back with its records sorted.
+#[test]
+fn conversions() {
+    let path = scratch("conversions.img");
+    let file = path.to_str().unwrap();
+    let convert = |name: &str, edition: &str| {
+        let given = output(&mut plan(&["convert", name, edition]));
+        assert!(given.status.success(), "{name}: {}", text(&given.stderr));
+        given.stdout
+    };
+    for name in ["fresh1", "ring", "cleared", "squeezable", "thirty", "full", "twin-bits"] {
+        let name = format!("{name}.img");
+        fs::write(&path, convert(&name, "2")).unwrap();
+        assert_eq!((fs::read(&path).unwrap(), convert(file, "1")), (written(&name), image(&name)));
+    }
+    assert_eq!(convert("unordered.img", "2"), image("ring-2.img"));
+    // the step records of edition 2 in another order
+    let (header, steps) = (&image("ring-2.img")[..42], &image("ring-2.img")[42..]);
+    fs::write(&path, [header, &steps[44..], &steps[..44]].concat()).unwrap();
+    let stored = output(&mut plan(&["convert", file, "1", "-o", file]));
+    let said = format!("edition 2, 130 bytes, to edition 1, 90 bytes\nstored in {file}\n");
+    assert_eq!((stored.status.code(), text(&stored.stderr)), (Some(0), said));
+    assert!(is_failure(&output(&mut plan(&["convert", file, "1", "-o", file]))));
+    assert_eq!(fs::read(&path).unwrap(), image("ring.img"));
+}
+
+/// What an image has that edition 1 cannot say: the first step of another cabin, else the first guarantee or limit.
+#[test]
+fn needs_edition_2() {
+    let path = scratch("needs_edition_2.img");
+    let file = path.to_str().unwrap();
+    for (list, words) in [
+        ("7/8", "the limit of cabin 0 is 8, and in edition 1 it is 7"),
+        ("0/7 7/7", "the guarantee of cabin 0 is 0, and in edition 1 it is 7"),
+        ("7/7 0/0 0/1", "the limit of cabin 2 is 1, and in edition 1 it is 0"),
+        ("0/0", "the guarantee of cabin 0 is 0, and in edition 1 it is 7"),
+    ] {
+        let fresh: Vec<&str> = ["fresh", "8"].into_iter().chain(list.split(' ')).collect();
+        fs::write(&path, output(&mut plan(&fresh)).stdout).unwrap();
+        let given = output(&mut plan(&["convert", file, "1"]));
+        assert!(is_failure(&given), "{list}");
+        assert!(text(&given.stderr).ends_with(&format!("cannot say; {words}\n")), "{list}");
+    }
+}
+
 /// -o stores what standard output would get, also over the image itself; a command that fails leaves the file as it was, and nothing beside it.
 #[test]
 fn stored_files() {
@@ -307,6 +364,7 @@ fn reading_and_writing_fail() {
         "add ring.img 0 3 1 7 0",
         "fresh 4",
         "squeeze ring.img 9",
+        "convert ring.img 2",
         "key ring.img",
     ] {
         let words: Vec<&str> = line.split(' ').collect();
@@ -344,6 +402,8 @@ fn odd_words() {
             &["fresh", word],
             &["fresh", "8", word],
             &["add", "ring.img", "0", "3", "1", "7", word],
+            &["convert", "ring.img", word],
+            &["convert", word, "2"],
         ] {
             let given = output(&mut plan(line));
             assert!(is_failure(&given), "{line:?}: {}", text(&given.stderr));
@@ -381,6 +441,8 @@ fn long_files() {
             bytes.resize(length, 0);
             fs::write(&path, &bytes).unwrap();
             assert!(is_failure(&output(&mut plan(&["show", file]))), "{length}");
+            assert!(is_failure(&output(&mut plan(&["convert", file, "1"]))), "{length}");
+            assert!(is_failure(&output(&mut plan(&["convert", file, "2"]))), "{length}");
             assert_eq!(output(&mut plan(&["check", file])).status.code(), Some(1), "{length}");
         }
     }
@@ -401,8 +463,11 @@ fn at_a_terminal() {
         assert!(given.status.success(), "{line}: {}", text(&given.stdout));
         text(&given.stdout).replace('\r', "")
     };
-    let said = at_terminal("fresh 4", b"");
-    assert!(said.ends_with("3 free\nnot stored: -o FILE stores the new image\n"), "{said}");
+    for (line, end) in [("fresh 4", "3 free"), ("convert ring.img 2", "130 bytes")] {
+        let said = at_terminal(line, b"");
+        let nowhere = format!("{end}\nnot stored: -o FILE stores the new image\n");
+        assert!(said.ends_with(&nowhere), "{said}");
+    }
     let path = scratch("at_a_terminal.img");
     let line = format!("key ring.img -o {}", path.display());
     let said = at_terminal(&line, b"H*30003A\nH*30000A\n");

@@ -5,6 +5,8 @@
 //!
 //! Eight cabins share a plan: each step is charged to the cabin that added it, within the guarantees and limits of [`Quotas`].
 //!
+//! Images are written in edition 2 of the format and loaded in both; [`convert_up`] and [`convert_down`] turn an image of one edition into the other.
+//!
 //! ```
 //! use telephone::{sole_quotas, Exit, Kind, Table};
 //!
@@ -39,7 +41,7 @@ pub const PLACES: usize = 128;
 pub const EXITS: usize = 4;
 /// Cabins that share a plan.
 pub const CABINS: usize = 8;
-/// Bytes of the largest image that is written.
+/// Bytes of the largest image that is written, by a table or by a conversion. The largest of edition 1 has 2,570.
 pub const IMAGE_MAX: usize = 2858;
 /// Bytes of stack for any call of the library, with the caller's table.
 pub const STACK_MAX: usize = 16 * 1024;
@@ -93,7 +95,7 @@ pub enum Refusal {
     BadResult,
     /// 11: lent buffer shorter than needed.
     TooShort,
-    /// 12: image not accepted.
+    /// 12: image not accepted; of a conversion also: image of the other edition.
     NotAccepted,
     /// 13: capacity below the steps in use, or the charges do not fit the new quotas.
     DoesNotFit,
@@ -103,6 +105,8 @@ pub enum Refusal {
     StepsReserved,
     /// 16: cabin above 7, or bad list of guarantees and limits.
     BadCabins,
+    /// 17: image needs edition 2: a cabin, guarantee or limit that edition 1 cannot say.
+    NeedsEdition2,
     /// A number that this crate does not know. The library of this edition gives none.
     Unknown(u16),
 }
@@ -127,6 +131,7 @@ impl Refusal {
             Refusal::CabinAtLimit => 14,
             Refusal::StepsReserved => 15,
             Refusal::BadCabins => 16,
+            Refusal::NeedsEdition2 => 17,
             Refusal::Unknown(number) => number,
         }
     }
@@ -151,6 +156,7 @@ impl Refusal {
             14 => Refusal::CabinAtLimit,
             15 => Refusal::StepsReserved,
             16 => Refusal::BadCabins,
+            17 => Refusal::NeedsEdition2,
             _ => Refusal::Unknown(number),
         })
     }
@@ -177,6 +183,9 @@ impl fmt::Display for Refusal {
             Refusal::CabinAtLimit => "cabin at its limit",
             Refusal::StepsReserved => "only steps reserved for other cabins are free",
             Refusal::BadCabins => "cabin above 7, or bad list of guarantees and limits",
+            Refusal::NeedsEdition2 => {
+                "image needs edition 2: a cabin, guarantee or limit that edition 1 cannot say"
+            }
             Refusal::Unknown(number) => return write!(f, "unknown refusal {number}"),
         })
     }
@@ -365,6 +374,44 @@ pub fn sole_quotas(capacity: u16) -> Quotas {
     let mut quotas = Quotas::default();
     raw::sole_quotas(&mut quotas, capacity);
     quotas
+}
+
+/// Converts an image of edition 1 to edition 2 and writes it to the start of a lent buffer, its step records in ascending step number; gives its
+/// length. The plan and its strengths stay; all steps are of cabin 0, and the guarantees and limits are those of [`sole_quotas`] for the capacity. An
+/// image of edition 2 is refused as [`Refusal::NotAccepted`].
+///
+/// ```
+/// use telephone::{convert_up, sole_quotas, Table, IMAGE_MAX};
+///
+/// // a table of capacity 4 with the alarm alone: the header, and a record
+/// let old = [&[10, 0, 1, 0, 4, 0, 0, 0, 1, 0][..], &[20, 0, 2, 0], &[0; 16]].concat();
+/// let mut new = [0; IMAGE_MAX];
+/// let length = convert_up(&old, &mut new)?;
+/// assert_eq!(length, 64);
+/// assert_eq!(Table::load(&new[..length])?, Table::fresh(4, &sole_quotas(4))?);
+/// # Ok::<(), telephone::Refusal>(())
+/// ```
+pub fn convert_up(image: &[u8], buffer: &mut [u8]) -> Result<usize, Refusal> {
+    length(raw::convert_up(image, buffer))
+}
+
+/// Converts an image of edition 2 to edition 1 and writes it to the start of a lent buffer, as [`convert_up`] does. Edition 1 has no cabins: all steps
+/// have to be of cabin 0, and the guarantees and limits those of [`sole_quotas`] for the capacity. An image of edition 1 is refused as
+/// [`Refusal::NotAccepted`].
+///
+/// ```
+/// use telephone::{convert_down, sole_quotas, Quotas, Refusal, Table};
+///
+/// let (mut image, mut old) = ([0; 64], [0; 30]);
+/// Table::fresh(4, &sole_quotas(4))?.write_image(&mut image)?;
+/// assert_eq!(convert_down(&image, &mut old), Ok(30));
+/// Table::fresh(4, &Quotas::default())?.write_image(&mut image)?;
+/// // cabin 0 has limit 0, and not 3
+/// assert_eq!(convert_down(&image, &mut old), Err(Refusal::NeedsEdition2));
+/// # Ok::<(), telephone::Refusal>(())
+/// ```
+pub fn convert_down(image: &[u8], buffer: &mut [u8]) -> Result<usize, Refusal> {
+    length(raw::convert_down(image, buffer))
 }
 
 /// A sound table.

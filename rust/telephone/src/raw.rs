@@ -163,6 +163,14 @@ unsafe extern "C" {
     ) -> TrialReply;
     fn plan_write_image(t: &Table, buffer: *mut u8, length: usize) -> WriteReply;
     fn plan_load_image(t: &mut Table, bytes: *const u8, length: usize) -> Reply;
+    fn plan_convert_up(bytes: *const u8, length: usize, buffer: *mut u8, room: usize)
+        -> WriteReply;
+    fn plan_convert_down(
+        bytes: *const u8,
+        length: usize,
+        buffer: *mut u8,
+        room: usize,
+    ) -> WriteReply;
     fn plan_key_line(t: &mut Table, line: *const u8, length: usize) -> Reply;
 }
 
@@ -184,6 +192,20 @@ pub fn write_image(t: &Table, buffer: &mut [u8]) -> WriteReply {
 pub fn load_image(t: &mut Table, bytes: &[u8]) -> Reply {
     // SAFETY: as above.
     unsafe { plan_load_image(t, bytes.as_ptr(), bytes.len()) }
+}
+
+/// Writes an image of edition 1 in edition 2 to the start of a buffer.
+pub fn convert_up(bytes: &[u8], buffer: &mut [u8]) -> WriteReply {
+    let (given, lent) = (bytes.len(), buffer.len());
+    // SAFETY: both slices are valid for their lengths and do not overlap, and the call keeps neither.
+    unsafe { plan_convert_up(bytes.as_ptr(), given, buffer.as_mut_ptr(), lent) }
+}
+
+/// Writes an image of edition 2 in edition 1 to the start of a buffer.
+pub fn convert_down(bytes: &[u8], buffer: &mut [u8]) -> WriteReply {
+    let (given, lent) = (bytes.len(), buffer.len());
+    // SAFETY: as above.
+    unsafe { plan_convert_down(bytes.as_ptr(), given, buffer.as_mut_ptr(), lent) }
 }
 
 /// Carries out a key line, given without its byte 10.

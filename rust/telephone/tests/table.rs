@@ -1,8 +1,8 @@
 //! The types of this crate: a table is sound and changed in place, a refusal is an error and changes nothing, and no number makes a panic.
 
 use telephone::{
-    check_edition, raw, sole_quotas, Cleared, Counts, Ending, Exit, Kind, Link, Quota, Quotas,
-    Refusal, Table, CABINS,
+    check_edition, convert_down, convert_up, raw, sole_quotas, Cleared, Counts, Ending, Exit, Kind,
+    Link, Quota, Quotas, Refusal, Table, CABINS, IMAGE_MAX,
 };
 
 #[test]
@@ -366,6 +366,11 @@ fn in_edition_1(image: &[u8]) -> Vec<Vec<u8>> {
         .collect()
 }
 
+/// Example P10 of document 01: a fresh table of capacity 4 in edition 1.
+fn p10() -> Vec<u8> {
+    [&[10, 0, 1, 0, 4, 0, 0, 0, 1, 0, 20, 0, 2][..], &[0; 17]].concat()
+}
+
 /// An image of edition 1 is the table that cabin 0 has to itself, and is written in edition 2. Records of both editions are not one image.
 #[test]
 fn editions() {
@@ -392,8 +397,122 @@ fn editions() {
     let mut none = old.clone();
     none[0][4] = 0;
     assert_eq!(Table::load(&none.concat()), Err(Refusal::NotAccepted));
-    let p10 = [&[10, 0, 1, 0, 4, 0, 0, 0, 1, 0, 20, 0, 2][..], &[0; 17]].concat();
-    assert_eq!(Table::load(&p10), Ok(fresh(4)));
+    assert_eq!(Table::load(&p10()), Ok(fresh(4)));
+}
+
+type Conversion = fn(&[u8], &mut [u8]) -> Result<usize, Refusal>;
+
+/// A conversion has to give this image and leave the bytes past it. The room is just enough, and then more; one byte less, or none, is refused.
+#[track_caller]
+fn converted(convert: Conversion, given: &[u8], image: &[u8]) {
+    // the last room is one byte short in 16 bits
+    for more in [0, 1, 65_535] {
+        let mut buffer = vec![99; image.len() + more];
+        assert_eq!(convert(given, &mut buffer), Ok(image.len()));
+        let (written, past) = buffer.split_at(image.len());
+        assert!(written == image && past.iter().all(|&byte| byte == 99), "{written:?}");
+    }
+    for room in [0, image.len() - 1] {
+        not_converted(convert, given, room, Refusal::TooShort);
+    }
+}
+
+/// A conversion has to be refused so, and write nothing.
+#[track_caller]
+fn not_converted(convert: Conversion, given: &[u8], room: usize, refusal: Refusal) {
+    let mut buffer = vec![99; room];
+    assert_eq!(convert(given, &mut buffer), Err(refusal));
+    assert!(buffer.iter().all(|&byte| byte == 99));
+}
+
+/// The image of a table.
+fn image_of(table: &Table) -> Vec<u8> {
+    let mut image = vec![0; table.image_length().unwrap()];
+    assert_eq!(table.write_image(&mut image), Ok(image.len()));
+    image
+}
+
+/// The images of a table in both editions are converted into each other, with their records in either order. One that is of the edition already, is cut
+/// short or goes on is refused.
+#[test]
+fn conversions() {
+    let one_cabin = |mut table: raw::Table| {
+        (table.cabins, table.quotas) = ([0; 128], sole_quotas(table.capacity));
+        table.own[0] = 1;
+        Table::from_raw(table).unwrap()
+    };
+    let mut full = fresh(128);
+    for step in 0..127 {
+        full.add(step, Exit::ALL[usize::from(step) % 4], Kind::Wait(600), 0).unwrap();
+    }
+    let patterns = [[0, 1, 0, 1], [0, 0, 1, 1], [1, 0, 0, 1]].map(different).map(one_cabin);
+    for table in [fresh(1), fresh(4), fresh(128), ring(), full].iter().chain(&patterns) {
+        let image = image_of(table);
+        let old = in_edition_1(&image).concat();
+        let pairs: [(Conversion, Conversion, _, _, _, _); 2] = [
+            (convert_up, convert_down, 10, 20, &old, &image),
+            (convert_down, convert_up, 42, 22, &image, &old),
+        ];
+        for (convert, back, header, step, given, other) in pairs {
+            let records = given[header..].chunks(step).rev();
+            let turned = [&given[..header]].into_iter().chain(records).collect::<Vec<_>>().concat();
+            converted(convert, given, other);
+            converted(convert, &turned, other);
+            for room in [0, IMAGE_MAX] {
+                not_converted(back, &turned, room, Refusal::NotAccepted);
+                not_converted(convert, &[], room, Refusal::NotAccepted);
+            }
+            not_converted(convert, &given[..given.len() - 1], IMAGE_MAX, Refusal::NotAccepted);
+            for more in [1, 65_536] {
+                let long = [&given[..], &vec![0; more]].concat();
+                not_converted(convert, &long, IMAGE_MAX, Refusal::NotAccepted);
+            }
+        }
+    }
+    converted(convert_down, &image_of(&fresh(4)), &p10());
+    for (length, reply) in [(64, (0, 64)), (63, (11, 0))] {
+        let raw::WriteReply { refusal, length } = raw::convert_up(&p10(), &mut vec![0; length]);
+        assert_eq!((refusal, length), reply);
+    }
+    for (length, reply) in [(30, (0, 30)), (29, (11, 0))] {
+        let image = image_of(&fresh(4));
+        let raw::WriteReply { refusal, length } = raw::convert_down(&image, &mut vec![0; length]);
+        assert_eq!((refusal, length), reply);
+    }
+}
+
+/// What edition 1 cannot say: 17 after 12 and before 11.
+#[test]
+fn conversions_refused() {
+    let mut tables = vec![Table::from_raw(different([0, 1, 0, 1])).unwrap()];
+    for pairs in [&[][..], &[(3, 4)], &[(2, 3)], &[(0, 3)], &[(3, 65535)], &[(2, 3), (1, 1)]] {
+        tables.push(Table::fresh(4, &list(pairs)).unwrap());
+    }
+    for cabin in 1..CABINS {
+        let mut quotas = sole_quotas(4);
+        quotas[cabin].limit = 256;
+        tables.push(Table::fresh(4, &quotas).unwrap());
+        quotas[0].guarantee = 2;
+        let mut table = Table::fresh(4, &quotas).unwrap();
+        table.add(0, Exit::Answered, Kind::Contact(0), cabin as u16).unwrap();
+        tables.push(table);
+    }
+    for table in tables {
+        let mut image = image_of(&table);
+        for room in [0, IMAGE_MAX] {
+            not_converted(convert_down, &image, room, Refusal::NeedsEdition2);
+            not_converted(convert_up, &image, room, Refusal::NotAccepted);
+        }
+        let reply = raw::convert_down(&image, &mut []);
+        assert_eq!(reply, raw::WriteReply { refusal: 17, length: 0 });
+        // step 0 with a cabin
+        image[42 + 20] = 1;
+        not_converted(convert_down, &image, 0, Refusal::NotAccepted);
+    }
+    // a step of another cabin under the list of edition 1 passes the limit of that cabin
+    let mut image = image_of(&ring());
+    image[42 + 22 + 20] = 1;
+    not_converted(convert_down, &image, IMAGE_MAX, Refusal::NotAccepted);
 }
 
 /// Steps are renumbered in their order; links, bits and counters go with them, and nothing is left at the old places. A second squeeze changes
@@ -560,7 +679,7 @@ fn numbers_go_there_and_back() {
     for number in 1..=65535 {
         let refusal = Refusal::check(number).unwrap_err();
         assert_eq!(refusal.number(), number);
-        assert_eq!(matches!(refusal, Refusal::Unknown(_)), number > 16);
+        assert_eq!(matches!(refusal, Refusal::Unknown(_)), number > 17);
     }
     assert_eq!(Refusal::Full.to_string(), "steps in use equal the capacity");
     for (number, words) in [
@@ -568,7 +687,8 @@ fn numbers_go_there_and_back() {
         (14, "cabin at its limit"),
         (15, "only steps reserved for other cabins are free"),
         (16, "cabin above 7, or bad list of guarantees and limits"),
-        (17, "unknown refusal 17"),
+        (17, "image needs edition 2: a cabin, guarantee or limit that edition 1 cannot say"),
+        (18, "unknown refusal 18"),
     ] {
         assert_eq!(Refusal::check(number).unwrap_err().to_string(), words);
     }

@@ -1,0 +1,33 @@
+-- `loading::put_record` meets its contract: the step is put, then its exits. Assumes nothing.
+use mathlib.Core.Path.{_∙_, ap}
+use mathlib.Core.List.{[], _∷_}
+use Prim.Native.Nat.{_*_, _/_, _%_}
+use lib.Seq.{sets}
+use borrow.Author.Needs.{needs}
+use Rattle.table.specs.Table.{Table, exits, withLinks, withSteps}
+use Rattle.loading.specs.Parts.{withRecord}
+use Rattle.loading.proofs.put_record.Statement.{statement}
+use Rattle.loading.proofs.put_record.Tie as tie
+
+returns : tie.Need-returns
+unfolding withLinks withSteps withRecord
+returns c =
+    let step = c .before .before in
+    let wide = step .before .before in
+    let r = wide .before .args .r in
+    let p = wide .wide .result * exits in
+    let s = r .bits in
+    record {
+      table =
+          c .put-links .ensures .table ∙
+          ap
+          (λ (t : Table).
+          withLinks t (sets (t .targets) p (r .first ∷ r .second ∷ r .third ∷ r .fourth ∷ []))
+          (sets (t .bits) p (s % 2 ∷ s / 2 % 2 ∷ s / 4 % 2 ∷ s / 8 % 2 ∷ [])) (t .counts))
+          (step .put-step .ensures .table) ∙
+          rw (wide .wide .ensures);
+      size = c .put-links .ensures .size ∙ step .put-step .ensures .size;
+    }
+
+pub put-record-spec : {M : Type 1} → statement M
+put-record-spec = tie.close (tie.spec (λ c κs. search needs) (λ c κs. search needs) (λ c κs. search needs) returns)

@@ -1,0 +1,60 @@
+-- `writing::step_record` meets its contract: the bits of a step in use are 0 or 1. Assumes nothing.
+use Prim.Native.Nat.{ℕ, _<_}
+use native.Mathlib.Omega.{arith}
+use borrow.Author.Needs.{needs}
+use Rattle.table.specs.Table.{linkBit}
+use Rattle.table.proofs.Sound.{test-sound}
+use Rattle.words.specs.Words.{tableOf}
+use Rattle.image.specs.Image.{bitsOf, stepAdds, stepFieldsOf}
+use Rattle.records.specs.Parts.{added, recordFields}
+use Rattle.writing.proofs.step_record.Statement.{statement}
+use Rattle.writing.proofs.step_record.Tie as tie
+
+pack-requires : tie.Need-pack-requires
+pack-requires c κs =
+    let s = c .before .before .before .before .before in
+    let t = test-sound (tableOf (s .args .t .now)) (s .pre .1) in
+    let b : (e : ℕ) → e < 4 → linkBit (tableOf (s .args .t .now)) (s .args .i) e < 2 = λ e l. t .bits (s .args .i) e (s .pre .2) l in (
+      rw (c .before .before .before .before .bit-at .ensures) (b 0 (omega arith)),
+      rw (c .before .before .before .bit-at2 .ensures) (b 1 (omega arith)),
+      rw (c .before .before .bit-at3 .ensures) (b 2 (omega arith)),
+      rw (c .before .bit-at4 .ensures) (b 3 (omega arith)),
+      rw (c .own-at .ensures) (t .own (s .args .i) (s .pre .2)),
+    )
+
+returns : tie.Need-returns
+unfolding recordFields added stepFieldsOf stepAdds bitsOf
+returns c =
+    let s = c .before .before .before .before .before .before .before in
+    let o = s .before .own-at .ensures in
+    let b₃ = s .before .before .bit-at4 .ensures in
+    let b₂ = s .before .before .before .bit-at3 .ensures in
+    let b₁ = s .before .before .before .before .bit-at2 .ensures in
+    let b₀ = s .before .before .before .before .before .bit-at .ensures in
+    let kind = c .before .before .before .before .before .before .kind-at .ensures in
+    let content = c .before .before .before .before .before .content-at .ensures in
+    let t₀ = c .before .before .before .before .target-at .ensures in
+    let t₁ = c .before .before .before .target-at2 .ensures in
+    let t₂ = c .before .before .target-at3 .ensures in
+    let t₃ = c .before .target-at4 .ensures in
+    rw (kind, content, s .pack .ensures, o, b₀, b₁, b₂, b₃, t₀, t₁, t₂, t₃, c .cabin-at .ensures)
+
+pub step-record-spec : {M : Type 1} → statement M
+step-record-spec =
+    tie.close
+    (tie.spec
+    (λ c κs. search needs)
+    (λ c κs. search needs)
+    (λ c κs. search needs)
+    (λ c κs. search needs)
+    (λ c κs. search needs)
+    pack-requires
+    (λ c. search needs)
+    (λ c κs. search needs)
+    (λ c κs. search needs)
+    (λ c κs. search needs)
+    (λ c κs. search needs)
+    (λ c κs. search needs)
+    (λ c κs. search needs)
+    (λ c κs. search needs)
+    returns)
