@@ -5,7 +5,7 @@
 --   share-refusal    refusals 14 and 15 on a sound table
 --   list-quotas      a list of eight pairs is a bad list exactly if its quotas do not fit
 use mathlib.Core.Path.{_≡_, refl, sym, _∙_, ap, ap₂}
-use mathlib.Core.Bool.{Bool, true, false, _&&_, _||_, not, cond}
+use mathlib.Core.Bool.{Bool, true, false, _&&_, cond}
 use mathlib.Core.Logic.{⊎-elim}
 use mathlib.Core.List.{List, [], _∷_}
 use Prim.Native.Nat.{ℕ, _+_, _-_, _≤_, _<_}
@@ -13,17 +13,17 @@ use native.Mathlib.Omega.{arith}
 use lib.ListN.{length, getD}
 use lib.Dec.{eqb, leb, ltb}
 use borrow.Author.Tests.{eq-eqb, leb-true, le-leb, ltb-true, lt-ltb, lt-leb}
-use Rattle.finite.specs.Below.{all, total, tabulate}
-use Rattle.finite.proofs.Bools.{and-intro, and-left, and-right, same-test, test}
+use Rattle.finite.specs.Below.{total, tabulate}
+use Rattle.finite.proofs.Bools.{and-intro, and-left, and-right, same-test}
 use Rattle.finite.proofs.Below.{le-or-lt, all-ext, getD-tabulate}
 use Rattle.finite.proofs.Totals.{total-ext, total-add, total-rest}
 use Rattle.table.specs.Table.{Table, cabinCount, quotaNumbers, stepsInUse}
-use Rattle.table.specs.Cabins.{guaranteeOf, limitOf, quotasFit, listFits, unmet, reserved, atLimit, noneToSpare, chargesFit, charge, freeSteps}
+use Rattle.table.specs.Cabins.{guaranteeOf, limitOf, quotasFit, listFits, unmet, reserved, atLimit, noneToSpare, withinLimits, chargesFit, charge, freeSteps}
 use Rattle.table.specs.Sound.{Sound}
 use Rattle.table.specs.Answer.{cabinAtLimit, stepsReserved, first}
 use Rattle.table.proofs.Formed.{sound-formed}
 use Rattle.table.proofs.Cabins.{formed-charges}
-use Rattle.cabins.specs.Parts.{given, share, withinLimits, sharesFit, shareRefusal}
+use Rattle.cabins.specs.Parts.{given, share, sharesFit, shareRefusal}
 
 pub list-quotas : (capacity : ℕ) (quotas : List ℕ) → length quotas ≡ quotaNumbers → quotasFit capacity quotas ≡ listFits capacity quotas
 unfolding listFits
@@ -55,8 +55,8 @@ shares-agree capacity quotas f g same =
 -- steps is the number of steps in use that the charges come to
 pub shares-charges : (capacity steps : ℕ) (quotas : List ℕ) (g : ℕ → ℕ) → total cabinCount g + 1 ≡ steps →
     sharesFit capacity quotas g ≡ (leb steps capacity && chargesFit quotas g (capacity - steps))
-unfolding sharesFit withinLimits chargesFit
-shares-charges capacity steps quotas g n = both (all cabinCount (λ c. leb (g c) (limitOf quotas c)))
+unfolding sharesFit chargesFit
+shares-charges capacity steps quotas g n = both (withinLimits quotas g)
   where
     fits : ltb (total cabinCount (share quotas g)) capacity ≡ (leb steps capacity && leb (total cabinCount (unmet quotas g)) (capacity - steps))
     fits =

@@ -9,9 +9,9 @@ use mathlib.Core.List.{List, [], _∷_}
 use Prim.Native.Nat.{ℕ, _+_}
 use lib.ListN.{getD}
 use lib.Dec.{leb, ltb}
-use Rattle.finite.specs.Below.{all, total}
+use Rattle.finite.specs.Below.{total}
 use Rattle.table.specs.Table.{cabinCount}
-use Rattle.table.specs.Cabins.{guaranteeOf, limitOf, unmet, atLimit}
+use Rattle.table.specs.Cabins.{guaranteeOf, unmet, atLimit, withinLimits}
 use Rattle.table.specs.Answer.{cabinAtLimit, stepsReserved, first}
 
 abbrev pub given : List ℕ → ℕ → ℕ
@@ -19,9 +19,6 @@ given charges c = getD charges c 0
 
 unfoldable pub share : List ℕ → (ℕ → ℕ) → ℕ → ℕ
 share quotas charge c = unmet quotas charge c + charge c
-
-unfoldable pub withinLimits : List ℕ → (ℕ → ℕ) → Bool
-withinLimits quotas charge = all cabinCount (λ c. leb (charge c) (limitOf quotas c))
 
 unfoldable pub sharesFit : ℕ → List ℕ → (ℕ → ℕ) → Bool
 sharesFit capacity quotas charge = withinLimits quotas charge && ltb (total cabinCount (share quotas charge)) capacity

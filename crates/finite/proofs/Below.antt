@@ -1,18 +1,17 @@
 -- Laws of tests, counts, searches and rounds over the numbers below n. Assumes nothing.
-use mathlib.Core.Path.{_≡_, refl, sym, _∙_, ap, ap₂, subst}
+use mathlib.Core.Path.{_≡_, refl, sym, _∙_, ap, ap₂}
 use mathlib.Core.Bool.{Bool, true, false, _&&_, _||_, not, true≢false}
 use mathlib.Core.Logic.{_⊎_, inl, inr, ⊎-elim}
-use mathlib.Core.List.{List, [], _∷_}
+use mathlib.Core.List.{_∷_}
 use Prim.Native.Nat.{ℕ, zero, suc, _+_, _-_, _≤_, _<_}
 use native.Mathlib.Nat.{eq-or-lt-of-le, le-of-suc-le-suc, not-suc-le-zero}
-use native.Mathlib.Numerals.{add-one}
 use native.Mathlib.Omega.{arith}
 use lib.ListN.{length, getD, set, length-set}
 use lib.Seq.{ext-getD, getD-set-same, getD-set-other}
 use lib.Dec.{leb, eqb}
 use borrow.Author.Tests.{leb-true, leb-false, eqb-true, eqb-false}
 use Rattle.finite.specs.Below.{all, any, one, count, find, lowest, rounds, tabulateFrom, tabulate}
-use Rattle.finite.proofs.Bools.{and-intro, and-left, and-right, or-left, or-right, or-elim, or-false-left, or-false-right, test, clash, refute}
+use Rattle.finite.proofs.Bools.{and-intro, and-left, and-right, or-left, or-right, or-elim, test, clash, refute}
 
 -- two numbers compared
 pub le-or-lt : (a b : ℕ) → (a ≤ b) ⊎ (b < a)

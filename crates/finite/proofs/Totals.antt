@@ -5,7 +5,7 @@
 --   total-rest      one term, and the others
 --   total-same      terms that are no higher, with the same total, are the same
 --   total-count     counts that share out what is counted: their total is the whole count
-use mathlib.Core.Path.{_≡_, refl, sym, _∙_, ap}
+use mathlib.Core.Path.{_≡_, refl, _∙_, ap}
 use mathlib.Core.Bool.{Bool, true, false, cond}
 use mathlib.Core.Logic.{⊎-elim}
 use Prim.Native.Nat.{ℕ, zero, suc, _+_, _≤_, _<_}
@@ -15,7 +15,7 @@ use native.Mathlib.Omega.{arith}
 use lib.Dec.{eqb}
 use borrow.Author.Tests.{eq-eqb, ne-eqb}
 use Rattle.finite.specs.Below.{one, count, total}
-use Rattle.finite.proofs.Below.{eq-or-ne, below-suc}
+use Rattle.finite.proofs.Below.{below-suc}
 
 pub total-next : (n : ℕ) (f : ℕ → ℕ) → total (n + 1) f ≡ total n f + f n
 unfolding total

@@ -7,14 +7,13 @@ use mathlib.Core.Logic.{⊎-elim}
 use mathlib.Core.List.{List, [], _∷_}
 use Prim.Native.Nat.{ℕ, _+_, _-_, _≤_, _<_}
 use native.Mathlib.Omega.{arith}
-use lib.ListN.{length}
 use lib.Dec.{eqb}
 use borrow.Author.Tests.{eq-eqb, ne-eqb, lt-leb}
 use Rattle.finite.specs.Below.{one, count}
 use Rattle.finite.proofs.Bools.{and-intro, and-left, and-right, clash, refute, same-test, not-true-false}
 use Rattle.finite.proofs.Below.{eq-or-ne, count-ext, count-none, count-split, count-same, count-change}
-use Rattle.table.specs.declared.Answer.the-variants.{Refused, Given}
-use Rattle.table.specs.Table.{Table, cabinCount, inUse, cabinOf, stepsInUse, withLinks}
+use Rattle.table.specs.declared.Answer.the-variants.{Given}
+use Rattle.table.specs.Table.{Table, inUse, cabinOf, stepsInUse, withLinks}
 use Rattle.table.specs.Cabins.{guaranteeOf, limitOf, atLimit, noneToSpare, charged, charge, freeSteps}
 use Rattle.table.specs.Sound.{Sound}
 use Rattle.table.specs.Answer.{Outcome, notSound, notInUse, badExit, exitFilled, exitEmpty, badKind, notKeyLine, full, cabinAtLimit, stepsReserved, badCabins, first, unless, refusalOf, firstOf, secondOf}
@@ -25,10 +24,8 @@ use Rattle.table.proofs.Formed.{sound-formed, formed-wired}
 use Rattle.table.proofs.Cabins.{sound-shares, formed-charges, guarantee-free, charged-used, used-charged, Adds, charge-more, charge-stays}
 use Rattle.table.proofs.Edits.{number-given, adds}
 use Rattle.table.proofs.Clear.{Cleared, reached-in-use, emptied-used, emptied-steps, formed-emptied}
-use Rattle.table.proofs.Links.{sound-wired}
 use Rattle.table.proofs.Calls.{unless-zero, unless-refused, past-sound, add-fits, ClearFits, clear-fits, clear-cleared}
 use Rattle.table.proofs.Squeeze.{squeeze-fits, charge-same, used-same}
-use Rattle.keyline.specs.declared.Command.{Command}
 use Rattle.keyline.specs.declared.Command.the-variants.{Add, Link, Clear, Count}
 use Rattle.keyline.specs.declared.Decoded.{Decoded}
 use Rattle.keyline.specs.declared.Decoded.the-variants.{Line, Nothing}
@@ -37,7 +34,7 @@ use Rattle.history.specs.History.{First, Call, add, link, clear, read, t
 use Rattle.history.specs.Acts.{told}
 use Rattle.history.specs.Accounts.{cabinFor, gave, gone, account, tally}
 use Rattle.history.specs.Demands.{NotFull, GuaranteeDemand, ChargesDemand}
-use Rattle.history.proofs.Demand1.{told-refusal, Performed, performed}
+use Rattle.history.proofs.Demand1.{told-refusal, performed}
 use Rattle.history.proofs.Agree.{cond-same, heard-refused, call-agrees}
 use Rattle.history.proofs.Demand3.{begun, after-sound}
 

@@ -19,7 +19,7 @@ use Rattle.table.proofs.Formed.{sound-formed}
 use Rattle.table.proofs.Spine.{strong-chain-short}
 use Rattle.table.proofs.Edits.{sound-fresh}
 use Rattle.table.proofs.Plan.{plan-fresh}
-use Rattle.image.specs.Image.{accepted, imageTable, imagePlan, loadCall}
+use Rattle.image.specs.Image.{accepted, imageTable, loadCall}
 use Rattle.image.proofs.Laws.{accepted-sound, accepted-plan}
 use Rattle.history.specs.History.{First, fresh, load, Call, run, tableAfter, heardBy, planAfter, drawnBy, firstRefusal, planFirstRefusal, firstTable, firstPlan}
 use Rattle.history.specs.Demands.{Demand3}

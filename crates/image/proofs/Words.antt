@@ -9,7 +9,7 @@ use lib.ListN.{length, getD}
 use lib.Seq.{getD-append-add}
 use borrow.Author.Tests.{eq-eqb}
 use Rattle.finite.proofs.Bools.{and-intro}
-use Rattle.image.specs.Image.{Edition, headerFieldCount, stepFieldCount, word, wordAt, words, recordSize, recordBytes, fieldAt, recordAt}
+use Rattle.image.specs.Image.{Edition, headerFieldCount, stepFieldCount, imageSize, word, wordAt, words, recordSize, recordBytes, fieldAt, recordAt}
 
 -- the sizes of an edition's records
 abbrev pub headerSize : Edition → ℕ
@@ -17,6 +17,10 @@ headerSize v = recordSize (headerFieldCount v)
 
 abbrev pub stepSize : Edition → ℕ
 stepSize v = recordSize (stepFieldCount v)
+
+-- a step record more
+pub image-next : (v : Edition) (n : ℕ) → imageSize v (suc n) ≡ imageSize v n + stepSize v
+image-next v n = omega arith
 
 pub length-words : (ns : List ℕ) → length (words ns) ≡ 2 * length ns
 unfolding words word

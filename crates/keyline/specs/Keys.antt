@@ -6,7 +6,7 @@
 --   keyConditions        the conditions of its refusals with their numbers, in their order
 --   countsCall t         the counts alone: what H*4A answers
 --   perform, keyCall     the call that a command makes, and the call of a key line
-use mathlib.Core.Bool.{Bool, true, _&&_, not, cond}
+use mathlib.Core.Bool.{Bool, true, _&&_, cond}
 use mathlib.Core.List.{List, [], _∷_, _++_}
 use Prim.Native.Nat.{ℕ, zero, suc, _+_, _*_, _-_}
 use lib.ListN.{length, getD}

@@ -26,6 +26,7 @@ use Rattle.table.specs.Answer.{first, unless}
 use Rattle.table.specs.Calls.{refusedTable}
 use Rattle.words.specs.Words.{blankTable}
 use Rattle.image.specs.Image.{Edition, edition1, edition2, headerFieldCount, stepFieldCount, recordSize, imageSize, editionIn, stepPlace, capacityIn, lastIn, countIn, quotasBy, quotasIn, numberIn, kindIn, contentIn, bitsIn, targetIn, cabinBy, cabinIn, bitIn, recordOf, hasRecord, recordField, counted, imageTable, accepted, loadCall}
+use Rattle.image.proofs.Words.{image-next}
 use Rattle.image.proofs.Loaded.{test-accepted, accepted-test, accepted-capacity, record-below, record-number, said-record, said-none, has-record-any}
 use Rattle.records.specs.declared.StepRecord.{StepRecord}
 use Rattle.records.specs.Parts.{editionOf, cabinAt, stepRead}
@@ -51,10 +52,7 @@ filledTable bs k =
       quotas = quotasIn bs;
     }
 
--- the step records of an edition have one size, and it is not 0
-next-place : (e : Edition) (k : ℕ) → imageSize e (suc k) ≡ imageSize e k + recordSize (stepFieldCount e)
-next-place e k = omega arith
-
+-- no two places are the same: the step records of an edition have one size, and it is not 0
 place-only : (e : Edition) (j k : ℕ) → imageSize e j ≡ imageSize e k → j ≡ k
 unfolding recordSize
 place-only edition1 j k h = omega arith
@@ -190,7 +188,7 @@ module _ (bs : List ℕ) where
     filled-more v size h z n =
         record {
           done = suc (f .done);
-          place = omega (arith, n, f .place, next-place (editionIn bs) (f .done));
+          place = omega (arith, n, f .place, image-next (editionIn bs) (f .done));
           within = omega (arith, n, s .0 .room);
           fits = next-fits;
           distinct = λ j k l m. ⊎-elim (λ (x : k ≡ f .done). rw x (next-free z j (rw x at l))) (λ g. f .distinct j k l g) (below-suc m);

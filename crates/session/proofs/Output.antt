@@ -16,7 +16,7 @@ use borrow.Author.Tests.{lt-ltb, le-ltb, ne-eqb}
 use Rattle.finite.proofs.Bools.{test}
 use Rattle.finite.proofs.Below.{le-or-lt}
 use Rattle.table.specs.Answer.{Outcome}
-use Rattle.table.specs.Table.{Table, places}
+use Rattle.table.specs.Table.{Table}
 use Rattle.keyline.specs.declared.Decoded.the-variants.{Nothing}
 use Rattle.keyline.specs.Keys.{isLine, decode, keyCall}
 use Rattle.keylines.proofs.Laws.{not-line, decode-nothing}

@@ -5,15 +5,13 @@
 use mathlib.Core.Path.{_≡_, refl, sym, _∙_, ap}
 use mathlib.Core.Bool.{Bool, true, false, not}
 use mathlib.Core.Logic.{⊎-elim}
-use Prim.Native.Nat.{ℕ, zero, suc, _+_, _≤_, _<_}
-use native.Mathlib.Nat.{not-suc-le-zero}
-use native.Mathlib.Numerals.{add-one}
+use Prim.Native.Nat.{ℕ, _+_, _≤_, _<_}
 use native.Mathlib.Omega.{arith}
 use lib.Dec.{eqb}
 use borrow.Author.Tests.{eqb-true, eq-eqb, ne-eqb}
 use Rattle.finite.specs.Below.{one, all, count, total}
 use Rattle.finite.proofs.Bools.{refute, same-test}
-use Rattle.finite.proofs.Below.{eq-or-ne, below-suc, count-le, count-change, count-none}
+use Rattle.finite.proofs.Below.{eq-or-ne, count-le, count-change, count-none}
 use Rattle.finite.proofs.Loops.{count-zero, count-hit, count-miss, none-fail}
 use Rattle.finite.proofs.Totals.{total-none, total-one, total-count}
 use Rattle.withdraw.specs.Search.{lands}

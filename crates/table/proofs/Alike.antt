@@ -1,6 +1,6 @@
 -- Two tables with the same plain plan, field by field: what a repair keeps. Assumes nothing.
 --   Alike t u     u has t's capacity, last number, quotas, steps in use, kinds, contents, targets and cabins; bits and counters may differ
-use mathlib.Core.Path.{_≡_, refl, sym, _∙_, ap, ap₂}
+use mathlib.Core.Path.{_≡_, refl, _∙_, ap₂}
 use mathlib.Core.Bool.{Bool, _&&_}
 use Prim.Native.Nat.{ℕ}
 use lib.Dec.{eqb}

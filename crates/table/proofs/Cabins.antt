@@ -11,16 +11,16 @@ use mathlib.Core.Path.{_≡_, refl, sym, _∙_, ap, ap₂}
 use mathlib.Core.Bool.{Bool, true, false, _&&_, not, cond}
 use mathlib.Core.Logic.{⊎-elim}
 use mathlib.Core.List.{List}
-use Prim.Native.Nat.{ℕ, suc, _+_, _-_, _≤_, _<_}
+use Prim.Native.Nat.{ℕ, _+_, _-_, _≤_, _<_}
 use native.Mathlib.Omega.{arith}
 use lib.Dec.{eqb, leb}
 use borrow.Author.Tests.{eqb-true, eqb-false, eq-eqb, ne-eqb, leb-true, leb-false, le-leb}
 use Rattle.finite.specs.Below.{all, one, count, total}
 use Rattle.finite.proofs.Bools.{and-intro, and-left, and-right, clash, refute, test}
-use Rattle.finite.proofs.Below.{le-or-lt, eq-or-ne, all-at, all-intro, count-le, count-mono, count-none, count-change, count-ext}
+use Rattle.finite.proofs.Below.{le-or-lt, eq-or-ne, all-at, all-intro, count-le, count-mono, count-none, count-change}
 use Rattle.finite.proofs.Totals.{total-ext, total-le, total-add, total-none, total-one, total-rest, total-count}
-use Rattle.table.specs.Table.{Table, cabinCount, quotaNumbers, inUse, cabinOf, stepsInUse}
-use Rattle.table.specs.Cabins.{guaranteeOf, limitOf, quotasFit, listFits, unmet, reserved, atLimit, noneToSpare, chargesFit, charged, charge, freeSteps}
+use Rattle.table.specs.Table.{Table, cabinCount, inUse, cabinOf, stepsInUse}
+use Rattle.table.specs.Cabins.{guaranteeOf, limitOf, quotasFit, unmet, reserved, atLimit, noneToSpare, withinLimits, chargesFit, charged, charge, freeSteps}
 use Rattle.table.specs.Sound.{Sound}
 use Rattle.table.proofs.Formed.{Formed}
 
@@ -51,16 +51,16 @@ module _ (capacity : ℕ) (quotas : List ℕ) where
 
 module _ (quotas : List ℕ) (charge : ℕ → ℕ) (free : ℕ) where
   pub charges-limit : chargesFit quotas charge free ≡ true → (c : ℕ) → c < cabinCount → charge c ≤ limitOf quotas c
-  unfolding chargesFit
-  charges-limit h c l = leb-true _ _ (all-at cabinCount _ (and-left (all cabinCount (λ c. leb (charge c) (limitOf quotas c))) _ h) c l)
+  unfolding chargesFit withinLimits
+  charges-limit h c l = leb-true _ _ (all-at cabinCount _ (and-left (withinLimits quotas charge) _ h) c l)
 
   pub charges-reserve : chargesFit quotas charge free ≡ true → total cabinCount (unmet quotas charge) ≤ free
   unfolding chargesFit
-  charges-reserve h = leb-true _ _ (and-right (all cabinCount (λ c. leb (charge c) (limitOf quotas c))) _ h)
+  charges-reserve h = leb-true _ _ (and-right (withinLimits quotas charge) _ h)
 
   pub charges-test : ((c : ℕ) → c < cabinCount → charge c ≤ limitOf quotas c) → total cabinCount (unmet quotas charge) ≤ free →
       chargesFit quotas charge free ≡ true
-  unfolding chargesFit
+  unfolding chargesFit withinLimits
   charges-test limits reserve = and-intro (all-intro cabinCount _ (λ c l. le-leb _ _ (limits c l))) (le-leb _ _ reserve)
 
 -- a step in use other than 0

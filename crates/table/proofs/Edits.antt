@@ -1,28 +1,27 @@
 -- Fresh, link and add keep a table sound. Assumes nothing.
 --   number-given     the number that add gives is free, below the capacity and not 0
 --   sound-fresh sound-link sound-add
-use mathlib.Core.Path.{_≡_, refl, sym, _∙_, ap, ap₂, subst}
-use mathlib.Core.Bool.{Bool, true, false, _&&_, _||_, not, cond}
+use mathlib.Core.Path.{_≡_, refl, sym, _∙_, ap, subst}
+use mathlib.Core.Bool.{Bool, true, false, _&&_, not}
 use mathlib.Core.Logic.{_⊎_, inl, inr, ⊎-elim}
 use Prim.Native.Nat.{ℕ, zero, suc, _+_, _*_, _-_, _≤_, _<_}
 use native.Mathlib.Omega.{arith}
 use mathlib.Core.List.{List}
 use lib.ListN.{length, getD, set, replicate, length-set}
 use lib.Seq.{getD-set-same, getD-set-other}
-use lib.Dec.{eqb, ltb}
+use lib.Dec.{eqb}
 use borrow.Author.Tests.{eqb-true, eqb-false, eq-eqb, ne-eqb, lt-ltb, le-ltb}
-use Rattle.finite.specs.Below.{count, find}
-use Rattle.finite.proofs.Bools.{and-intro, and-left, and-right, clash, refute, test, same-test, or-left, or-right, or-elim, not-true-false}
+use Rattle.finite.proofs.Bools.{and-left, and-right, clash, refute, same-test, or-left, or-right, or-elim, not-true-false}
 use Rattle.finite.proofs.Below.{le-or-lt, eq-or-ne, count-none, count-gap, walk, walk-add, find-reaches, find-keeps}
 use Rattle.table.specs.Table.{Table, places, exits, counters, cabinCount, quotaNumbers, exitPlace, counterPlace, inUse, kindOf, contentOf, ownBit, cabinOf, targetOf, linkBit, counterOf, holds, strong, leads, stronglyLinked, countsAt, linksTo, stepsInUse, withLinks, withSteps}
 use Rattle.table.specs.Cabins.{listFits, atLimit, noneToSpare, charge, freeSteps}
-use Rattle.table.specs.Sound.{Shape, Blank, Sound, kindFits, contentFits, sound}
+use Rattle.table.specs.Sound.{Blank, Sound, kindFits, contentFits}
 use Rattle.table.specs.Calls.{freshTable, after, numberGiven, relink, withStep, addTable, weakBit, linkTable}
-use Rattle.table.proofs.Links.{holds-target, target-holds, empty-target, target-empty, strong-holds, bit-strong, strong-bit, strongly-exit, exit-strongly}
+use Rattle.table.proofs.Links.{holds-target, target-holds, strong-holds, bit-strong, strong-bit, strongly-exit, exit-strongly}
 use Rattle.table.proofs.Relink.{relink-cabin, relink-target, relink-bit, relink-target-other, relink-bit-other}
-use Rattle.table.proofs.Formed.{Formed, Fit, at-exit, sound-formed, formed-place, formed-below, formed-relink}
+use Rattle.table.proofs.Formed.{Formed, Fit, at-exit, sound-formed, formed-place, formed-relink}
 use Rattle.table.proofs.Cabins.{Shares, sound-shares, shares-fewer, Adds, shares-more, shares-alone}
-use Rattle.table.proofs.Spine.{Spine, Joins, sound-spine, spine-sound, spine-fewer, spine-more, spine-ext}
+use Rattle.table.proofs.Spine.{Joins, sound-spine, spine-sound, spine-fewer, spine-more, spine-ext}
 
 -- strength is a matter of the target, the link's bit and the target's own bit
 pub strong-same : (t u : Table) (k f : ℕ) → targetOf u k f ≡ targetOf t k f → linkBit u k f ≡ linkBit t k f →

@@ -2,24 +2,23 @@
 -- Assumes nothing.
 --   Formed t        all clauses of `Sound` but those on rings and on reach, with exact counters for free steps too
 --   Fit t j b       (j, b) may stand in an exit: it is empty, or a link to a step in use
-use mathlib.Core.Path.{_≡_, refl, sym, _∙_, ap, subst}
-use mathlib.Core.Bool.{Bool, true, false, _&&_, not, cond}
+use mathlib.Core.Path.{_≡_, sym, _∙_, ap}
+use mathlib.Core.Bool.{true, false, _&&_, not}
 use mathlib.Core.Logic.{_⊎_, inl, inr, ⊎-elim}
-use Prim.Native.Nat.{ℕ, zero, suc, _+_, _*_, _-_, _/_, _%_, _≤_, _<_}
+use Prim.Native.Nat.{ℕ, _*_, _-_, _/_, _%_, _≤_, _<_}
 use native.Mathlib.Omega.{arith}
-use lib.ListN.{length, getD, set, length-set}
+use lib.ListN.{length, getD, length-set}
 use lib.Seq.{getD-set-same, getD-set-other}
 use lib.Dec.{eqb}
-use borrow.Author.Tests.{eqb-true, eqb-false, eq-eqb, ne-eqb}
-use Rattle.finite.specs.Below.{count}
-use Rattle.finite.proofs.Bools.{and-intro, and-left, and-right, clash, refute, test, not-true-false}
+use borrow.Author.Tests.{eqb-true, eqb-false}
+use Rattle.finite.proofs.Bools.{and-left, and-right, clash, refute, test, not-true-false}
 use Rattle.finite.proofs.Below.{eq-or-ne, count-none}
-use Rattle.table.specs.Table.{Table, places, exits, counters, cabinCount, exitPlace, inUse, kindOf, contentOf, ownBit, cabinOf, targetOf, linkBit, counterOf, holds, strong, countsAt, linksTo, withLinks, withSteps}
+use Rattle.table.specs.Table.{Table, places, exits, cabinCount, inUse, kindOf, contentOf, ownBit, cabinOf, targetOf, linkBit, counterOf, holds, countsAt, linksTo, withLinks, withSteps}
 use Rattle.table.specs.Sound.{Shape, Blank, Sound, kindFits}
 use Rattle.table.specs.Calls.{relink}
 use Rattle.table.specs.Clear.{flipped}
 use Rattle.table.proofs.Links.{Wired, sound-wired, used-below, used-place, holder-used, holds-target, target-holds, empty-target, target-empty}
-use Rattle.table.proofs.Relink.{Exact, exit-place-below, exit-place-split, relink-shape, relink-target, relink-bit, relink-target-other, relink-bit-other, relink-exact}
+use Rattle.table.proofs.Relink.{Exact, exit-place-split, relink-shape, relink-target, relink-bit, relink-target-other, relink-bit-other, relink-exact}
 
 pub record Formed (t : Table) : Type 0 where
   pub shape : Shape t

@@ -1,16 +1,16 @@
 -- Laws of a table's steps and links: a link stands in a step in use and leads to one. Assumes nothing.
 --   Wired t     what these laws ask of a table: a part of `Sound`, which keeps nothing of bits, counters and strengths
-use mathlib.Core.Path.{_≡_, refl, sym, _∙_, ap, subst}
-use mathlib.Core.Bool.{Bool, true, false, _&&_, _||_, not, true≢false}
-use mathlib.Core.Logic.{_⊎_, inl, inr, ⊎-elim}
-use Prim.Native.Nat.{ℕ, zero, suc, _+_, _*_, _≤_, _<_}
+use mathlib.Core.Path.{_≡_, ap}
+use mathlib.Core.Bool.{true, false, _&&_, not}
+use mathlib.Core.Logic.{_⊎_, ⊎-elim}
+use Prim.Native.Nat.{ℕ, _+_, _*_, _≤_, _<_}
 use native.Mathlib.Omega.{arith}
-use lib.ListN.{length, getD, List·getD-eq-default}
+use lib.ListN.{getD, List·getD-eq-default}
 use lib.Dec.{eqb}
 use borrow.Author.Tests.{eqb-true, eqb-false, eq-eqb, ne-eqb}
-use Rattle.finite.proofs.Bools.{and-intro, and-left, and-right, clash, refute, test, not-true-false, not-false-true}
+use Rattle.finite.proofs.Bools.{and-intro, and-left, and-right, clash, test, not-true-false, not-false-true}
 use Rattle.finite.proofs.Below.{le-or-lt, any-at, any-intro}
-use Rattle.table.specs.Table.{Table, places, exits, exitPlace, counterPlace, inUse, targetOf, linkBit, ownBit, holds, strong, leads, linked, stronglyLinked, countsAt}
+use Rattle.table.specs.Table.{Table, places, exits, exitPlace, inUse, targetOf, linkBit, ownBit, holds, strong, leads, linked, stronglyLinked, countsAt}
 use Rattle.table.specs.Sound.{Shape, Blank, Sound}
 
 -- an exit that holds a link has a target other than 0, and the other way round

@@ -2,23 +2,23 @@
 -- Assumes nothing.
 --   plan-used plan-target plan-holds plan-linked plan-count plan-charge   the plan says what the table says
 --   plan-fresh plan-relink plan-with-step plan-cleared        the plan after an edit
-use mathlib.Core.Path.{_≡_, refl, sym, _∙_, ap, ap₂, subst, fun-ext}
+use mathlib.Core.Path.{_≡_, refl, sym, _∙_, ap, ap₂, fun-ext}
 use mathlib.Core.Bool.{Bool, true, false, _&&_, not, cond}
-use mathlib.Core.Logic.{_⊎_, inl, inr, ⊎-elim}
+use mathlib.Core.Logic.{_⊎_, ⊎-elim}
 use mathlib.Core.List.{List}
 use mathlib.Core.Option.{Option, none, some}
-use Prim.Native.Nat.{ℕ, zero, suc, _+_, _*_, _≤_, _<_}
+use Prim.Native.Nat.{ℕ, _<_}
 use native.Mathlib.Omega.{arith}
-use lib.ListN.{length, getD, set, replicate, List·getD-eq-default}
+use lib.ListN.{set, replicate, List·getD-eq-default}
 use lib.Dec.{eqb}
-use borrow.Author.Tests.{eqb-true, eq-eqb, ne-eqb}
-use Rattle.finite.specs.Below.{any, count, tabulate, tabulateFrom}
+use borrow.Author.Tests.{eqb-true, eq-eqb}
+use Rattle.finite.specs.Below.{tabulate, tabulateFrom}
 use Rattle.finite.specs.Reach.{marked, reach, reaches}
 use Rattle.finite.proofs.Bools.{clash, refute, test, same-test}
 use Rattle.finite.proofs.Below.{le-or-lt, eq-or-ne, any-ext, count-ext, length-tabulate, getD-tabulate, tabulate-ext, tabulate-set}
-use Rattle.table.specs.Table.{Table, places, exits, cabinCount, inUse, kindOf, contentOf, cabinOf, targetOf, holds, leads, linked, stepsInUse, withLinks, withSteps}
+use Rattle.table.specs.Table.{Table, exits, cabinCount, inUse, kindOf, contentOf, cabinOf, targetOf, holds, leads, linked, stepsInUse, withLinks, withSteps}
 use Rattle.table.specs.Cabins.{charged, charge}
-use Rattle.table.specs.Sound.{Shape, Blank, contentFits}
+use Rattle.table.specs.Sound.{contentFits}
 use Rattle.table.specs.Calls.{freshTable, relink, withStep}
 use Rattle.table.specs.Plan.{Plan, PlanStep, planStep, planOf, stepOf, isStep, stepTarget, stepOfCabin, planInUse, planTarget, planHolds, planLinked, planCount, planCharge, freshPlan, retargeted, replan, withTarget, pruned}
 use Rattle.table.proofs.Links.{Wired, used-below, holder-used, target-holds}

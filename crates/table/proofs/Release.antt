@@ -1,26 +1,22 @@
 -- Rule 4 of clearing: the steps still doubtful are freed, and of the others nothing but counters changes. Assumes nothing.
 --   Released t d v   v is t without the steps marked in d
-use mathlib.Core.Path.{_≡_, refl, sym, _∙_, ap, ap₂, subst}
-use mathlib.Core.Bool.{Bool, true, false, _&&_, _||_, not, cond}
-use mathlib.Core.Logic.{_⊎_, inl, inr, ⊎-elim}
+use mathlib.Core.Path.{_≡_, refl, sym, _∙_, ap, subst}
+use mathlib.Core.Bool.{Bool, true, false, _&&_, not, cond}
+use mathlib.Core.Logic.{_⊎_, inl, ⊎-elim}
 use mathlib.Core.List.{List}
-use Prim.Native.Nat.{ℕ, zero, suc, _+_, _*_, _-_, _≤_, _<_}
+use Prim.Native.Nat.{ℕ, suc, _*_, _-_, _≤_, _<_}
 use native.Mathlib.Omega.{arith}
 use lib.ListN.{length, getD, set, length-set}
 use lib.Seq.{getD-set-same, getD-set-other}
-use lib.Dec.{eqb}
-use borrow.Author.Tests.{eqb-true, eq-eqb, ne-eqb}
-use Rattle.finite.specs.Below.{rounds}
 use Rattle.finite.specs.Reach.{marked}
 use Rattle.finite.proofs.Bools.{and-right, clash, refute, test, not-true-false}
-use Rattle.finite.proofs.Below.{le-or-lt, eq-or-ne, below-suc, rounds-induct}
-use Rattle.table.specs.Table.{Table, places, exits, counters, exitPlace, counterPlace, inUse, kindOf, contentOf, ownBit, cabinOf, targetOf, linkBit, counterOf, holds, linked, countsAt, linksTo, withLinks, withSteps}
-use Rattle.table.specs.Sound.{Shape, Blank}
+use Rattle.finite.proofs.Below.{eq-or-ne, below-suc, rounds-induct}
+use Rattle.table.specs.Table.{Table, places, exits, counters, counterPlace, inUse, kindOf, contentOf, ownBit, cabinOf, targetOf, linkBit, counterOf, holds, linked, countsAt, linksTo, withLinks, withSteps}
 use Rattle.table.specs.Calls.{relink}
 use Rattle.table.specs.Clear.{unlinked, blanked, eachDoubtful, release}
-use Rattle.table.proofs.Links.{holds-target, target-holds, target-empty, empty-target, exit-linked}
+use Rattle.table.proofs.Links.{target-holds, exit-linked}
 use Rattle.table.proofs.Relink.{counter-place-same, counter-place-below, relink-target, relink-bit, relink-target-other, relink-bit-other}
-use Rattle.table.proofs.Formed.{Formed, formed-place, formed-below, formed-wired, formed-relink, none-lead}
+use Rattle.table.proofs.Formed.{Formed, formed-place, formed-below, formed-relink, none-lead}
 
 -- the fields of the steps, which unlinking keeps
 pub record SameSteps (t u : Table) : Type 0 where

@@ -2,28 +2,27 @@
 --   keptIn r      the steps in use that are not doubtful
 --   Repairing t r what holds each time round: the table has t's plan, is in order, and its strong links hold the kept steps together
 --   repair-done   after the rounds nothing is wanted
-use mathlib.Core.Path.{_≡_, refl, sym, _∙_, ap, subst}
-use mathlib.Core.Bool.{Bool, true, false, _&&_, _||_, not, cond}
-use mathlib.Core.Logic.{_⊎_, inl, inr, ⊎-elim}
-use mathlib.Core.List.{List}
+use mathlib.Core.Path.{_≡_, refl, sym, _∙_, ap}
+use mathlib.Core.Bool.{Bool, true, false, _&&_, _||_, not}
+use mathlib.Core.Logic.{_⊎_, ⊎-elim}
 use Prim.Native.Nat.{ℕ, zero, suc, _+_, _≤_, _<_}
 use native.Mathlib.Omega.{arith}
-use lib.ListN.{length, getD, set, length-set}
+use lib.ListN.{length, set, length-set}
 use lib.Seq.{getD-set-same, getD-set-other}
 use lib.Dec.{eqb, ltb}
-use borrow.Author.Tests.{eqb-true, eq-eqb, ne-eqb, lt-ltb, le-ltb}
-use Rattle.finite.specs.Below.{any, one, count, lowest}
-use Rattle.finite.specs.Reach.{Chain, start, then, marked, reaches}
-use Rattle.finite.proofs.Bools.{and-intro, and-left, and-right, or-left, or-right, or-elim, clash, refute, test, same-test, not-true-false}
-use Rattle.finite.proofs.Below.{le-or-lt, eq-or-ne, any-at, any-intro, any-none, count-change, count-pos, lowest-passes, lowest-none}
+use borrow.Author.Tests.{eq-eqb, ne-eqb, lt-ltb, le-ltb}
+use Rattle.finite.specs.Below.{one, lowest}
+use Rattle.finite.specs.Reach.{marked, reaches}
+use Rattle.finite.proofs.Bools.{and-intro, and-left, and-right, or-right, clash, refute, same-test, not-true-false}
+use Rattle.finite.proofs.Below.{le-or-lt, eq-or-ne, any-at, any-intro, count-change, count-pos, lowest-passes, lowest-none}
 use Rattle.finite.proofs.Reach.{chain-map, chain-keeps, reach-sound, reach-complete}
-use Rattle.table.specs.Table.{Table, places, inUse, linked, stronglyLinked}
+use Rattle.table.specs.Table.{Table, inUse, linked}
 use Rattle.table.specs.Clear.{Repair, wanted, restored, repair, size}
 use Rattle.table.proofs.Links.{linked-used, linked-below, strongly-linked}
 use Rattle.table.proofs.Formed.{Formed, formed-wired, formed-below}
 use Rattle.table.proofs.Spine.{Spine, spine-chain, spine-ext, spine-more}
 use Rattle.table.proofs.Alike.{Alike, alike-trans, alike-used, alike-linked}
-use Rattle.table.proofs.Restore.{Turned, taken, take-joins}
+use Rattle.table.proofs.Restore.{taken, take-joins}
 
 unfoldable pub keptIn : Repair → ℕ → Bool
 keptIn r i = inUse (r .table) i && not (marked (r .doubt) i)

@@ -1,22 +1,21 @@
 -- Rule 3 of clearing, one step: its bit is flipped and its links made weak. The plan stays, the fields stay in order, and the step joins the
 -- set that the strong links hold together. Assumes nothing.
-use mathlib.Core.Path.{_≡_, refl, sym, _∙_, ap, ap₂, subst}
-use mathlib.Core.Bool.{Bool, true, false, _&&_, _||_, not, cond}
+use mathlib.Core.Path.{_≡_, refl, sym, _∙_, ap, subst}
+use mathlib.Core.Bool.{Bool, true, false}
 use mathlib.Core.Logic.{_⊎_, inl, inr, ⊎-elim}
 use mathlib.Core.List.{List}
-use Prim.Native.Nat.{ℕ, zero, suc, _+_, _*_, _-_, _≤_, _<_}
+use Prim.Native.Nat.{ℕ, suc, _-_, _<_}
 use native.Mathlib.Omega.{arith}
-use lib.ListN.{length, getD, set}
+use lib.ListN.{getD, set}
 use lib.Seq.{getD-set-same, getD-set-other, set-getD}
-use Rattle.finite.specs.Below.{rounds}
-use Rattle.finite.proofs.Bools.{clash, refute, test}
+use Rattle.finite.proofs.Bools.{clash, test}
 use Rattle.finite.proofs.Below.{eq-or-ne, below-suc, rounds-induct}
-use Rattle.table.specs.Table.{Table, places, exits, exitPlace, inUse, ownBit, targetOf, linkBit, holds, strong, linked, stronglyLinked, withLinks, withSteps}
+use Rattle.table.specs.Table.{Table, exits, exitPlace, inUse, ownBit, targetOf, linkBit, strong, linked, stronglyLinked, withLinks, withSteps}
 use Rattle.table.specs.Calls.{relink, weakBit}
 use Rattle.table.specs.Clear.{flipped, weakened, restored}
-use Rattle.table.proofs.Links.{holds-target, strong-holds, strong-bit, bit-strong, linked-exit, strongly-exit, exit-strongly}
+use Rattle.table.proofs.Links.{holds-target, strong-holds, bit-strong, linked-exit, strongly-exit, exit-strongly}
 use Rattle.table.proofs.Relink.{relink-target, relink-bit, relink-bit-other}
-use Rattle.table.proofs.Formed.{Formed, Fit, at-exit, formed-place, formed-relink, formed-flipped}
+use Rattle.table.proofs.Formed.{Formed, formed-place, formed-relink, formed-flipped}
 use Rattle.table.proofs.Spine.{Spine, Joins}
 use Rattle.table.proofs.Edits.{strong-same, weak-bit, relink-strong-other}
 use Rattle.table.proofs.Alike.{Alike, alike-refl, alike-trans, alike-used, alike-target, alike-holds}

@@ -5,10 +5,10 @@
 --   spine-more         one step more, led to from the set and leading nowhere: a spine of the larger set
 --   sound-spine, spine-sound   the two ways between soundness and a spine of all steps in use
 --   strong-chain-short         a strong chain has fewer links than there are steps in use
-use mathlib.Core.Path.{_≡_, refl, sym, _∙_, ap, subst, fun-ext}
-use mathlib.Core.Bool.{Bool, true, false, _&&_, _||_, not}
-use mathlib.Core.Logic.{_⊎_, inl, inr, ⊎-elim}
-use Prim.Native.Nat.{ℕ, zero, suc, _+_, _≤_, _<_}
+use mathlib.Core.Path.{_≡_, refl, sym, subst, fun-ext}
+use mathlib.Core.Bool.{Bool, true, false, _||_}
+use mathlib.Core.Logic.{_⊎_, ⊎-elim}
+use Prim.Native.Nat.{ℕ, zero, suc, _≤_, _<_}
 use native.Mathlib.Omega.{arith}
 use Rattle.finite.specs.Below.{count}
 use Rattle.finite.specs.Reach.{Chain, start, then, reaches}
@@ -17,9 +17,9 @@ use borrow.Author.Tests.{eqb-true, eq-eqb}
 use Rattle.finite.proofs.Bools.{clash, refute, or-left, or-right, or-elim}
 use Rattle.finite.proofs.Below.{eq-or-ne, count-le, count-more, count-mono, count-pos}
 use Rattle.finite.proofs.Reach.{chain-head, chain-raises, reach-sound, reach-complete, reach-start}
-use Rattle.table.specs.Table.{Table, places, inUse, stronglyLinked, stepsInUse, StrongChain}
+use Rattle.table.specs.Table.{Table, inUse, stronglyLinked, stepsInUse, StrongChain}
 use Rattle.table.specs.Sound.{Sound}
-use Rattle.table.proofs.Links.{Wired, sound-wired, used-below, linked-used, linked-below, linked-not-alarm, strongly-linked}
+use Rattle.table.proofs.Links.{Wired, sound-wired, used-below, linked-used, linked-below, strongly-linked}
 use Rattle.table.proofs.Formed.{Formed, formed-wired, formed-place}
 use Rattle.table.proofs.Cabins.{Shares}
 

@@ -6,7 +6,7 @@
 --   soleQuotas k          the list that gives all of a capacity to cabin 0
 --   unmet q charge c      what cabin c may still add of its guarantee; reserved q charge c, the same of all other cabins together
 --   atLimit, noneToSpare  the conditions of refusals 14 and 15
---   chargesFit            no cabin is above its limit, and the free steps are enough for the unmet guarantees
+--   withinLimits          no cabin is above its limit; chargesFit, and the free steps are enough for the unmet guarantees
 --   charged t c i         step i is charged to cabin c; charge t c, how many are; freeSteps t, the free steps
 use mathlib.Core.Bool.{Bool, _&&_, not, cond}
 use mathlib.Core.List.{List, _∷_}
@@ -50,10 +50,13 @@ atLimit quotas charge c = eqb (charge c) (limitOf quotas c)
 unfoldable pub noneToSpare : List ℕ → (ℕ → ℕ) → ℕ → ℕ → Bool
 noneToSpare quotas charge free c = leb (guaranteeOf quotas c) (charge c) && leb free (reserved quotas charge c)
 
+-- "charges within limits"
+unfoldable pub withinLimits : List ℕ → (ℕ → ℕ) → Bool
+withinLimits quotas charge = all cabinCount (λ c. leb (charge c) (limitOf quotas c))
+
 -- "charges within limits, free steps not fewer than the unmet guarantees together"
 unfoldable pub chargesFit : List ℕ → (ℕ → ℕ) → ℕ → Bool
-chargesFit quotas charge free =
-    all cabinCount (λ c. leb (charge c) (limitOf quotas c)) && leb (total cabinCount (unmet quotas charge)) free
+chargesFit quotas charge free = withinLimits quotas charge && leb (total cabinCount (unmet quotas charge)) free
 
 -- "step 0 has none": it is charged to no cabin
 unfoldable pub charged : Table → ℕ → ℕ → Bool

@@ -18,15 +18,12 @@ use Rattle.finite.proofs.Loops.{count-hit}
 use Rattle.table.specs.Table.{Table, quotaNumbers, inUse, stepsInUse}
 use Rattle.table.specs.Sound.{Sound}
 use Rattle.image.specs.Image.{Edition, edition1, edition2, recordSize, recordBytes, headerKindOf, stepKindOf, headerAdds, headerFieldsOf, stepAdds, stepFieldsOf, stepsBelow, image, imageSize, imageLength}
-use Rattle.image.proofs.Words.{headerSize, stepSize, length-record}
+use Rattle.image.proofs.Words.{headerSize, stepSize, image-next, length-record}
 use Rattle.image.proofs.Written.{length-header, length-fields, length-steps}
 use Rattle.records.specs.declared.StepRecord.{StepRecord}
 use Rattle.records.specs.Parts.{added, recordFields}
 
--- one record more, and more records
-image-next : (v : Edition) (n : ℕ) → imageSize v (n + 1) ≡ imageSize v n + stepSize v
-image-next v n = omega arith
-
+-- more records
 image-grows : (v : Edition) (m n : ℕ) → m ≤ n → imageSize v m ≤ imageSize v n
 unfolding recordSize
 image-grows edition1 m n l = omega arith
@@ -165,7 +162,7 @@ module _ (v : Edition) (t : Table) (start : List ℕ) where
   written-room bytes at i n w l u h =
       let g = image-grows v (count (i + 1) (inUse t)) (count n (inUse t)) (count-grows (inUse t) (i + 1) n (omega arith)) in
       let x : imageSize v (count (i + 1) (inUse t)) ≡ imageSize v (count i (inUse t)) + stepSize v =
-      ap (imageSize v) (count-hit i (inUse t) u) ∙ image-next v (count i (inUse t)) in
+      ap (imageSize v) (count-hit i (inUse t) u ∙ add-one (count i (inUse t))) ∙ image-next v (count i (inUse t)) in
       let y : at ≡ imageSize v (count i (inUse t)) = w .behind ∙ ap (λ (n : ℕ). headerSize v + n) (length-steps v t i) in
       let z = w .size in
       omega (arith, g, x, y, z, h)

@@ -1,7 +1,7 @@
 -- `cabins::quotas_fit` meets its contract. The loop's invariant: the cabins below c have guarantees within limits, and sum is their total; the measure is
 -- what is left of them. Assumes nothing.
 use mathlib.Core.Path.{_≡_, refl, sym, _∙_, ap, ap₂}
-use mathlib.Core.Bool.{true, false, _&&_}
+use mathlib.Core.Bool.{true}
 use Prim.Native.Nat.{ℕ, _+_, _*_, _-_, _≤_, _<_}
 use native.Mathlib.Omega.{arith}
 use lib.Dec.{leb, ltb}

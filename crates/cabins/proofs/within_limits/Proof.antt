@@ -1,8 +1,8 @@
 -- `cabins::within_limits` meets its contract. The loop's invariant: the charges of the cabins below c are within their limits; the measure is what is left
 -- of them. Assumes nothing.
-use mathlib.Core.Path.{_≡_, refl, sym, _∙_}
-use mathlib.Core.Bool.{true, false}
-use Prim.Native.Nat.{ℕ, _+_, _-_, _≤_, _<_}
+use mathlib.Core.Path.{_≡_, sym}
+use mathlib.Core.Bool.{true}
+use Prim.Native.Nat.{_-_, _≤_, _<_}
 use native.Mathlib.Omega.{arith}
 use lib.ListN.{getD}
 use lib.Dec.{leb}
@@ -11,8 +11,8 @@ use borrow.Author.Tests.{le-leb, lt-leb}
 use Rattle.finite.specs.Below.{all}
 use Rattle.finite.proofs.Loops.{all-none, all-more, all-fails, all-done}
 use Rattle.table.specs.Table.{cabinCount}
-use Rattle.table.specs.Cabins.{limitOf}
-use Rattle.cabins.specs.Parts.{given, withinLimits}
+use Rattle.table.specs.Cabins.{limitOf, withinLimits}
+use Rattle.cabins.specs.Parts.{given}
 use Rattle.cabins.proofs.within_limits.Statement.{statement}
 use Rattle.cabins.proofs.within_limits.Tie as tie
 

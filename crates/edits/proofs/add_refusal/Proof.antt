@@ -1,6 +1,5 @@
 -- `edits::add_refusal` meets its contract. Assumes nothing.
 use mathlib.Core.Path.{_≡_, refl, sym, _∙_, ap, ap₂}
-use mathlib.Core.Bool.{true, false}
 use mathlib.Core.List.{List, [], _∷_, _++_}
 use Prim.Native.Nat.{ℕ, _≤_, _<_}
 use native.Mathlib.Omega.{arith}
@@ -8,7 +7,7 @@ use borrow.Author.Needs.{needs}
 use borrow.Author.Tests.{not-false, eq-eqb, ne-eqb, le-leb, lt-leb}
 use Rattle.table.specs.Table.{cabinCount}
 use Rattle.table.specs.Cabins.{atLimit, noneToSpare, charge, freeSteps}
-use Rattle.table.specs.Sound.{Sound, sound}
+use Rattle.table.specs.Sound.{Sound}
 use Rattle.table.specs.Answer.{cabinAtLimit, stepsReserved, first}
 use Rattle.table.specs.Calls.{stepConditions, addRefusal}
 use Rattle.table.proofs.Sound.{test-sound, sound-test}

@@ -1,6 +1,6 @@
 -- `edits::fresh` meets its contract. Assumes nothing.
-use mathlib.Core.Path.{_≡_, refl, sym, _∙_}
-use mathlib.Core.Bool.{true, false}
+use mathlib.Core.Path.{_≡_, refl, _∙_}
+use mathlib.Core.Bool.{true}
 use Rattle.table.specs.Cabins.{listFits}
 use Rattle.table.specs.Sound.{capacityFits}
 use Rattle.table.specs.Answer.{first, unless}

@@ -1,6 +1,5 @@
 -- `check` is the test of soundness, with what the cabins are charged. Assumes nothing.
 use mathlib.Core.Path.{_≡_, sym, _∙_, ap₂}
-use mathlib.Core.Bool.{true, false}
 use Prim.Native.Nat.{_-_, _≤_}
 use native.Mathlib.Omega.{arith}
 use lib.ListN.{getD, set}

@@ -1,8 +1,8 @@
 -- `step_pass` counts the steps that do not fit as every step but 0 must, and the steps of each cabin. The loop's invariant: the counts of the steps below
 -- i; the measure is what is left of the places. Assumes nothing.
-use mathlib.Core.Path.{_≡_, refl, sym, _∙_, ap, ap₂}
-use mathlib.Core.Bool.{Bool, _&&_, not}
-use mathlib.Core.List.{List, [], _∷_}
+use mathlib.Core.Path.{_≡_, sym, _∙_, ap, ap₂}
+use mathlib.Core.Bool.{_&&_, not}
+use mathlib.Core.List.{[], _∷_}
 use Prim.Native.Nat.{ℕ, _+_, _-_, _≤_}
 use native.Mathlib.Omega.{arith}
 use lib.ListN.{getD}
@@ -11,7 +11,7 @@ use borrow.Author.Needs.{needs}
 use Rattle.finite.specs.Below.{one, count, tabulate, tabulateFrom}
 use Rattle.finite.proofs.Below.{count-le}
 use Rattle.finite.proofs.Loops.{count-zero, count-next}
-use Rattle.table.specs.Table.{Table, places, cabinCount, inUse, kindOf, contentOf, ownBit, cabinOf}
+use Rattle.table.specs.Table.{Table, places, inUse, kindOf, contentOf, ownBit, cabinOf}
 use Rattle.words.specs.Words.{tableOf}
 use Rattle.soundness.specs.Parts.{fieldsFit, fieldsAt, faults, hasCabin, cabinSteps}
 use Rattle.soundness.proofs.Totals.{faults-none, faults-le}

@@ -1,11 +1,11 @@
 -- `squeezing::squeeze_refusal` meets its contract: at each return, the conditions that led there. Assumes nothing.
-use mathlib.Core.Path.{_≡_, refl, sym, _∙_, ap, ap₂}
+use mathlib.Core.Path.{_≡_, refl, sym, _∙_, ap}
 use mathlib.Core.Bool.{Bool, true, false, _&&_, _||_, not}
 use mathlib.Core.List.{List}
 use Prim.Native.Nat.{ℕ, _-_}
 use lib.Dec.{leb, ltb}
 use borrow.Author.Needs.{needs}
-use borrow.Author.Tests.{leb-false, lt-leb, ltb-true, lt-ltb, not-true, not-false}
+use borrow.Author.Tests.{leb-false, lt-leb, ltb-true, lt-ltb, not-false}
 use Rattle.finite.proofs.Bools.{same-test, not-true-false}
 use Rattle.table.specs.Table.{Table, stepsInUse}
 use Rattle.table.specs.Cabins.{listFits, chargesFit, charge}

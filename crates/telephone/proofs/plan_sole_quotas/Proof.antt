@@ -1,5 +1,4 @@
 -- `telephone::plan_sole_quotas` meets its contract: the list that cabins::sole_quotas gives. Assumes nothing.
-use borrow.Author.Needs.{needs}
 use Rattle.telephone.proofs.plan_sole_quotas.Statement.{statement}
 use Rattle.telephone.proofs.plan_sole_quotas.Tie as tie
 
