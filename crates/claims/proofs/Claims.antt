@@ -32,7 +32,7 @@ use Rattle.image.proofs.Laws as Images
 use Rattle.keyline.specs.Keys.{spokenCounts}
 use Rattle.history.specs.History.{First, Call, tableAfter, heardBy, planAfter, drawnBy, firstRefusal, planFirstRefusal, firstTable, firstPlan}
 use Rattle.history.specs.Acts.{Act}
-use Rattle.history.specs.Demands.{Demand1, Demand3, GuaranteeDemand, ChargesDemand, AddDemand, LinkDemand, ClearDemand, CountDemand, SqueezeDemand, TwiceDemand, WriteDemand, EqualDemand, SortedDemand, OldDemand, ConvertDemand, NeedsDemand, SameTableDemand}
+use Rattle.history.specs.Demands.{Demand1, Demand3, GuaranteeDemand, ChargesDemand, AddDemand, LinkDemand, ClearDemand, CountDemand, SqueezeDemand, TwiceDemand, WriteDemand, EqualDemand, SortedDemand, OldDemand, ConvertDemand, RefusalDemand, SameTableDemand}
 use Rattle.table.specs.Trial.{TrialOutcome, trialRefusal, trialCall, TrialDemand, SameTrial, LongerDemand, underNumbers}
 use Rattle.history.proofs.Demand1 as Refusals
 use Rattle.history.proofs.Demand2
@@ -188,9 +188,10 @@ pub convert-up-written : (bs : List ℕ) → accepted bs ≡ true → editionIn 
     convertCall edition2 bs buffer ≡ writeCall (loadCall bs .table) buffer
 convert-up-written = Demand2.up-demand
 
--- 17 exactly where no image of edition 1 loads as the table of this one
-pub convert-needs : (bs : List ℕ) → accepted bs ≡ true → editionIn bs ≡ edition2 → (buffer : List ℕ) → NeedsDemand bs (convertCall edition1 bs buffer)
-convert-needs = Demand2.needs-demand
+-- and of any bytes and any buffer: 12 exactly for a bad image or one of that edition, 17 exactly where then no image of that edition loads as the table,
+-- 11 only where each that does is longer than the buffer
+pub convert-refusals : (v : Edition) (bs buffer : List ℕ) → RefusalDemand v bs buffer (convertCall v bs buffer)
+convert-refusals = Demand2.refusal-demand
 
 -- W2: an accepted squeeze of a sound table, and a second one
 pub squeeze-demand : (t : Table) → Sound t → (c : ℕ) (q : List ℕ) → squeezeRefusal t c q ≡ 0 → SqueezeDemand t c q (squeezeCall t c q)

@@ -1,8 +1,8 @@
 -- Demand 2, call by call: what an accepted add, link, clear and squeeze do on a sound table, the spoken counts, and both ways of an image. Assumes
 -- nothing.
-use mathlib.Core.Path.{_≡_, refl, sym, _∙_, ap}
+use mathlib.Core.Path.{_≡_, refl, sym, _∙_, ap, ap₂}
 use mathlib.Core.Bool.{true, false, _&&_, not}
-use mathlib.Core.Logic.{_↔_, ⊎-elim}
+use mathlib.Core.Logic.{_⊎_, inl, inr, _↔_, ⊎-elim}
 use mathlib.Core.List.{List}
 use Prim.Native.Nat.{ℕ, _≤_, _<_}
 use native.Mathlib.Omega.{arith}
@@ -15,7 +15,7 @@ use Rattle.finite.proofs.Reach.{reach-sound, reach-complete}
 use Rattle.table.specs.declared.Answer.the-variants.{Given}
 use Rattle.table.specs.Table.{Table, inUse, linked, stronglyLinked, withLinks}
 use Rattle.table.specs.Sound.{Sound}
-use Rattle.table.specs.Answer.{Outcome, first, firstOf, unless}
+use Rattle.table.specs.Answer.{Outcome, tooShort, notAccepted, needsEdition2, first, firstOf, unless}
 use Rattle.table.specs.Calls.{relink, addRefusal, addCall, linkRefusal, linkCall}
 use Rattle.table.specs.Clear.{emptied, cleared, clearRefusal, clearCall}
 use Rattle.table.specs.Trial.{trialCall, underNumbers}
@@ -31,14 +31,14 @@ use Rattle.table.proofs.Follow.{renumbered-follows, used-new-step, follow-stron
 use Rattle.table.proofs.Squeeze.{squeeze-made, squeeze-answer, squeeze-fits, squeeze-sound, squeeze-plan}
 use Rattle.table.proofs.Squeezed.{squeeze-refusal-same, squeeze-twice, squeeze-trial}
 use Rattle.table.proofs.SqueezeClear.{squeeze-clear}
-use Rattle.image.specs.Image.{Edition, edition1, edition2, headerKindOf, writtenEdition, editionIn, image, imageLength, WriteOutcome, written, put, writeRefusal, writeCall, imageTable, accepted, loadCall, Bytes}
+use Rattle.image.specs.Image.{Edition, edition1, headerKindOf, writtenEdition, editionIn, image, imageLength, WriteOutcome, written, put, writeRefusal, writeCall, imageTable, accepted, loadCall, Bytes}
 use Rattle.image.specs.Convert.{sayable, convertRefusal, convertCall}
-use Rattle.image.proofs.RoundTrip.{Says}
-use Rattle.image.proofs.Converted.{sayable-says, says-sayable, refusal-converts, convert-put, converts-back, refusal-unsaid, refusal-room, room-other}
+use Rattle.image.proofs.RoundTrip.{Says, accepted-says}
+use Rattle.image.proofs.Converted.{sayable-says, says-sayable, refusal-converts, convert-put, converts-back, refusal-bad, refusal-same, refusal-unsaid, Verdict, unaccepted, already, unsayable, short, done, verdict}
 use Rattle.image.proofs.Laws.{image-length, image-edition, edition1-says, put-made, put-refusal, room-enough, decode-encode, encode-accepted, load-encode, accepted-sound, accepted-rewritten, image-ascending, image-equal, accepted-only, loaded-equal}
 use Rattle.keyline.specs.Keys.{spokenCounts}
 use Rattle.keyline.proofs.Laws.{spoken-plan}
-use Rattle.history.specs.Demands.{AddDemand, LinkDemand, ClearDemand, CountDemand, SqueezeDemand, TwiceDemand, WriteDemand, EqualDemand, SortedDemand, OldDemand, ConvertDemand, NeedsDemand, SameTableDemand}
+use Rattle.history.specs.Demands.{AddDemand, LinkDemand, ClearDemand, CountDemand, SqueezeDemand, TwiceDemand, WriteDemand, EqualDemand, SortedDemand, OldDemand, ConvertDemand, Counterpart, RefusalDemand, SameTableDemand}
 
 pub add-demand : (t : Table) → Sound t → (holder e kind content cabin : ℕ) → addRefusal t holder e kind content cabin ≡ 0 →
     AddDemand t holder e kind content cabin (addCall t holder e kind content cabin)
@@ -262,26 +262,82 @@ up-demand bs a e buffer =
     let k : eqb (headerKindOf (editionIn bs)) (headerKindOf writtenEdition) ≡ false = ap (λ v. eqb (headerKindOf v) 3) e in
     rw (loaded-table bs a, a, k, accepted-sound bs a)
 
--- an image of edition 2 that edition 1 cannot say
-pub needs-demand : (bs : List ℕ) → accepted bs ≡ true → editionIn bs ≡ edition2 → (buffer : List ℕ) → NeedsDemand bs (convertCall edition1 bs buffer)
+-- the refusals of a conversion: what n, its answer, says
+module _ (v : Edition) (bs : List ℕ) (room : ℕ) where
+  -- a counterpart has the same table, and the edition can say it
+  counterpart-table : accepted bs ≡ true → (cs : List ℕ) → Counterpart v bs cs → imageTable cs ≡ imageTable bs
+  counterpart-table a cs c = sym (loaded-table cs (c .taken)) ∙ c .table ∙ loaded-table bs a
+
+  counterpart-sayable : accepted bs ≡ true → (cs : List ℕ) → Counterpart v bs cs → sayable v (imageTable bs) ≡ true
+  counterpart-sayable a cs c =
+      let p : Says v (imageTable bs) = rw (counterpart-table a cs c) at (accepted-says v cs (c .taken) (c .edition)) in
+      says-sayable v (imageTable bs) (test-sound (imageTable bs) (accepted-sound bs a)) p
+
+  -- and where it can, there is one
+  counterpart-image : accepted bs ≡ true → sayable v (imageTable bs) ≡ true → Counterpart v bs (image v (imageTable bs))
+  counterpart-image a y =
+      let t = imageTable bs in
+      let s = test-sound t (accepted-sound bs a) in
+      let p = sayable-says v t s y in
+      record {
+        taken = encode-accepted v t s p;
+        edition = image-edition v t;
+        table = ap (λ (o : Outcome). o .table) (load-encode v t s p) ∙ sym (loaded-table bs a);
+      }
+
+  counterpart-length : accepted bs ≡ true → (cs : List ℕ) → Bytes cs → Counterpart v bs cs → length cs ≡ imageLength v (imageTable bs)
+  counterpart-length a cs by c =
+      sym (accepted-length cs by (c .taken)) ∙ ap₂ imageLength (c .edition) (counterpart-table a cs c)
+
+  bad-said : (n : ℕ) → Verdict v bs room n → n ≡ notAccepted → (accepted bs ≡ false) ⊎ (editionIn bs ≡ v)
+  bad-said n (unaccepted f) z = inl f
+  bad-said n (already a e) z = inr e
+  bad-said n (unsayable a d y) z = absurd (omega arith)
+  bad-said n (short a d y l) z = absurd (omega arith)
+  bad-said n (done a) z = absurd (omega arith)
+
+  needs-said : (n : ℕ) → Verdict v bs room n → n ≡ needsEdition2 →
+      (accepted bs ≡ true) × (editionIn bs ≡ v → ⊥) × ((cs : List ℕ) → Counterpart v bs cs → ⊥)
+  needs-said n (unaccepted f) z = absurd (omega arith)
+  needs-said n (already a e) z = absurd (omega arith)
+  needs-said n (unsayable a d y) z = (a, d, λ cs c. clash (counterpart-sayable a cs c) y)
+  needs-said n (short a d y l) z = absurd (omega arith)
+  needs-said n (done a) z = absurd (omega arith)
+
+  short-said : (n : ℕ) → Verdict v bs room n → n ≡ tooShort → (cs : List ℕ) → Bytes cs → Counterpart v bs cs → room < length cs
+  short-said n (unaccepted f) z cs by c = absurd (omega arith)
+  short-said n (already a e) z cs by c = absurd (omega arith)
+  short-said n (unsayable a d y) z cs by c = absurd (omega arith)
+  short-said n (short a d y l) z cs by c = omega (arith, l, counterpart-length a cs by c)
+  short-said n (done a) z cs by c = absurd (omega arith)
+
+pub refusal-demand : (v : Edition) (bs buffer : List ℕ) → RefusalDemand v bs buffer (convertCall v bs buffer)
 unfolding convertCall
-needs-demand bs a e buffer =
+refusal-demand v bs buffer =
     let t = imageTable bs in
-    let s = test-sound t (accepted-sound bs a) in
-    let n = convertRefusal edition1 bs (length buffer) in
-    let other : editionIn bs ≡ edition1 → ⊥ = λ f. let z : _≡_ {A = ℕ} 1 3 = ap headerKindOf (sym f ∙ e) in omega arith in
-    let heard = put-refusal n edition1 t buffer in (
-      (λ h cs b f g.
-          let same : imageTable cs ≡ t = sym (loaded-table cs b) ∙ g ∙ loaded-table bs a in
-          let p : Says edition1 t = rw same at (edition1-says cs b f) in
-          room-other edition1 t (length buffer) (sym (refusal-room edition1 bs (length buffer) a other (says-sayable edition1 t s p)) ∙ sym heard ∙ h)),
-      λ h.
-          ⊎-elim
-          (λ (y : sayable edition1 t ≡ true).
-          let p = sayable-says edition1 t s y in
-          let x : loadCall (image edition1 t) .table ≡ loadCall bs .table =
-          ap (λ (o : Outcome). o .table) (load-encode edition1 t s p) ∙ sym (loaded-table bs a) in
-          absurd (h (image edition1 t) (encode-accepted edition1 t s p) (image-edition edition1 t) x))
-          (λ (y : sayable edition1 t ≡ false). heard ∙ refusal-unsaid edition1 bs (length buffer) a other y)
-          (test (sayable edition1 t)),
-    )
+    let room = length buffer in
+    let n = convertRefusal v bs room in
+    let heard = put-refusal n v t buffer in
+    let says = verdict v bs room in
+    record {
+      bad = (
+        (λ h. bad-said v bs room n says (sym heard ∙ h)),
+        λ h.
+            heard ∙
+            ⊎-elim
+            (λ (f : accepted bs ≡ false). refusal-bad v bs room f)
+            (λ (e : editionIn bs ≡ v).
+            ⊎-elim (λ (a : accepted bs ≡ true). refusal-same v bs room a e) (λ (f : accepted bs ≡ false). refusal-bad v bs room f) (test (accepted bs)))
+            h,
+      );
+      needs = (
+        (λ h. needs-said v bs room n says (sym heard ∙ h)),
+        λ h.
+            heard ∙
+            ⊎-elim
+            (λ (y : sayable v t ≡ true). absurd (h .2 (image v t) (counterpart-image v bs room (h .0) y)))
+            (λ (y : sayable v t ≡ false). refusal-unsaid v bs room (h .0) (h .1) y)
+            (test (sayable v t)),
+      );
+      short = λ h. short-said v bs room n says (sym heard ∙ h);
+    }

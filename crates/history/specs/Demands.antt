@@ -8,17 +8,18 @@
 --   WriteDemand SortedDemand   both ways of an image, over the calls (demand 2)
 --   EqualDemand SameTableDemand   one table, one image (W1)
 --   OldDemand           an image of edition 1 (W5)
---   ConvertDemand NeedsDemand   an image converted to the other edition, and one that cannot be (W6)
+--   ConvertDemand RefusalDemand   an image converted to the other edition, and one that is not (W6)
+--   Counterpart v bs cs   the image cs of the edition v loads as the table of bs
 use mathlib.Core.Path.{_≡_}
 use mathlib.Core.Bool.{Bool, true, false}
-use mathlib.Core.Logic.{_↔_}
+use mathlib.Core.Logic.{_⊎_, _↔_}
 use mathlib.Core.List.{List}
 use Prim.Native.Nat.{ℕ, _+_, _-_, _<_}
 use lib.ListN.{length, getD, drop}
 use Rattle.finite.specs.Below.{count, total}
 use Rattle.finite.specs.Reach.{Chain}
 use Rattle.table.specs.declared.Answer.the-variants.{Given}
-use Rattle.table.specs.Answer.{Outcome, full, cabinAtLimit, stepsReserved, needsEdition2, refusalOf}
+use Rattle.table.specs.Answer.{Outcome, full, cabinAtLimit, stepsReserved, tooShort, notAccepted, needsEdition2, refusalOf}
 use Rattle.table.specs.Table.{Table, places, counters, cabinCount, exitsOf, inUse, cabinOf, counterOf, strong, linked, linksTo, stepsInUse, StrongChain}
 use Rattle.table.specs.Cabins.{guaranteeOf, soleQuotas, charge}
 use Rattle.table.specs.Sound.{Sound}
@@ -27,7 +28,7 @@ use Rattle.table.specs.Clear.{emptied}
 use Rattle.table.specs.Squeeze.{newNumber, squeezeRefusal, squeezeCall, Renumbered}
 use Rattle.table.specs.Plan.{planOf, planCount, planNumber, planAdd, planLink, planClear, planSqueeze}
 use Rattle.keyline.specs.Keys.{keyCabin, keyCall}
-use Rattle.image.specs.Image.{Edition, edition1, image, editionIn, WriteOutcome, written, accepted, loadCall, SameRecords, Ascending}
+use Rattle.image.specs.Image.{Edition, edition1, image, editionIn, WriteOutcome, written, accepted, loadCall, Bytes, SameRecords, Ascending}
 use Rattle.history.specs.History.{First, Call, tableAfter, heardBy, planAfter, drawnBy, firstRefusal, planFirstRefusal, firstTable, firstPlan}
 use Rattle.history.specs.Accounts.{account, tally}
 use Rattle.history.specs.Acts.{Act, doneBy, refusedBy, conditionsOf}
@@ -178,11 +179,20 @@ pub record ConvertDemand (v : Edition) (bs buffer : List ℕ) (o : WriteOutcome)
   -- loads as the table that bs loads as
   pub image : WriteDemand v (loadCall bs .table) buffer o
 
--- 17 is answered of an accepted image of edition 2 exactly if no image of edition 1 loads as its table
-abbrev pub NeedsDemand : List ℕ → WriteOutcome → Type 0
-NeedsDemand bs o =
-    (refusalOf (o .answer) ≡ needsEdition2) ↔
-    ((cs : List ℕ) → accepted cs ≡ true → editionIn cs ≡ edition1 → loadCall cs .table ≡ loadCall bs .table → ⊥)
+pub record Counterpart (v : Edition) (bs cs : List ℕ) : Type 0 where
+  pub taken : accepted cs ≡ true
+  pub edition : editionIn cs ≡ v
+  pub table : loadCall cs .table ≡ loadCall bs .table
+
+-- and the refusals of a conversion to the edition v, by the images that there are
+pub record RefusalDemand (v : Edition) (bs buffer : List ℕ) (o : WriteOutcome) : Type 0 where
+  -- "12 for a bad image or one of the other edition": of the edition that is to be written
+  pub bad : (refusalOf (o .answer) ≡ notAccepted) ↔ ((accepted bs ≡ false) ⊎ (editionIn bs ≡ v))
+  -- "17 .., after 12": no image of that edition loads as its table
+  pub needs : (refusalOf (o .answer) ≡ needsEdition2) ↔
+      ((accepted bs ≡ true) × (editionIn bs ≡ v → ⊥) × ((cs : List ℕ) → Counterpart v bs cs → ⊥))
+  -- "11 last": each image that does is longer than the buffer
+  pub short : refusalOf (o .answer) ≡ tooShort → (cs : List ℕ) → Bytes cs → Counterpart v bs cs → length buffer < length cs
 
 -- W1: two accepted images of one edition load as one table exactly if they have the same records, in whatever order; o and p are what load did for each
 abbrev pub SameTableDemand : List ℕ → List ℕ → Outcome → Outcome → Type 0

@@ -1,21 +1,21 @@
 -- An image converted to the other edition (document 02, W6). Assumes nothing.
 --   sayable-says says-sayable   what an edition can say, as a test and as a statement; sole-sayable, by the quotas alone
 --   Converts                    what is known of a conversion that is not refused; refusal-converts, that it is known
---   refusal-bad refusal-same refusal-unsaid refusal-room   the refusal, case by case; room-other, the last is not 17
+--   refusal-bad refusal-same refusal-unsaid refusal-room   the refusal, case by case; Verdict, verdict, what each answer says
 --   convert-put                 what such a conversion does; converts-back, the image that it writes can be converted back
-use mathlib.Core.Path.{_≡_, refl, sym, _∙_, ap}
+use mathlib.Core.Path.{_≡_, refl, sym, _∙_, ap, subst}
 use mathlib.Core.Bool.{true, false}
-use mathlib.Core.Logic.{⊎-elim}
+use mathlib.Core.Logic.{_⊎_, inl, inr, ⊎-elim}
 use mathlib.Core.List.{List}
-use Prim.Native.Nat.{ℕ, _≤_}
+use Prim.Native.Nat.{ℕ, _≤_, _<_}
 use native.Mathlib.Omega.{arith}
 use lib.ListN.{length, getD}
 use lib.Seq.{ext-getD}
-use lib.Dec.{eqb, ltb}
-use borrow.Author.Tests.{eqb-true, eqb-false, eq-eqb, ne-eqb, le-ltb, ltb-false}
+use lib.Dec.{eqb}
+use borrow.Author.Tests.{eqb-true, eqb-false, eq-eqb, ne-eqb, ltb-false}
 use Rattle.finite.specs.Below.{all}
 use Rattle.finite.proofs.Bools.{test, same-test, and-left, and-right, and-intro, not-false-true}
-use Rattle.finite.proofs.Below.{all-at, all-intro}
+use Rattle.finite.proofs.Below.{all-at, all-intro, eq-or-ne, le-or-lt}
 use Rattle.table.specs.Table.{Table, quotaNumbers, inUse, cabinOf}
 use Rattle.table.specs.Cabins.{soleQuotas}
 use Rattle.table.specs.Sound.{Sound}
@@ -27,6 +27,7 @@ use Rattle.image.specs.Image.{Edition, edition1, edition2, headerKindOf,
 use Rattle.image.specs.Convert.{hasSoleQuotas, sayable, convertConditions, convertRefusal, convertCall}
 use Rattle.image.proofs.Written.{image-edition}
 use Rattle.image.proofs.Loaded.{accepted-table}
+use Rattle.image.proofs.Laws.{room-fits, room-short}
 use Rattle.image.proofs.RoundTrip.{Says, decode-encode, encode-accepted, accepted-says, sole-says}
 
 -- the list of edition 1 has a pair for each cabin
@@ -116,10 +117,9 @@ module _ (v : Edition) (bs : List ℕ) (room : ℕ) where
   refusal-room a d f = rw (a, other-kind d, f)
 
 converts-refusal : (v : Edition) (bs : List ℕ) (room : ℕ) → Converts v bs room → convertRefusal v bs room ≡ 0
-unfolding first
 converts-refusal v bs room c =
     refusal-room v bs room (c .taken) (c .other) (says-sayable v (imageTable bs) (accepted-table bs (c .taken)) (c .says))
-    ∙ rw (le-ltb room (imageLength v (imageTable bs)) (c .fits))
+    ∙ room-fits v (imageTable bs) room (c .fits)
 
 -- what such a conversion does
 pub convert-put : (v : Edition) (bs buffer : List ℕ) → Converts v bs (length buffer) → convertCall v bs buffer ≡ put 0 v (imageTable bs) buffer
@@ -140,12 +140,39 @@ converts-back v bs room c back l =
       fits = rw same l;
     }
 
--- the room is not asked for by that number
-pub room-other : (v : Edition) (t : Table) (room : ℕ) → first (roomTests v t room) ≡ needsEdition2 → ⊥
-unfolding first
-room-other v t room h =
-    let last = ltb room (imageLength v t) in
+-- what each answer says
+pub data Verdict (v : Edition) (bs : List ℕ) (room : ℕ) : ℕ → Type 0 where
+  unaccepted : accepted bs ≡ false → Verdict v bs room notAccepted
+  already : accepted bs ≡ true → editionIn bs ≡ v → Verdict v bs room notAccepted
+  unsayable : accepted bs ≡ true → (editionIn bs ≡ v → ⊥) → sayable v (imageTable bs) ≡ false → Verdict v bs room needsEdition2
+  short : accepted bs ≡ true → (editionIn bs ≡ v → ⊥) → sayable v (imageTable bs) ≡ true → room < imageLength v (imageTable bs) →
+      Verdict v bs room tooShort
+  done : accepted bs ≡ true → Verdict v bs room 0
+
+same-edition : (v w : Edition) → (v ≡ w) ⊎ (v ≡ w → ⊥)
+same-edition v w =
+    ⊎-elim (λ (e : headerKindOf v ≡ headerKindOf w). inl (kind-edition v w e)) (λ (d : headerKindOf v ≡ headerKindOf w → ⊥). inr (λ e. d (ap headerKindOf e)))
+    (eq-or-ne (headerKindOf v) (headerKindOf w))
+
+pub verdict : (v : Edition) (bs : List ℕ) (room : ℕ) → Verdict v bs room (convertRefusal v bs room)
+verdict v bs room =
+    let t = imageTable bs in
     ⊎-elim
-    (λ (y : last ≡ true). let x : tooShort ≡ needsEdition2 = rw y at h in omega arith)
-    (λ (y : last ≡ false). let x : 0 ≡ needsEdition2 = rw y at h in omega arith)
-    (test last)
+    (λ (a : accepted bs ≡ true).
+    ⊎-elim
+    (λ (e : editionIn bs ≡ v). said (refusal-same v bs room a e) (already a e))
+    (λ (d : editionIn bs ≡ v → ⊥).
+    ⊎-elim
+    (λ (y : sayable v t ≡ true).
+    ⊎-elim
+    (λ (l : imageLength v t ≤ room). said (refusal-room v bs room a d y ∙ room-fits v t room l) (done a))
+    (λ (l : room < imageLength v t). said (refusal-room v bs room a d y ∙ room-short v t room l) (short a d y l))
+    (le-or-lt (imageLength v t) room))
+    (λ (y : sayable v t ≡ false). said (refusal-unsaid v bs room a d y) (unsayable a d y))
+    (test (sayable v t)))
+    (same-edition (editionIn bs) v))
+    (λ (f : accepted bs ≡ false). said (refusal-bad v bs room f) (unaccepted f))
+    (test (accepted bs))
+  where
+    said : {n : ℕ} → convertRefusal v bs room ≡ n → Verdict v bs room n → Verdict v bs room (convertRefusal v bs room)
+    said e x = subst (Verdict v bs room) (sym e) x

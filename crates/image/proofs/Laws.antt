@@ -1,23 +1,24 @@
 -- What is claimed of images (document 01, "Image"; document 02, W1 and W5), each law by citing where it is proved: images load as the table that was
 -- written, in each edition that can say it; accepted images are sound, draw the plan that their records say, and are written again in their edition
 -- with the same records, sorted; sound tables are equal exactly when their written images are (W1). Assumes nothing.
-use mathlib.Core.Path.{_≡_, sym}
+use mathlib.Core.Path.{_≡_, sym, _∙_}
 use mathlib.Core.Bool.{true}
 use mathlib.Core.Logic.{_↔_, ⊎-elim}
 use mathlib.Core.List.{List, _++_}
 use Prim.Native.Nat.{ℕ, _≤_, _<_}
 use lib.ListN.{length, drop}
-use borrow.Author.Tests.{eq-eqb, ne-eqb, le-ltb}
+use borrow.Author.Tests.{eq-eqb, ne-eqb, lt-ltb, le-ltb}
 use Rattle.finite.specs.Below.{count}
 use Rattle.finite.proofs.Below.{eq-or-ne}
 use Rattle.table.specs.declared.Answer.the-variants.{Refused, Given}
 use Rattle.table.specs.Table.{Table, inUse}
 use Rattle.table.specs.Cabins.{soleQuotas}
 use Rattle.table.specs.Sound.{Sound, sound}
-use Rattle.table.specs.Answer.{first, refusalOf}
+use Rattle.table.specs.Answer.{tooShort, first, refusalOf}
 use Rattle.table.specs.Plan.{planOf}
 use Rattle.table.proofs.Sound.{sound-test}
-use Rattle.image.specs.Image.{Edition, edition1, image, imageLength, writtenEdition, put, writeRefusal, editionIn, countIn, numberIn, imageTable, accepted, loadCall, imagePlan, Bytes, Once, SameRecords, Ascending}
+use Rattle.table.proofs.Calls.{past-sound}
+use Rattle.image.specs.Image.{Edition, edition1, image, imageLength, writtenEdition, put, roomTests, writeRefusal, editionIn, countIn, numberIn, imageTable, accepted, loadCall, imagePlan, Bytes, Once, SameRecords, Ascending}
 use Rattle.image.proofs.Written
 use Rattle.image.proofs.Loaded
 use Rattle.image.proofs.RoundTrip
@@ -105,6 +106,15 @@ unfolding refusalOf
 put-refusal n v t buffer =
     ⊎-elim (λ (z : n ≡ 0). rw (put-made n z v t buffer) (sym z)) (λ (d : n ≡ 0 → ⊥). rw (put-refused n d v t buffer)) (eq-or-ne n 0)
 
+-- the room, both ways
+pub room-fits : (v : Edition) (t : Table) (room : ℕ) → imageLength v t ≤ room → first (roomTests v t room) ≡ 0
+unfolding first
+room-fits v t room l = rw (le-ltb room (imageLength v t) l)
+
+pub room-short : (v : Edition) (t : Table) (room : ℕ) → room < imageLength v t → first (roomTests v t room) ≡ tooShort
+unfolding first
+room-short v t room l = rw (lt-ltb room (imageLength v t) l)
+
 pub room-enough : (t : Table) → Sound t → (buffer : List ℕ) → imageLength writtenEdition t ≤ length buffer → writeRefusal t (length buffer) ≡ 0
-unfolding writeRefusal first
-room-enough t s buffer l = rw (sound-test t s, le-ltb (length buffer) (imageLength writtenEdition t) l)
+unfolding writeRefusal
+room-enough t s buffer l = past-sound s (roomTests writtenEdition t (length buffer)) ∙ room-fits writtenEdition t (length buffer) l

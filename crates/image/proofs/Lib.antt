@@ -6,5 +6,5 @@ pub mod Loaded
 pub mod RoundTrip
 pub mod Rewritten
 pub mod Order
-pub mod Converted
 pub mod Laws
+pub mod Converted

@@ -1,17 +1,16 @@
 -- `writing::fill` meets its contract: refusal 11, or the image. Assumes nothing.
-use mathlib.Core.Path.{_≡_, refl, sym, _∙_, ap}
+use mathlib.Core.Path.{_≡_, sym, _∙_, ap}
 use Prim.Native.Nat.{ℕ, _≤_, _<_}
 use mathlib.Core.List.{List, _++_}
 use native.Mathlib.Omega.{arith}
 use lib.ListN.{length, drop}
 use borrow.Author.Needs.{needs}
-use borrow.Author.Tests.{lt-ltb, le-ltb}
 use Rattle.table.specs.declared.Answer.the-variants.{Refused, Given}
 use Rattle.table.specs.Table.{Table}
 use Rattle.table.specs.Answer.{tooShort, first}
 use Rattle.table.proofs.Sound.{test-sound}
 use Rattle.image.specs.Image.{Edition, WriteOutcome, image, imageSize, imageLength, put, roomTests}
-use Rattle.image.proofs.Laws.{put-made, put-refused}
+use Rattle.image.proofs.Laws.{put-made, put-refused, room-fits, room-short}
 use Rattle.words.specs.Words.{tableOf}
 use Rattle.records.specs.Parts.{editionOf}
 use Rattle.writing.proofs.Writing.{image-small}
@@ -21,14 +20,12 @@ use Rattle.writing.proofs.fill.Tie as tie
 -- both endings
 module _ (v : Edition) (t : Table) (buffer : List ℕ) where
   short : length buffer < imageLength v t → put (first (roomTests v t (length buffer))) v t buffer ≡ record { answer = Refused tooShort; buffer = buffer }
-  unfolding first
-  short l = rw (lt-ltb (length buffer) (imageLength v t) l) (put-refused tooShort (λ z. omega arith) v t buffer)
+  short l = rw (room-short v t (length buffer) l) (put-refused tooShort (λ z. omega arith) v t buffer)
 
   long : imageLength v t ≤ length buffer →
       put (first (roomTests v t (length buffer))) v t buffer
       ≡ record { answer = Given (imageLength v t) 0; buffer = image v t ++ drop (imageLength v t) buffer }
-  unfolding first
-  long l = rw (le-ltb (length buffer) (imageLength v t) l) (put-made 0 refl v t buffer)
+  long l = put-made _ (room-fits v t (length buffer) l) v t buffer
 
 -- the length worked out is the image's
 size : (c : tie.After-image-size) →
