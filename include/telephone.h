@@ -28,17 +28,20 @@
  * capacity 1, whose guarantees and limits are all 0.
  *
  * Stack. A call and the table lent to it together take at most PLAN_STACK_MAX bytes of stack; a table that stands elsewhere takes none of them.
- * Measured, without the caller's table of 3,876 bytes; a conversion is lent none and keeps one of its own on the stack:
+ * Measured, without the caller's table of 3,876 bytes. A conversion is lent none and keeps one of its own on the stack; a clearing with a slip and a
+ * take-back keep one beside the lent one:
  *
  *     plan_edition, plan_sole_quotas, plan_fresh                                   88 bytes
  *     plan_is_sound, plan_counts, plan_image_length, plan_read                  7,280
  *     plan_add, plan_link                                                       7,360
- *     plan_clear                                                                8,560
+ *     plan_clear                                                                7,552
+ *     plan_clear_with_slip                                                     11,456
+ *     plan_take_back                                                           11,536
  *     plan_squeeze                                                              7,568
  *     plan_trial, plan_write_image                                              7,280
  *     plan_load_image                                                           7,312
  *     plan_convert_up, plan_convert_down                                       11,280
- *     plan_key_line                                                             8,640
+ *     plan_key_line                                                             7,600
  *
  * `cargo test --release --test stack -- --nocapture` in compare/ prints them.
  */
@@ -57,6 +60,7 @@ extern "C" {
 #define PLAN_EXITS 4          /* exits of a step */
 #define PLAN_CABINS 8         /* cabins that share a plan */
 #define PLAN_IMAGE_MAX 2858   /* bytes of the largest image that is written; the largest of edition 1 has 2,570 */
+#define PLAN_SLIP_MAX 5638    /* bytes of the largest slip of a clearing */
 #define PLAN_STACK_MAX 16384  /* bytes of stack for any call, with the caller's table */
 
 /* Kinds of step, and the content of each. */
@@ -76,24 +80,25 @@ enum plan_exit {
 };
 
 enum plan_refusal {
-    PLAN_DONE = 0,            /* not refused */
-    PLAN_NOT_SOUND = 1,       /* table not sound */
-    PLAN_BAD_CAPACITY = 2,    /* capacity not 1 to 128 */
-    PLAN_NOT_IN_USE = 3,      /* step not in use */
-    PLAN_BAD_EXIT = 4,        /* exit above 3 */
-    PLAN_EXIT_FILLED = 5,     /* exit to be filled holds a link */
-    PLAN_EXIT_EMPTY = 6,      /* exit to copy or clear is empty */
-    PLAN_BAD_KIND = 7,        /* kind not 1 to 3, or content out of range */
-    PLAN_FULL = 8,            /* steps in use equal the capacity */
-    PLAN_NOT_KEY_LINE = 9,    /* not a key line */
-    PLAN_BAD_RESULT = 10,     /* some line result above 3 */
-    PLAN_TOO_SHORT = 11,      /* lent buffer shorter than needed */
-    PLAN_NOT_ACCEPTED = 12,   /* image not accepted; of a conversion also: image of the other edition */
-    PLAN_DOES_NOT_FIT = 13,   /* capacity below the steps in use, or the charges do not fit the new quotas */
-    PLAN_CABIN_AT_LIMIT = 14, /* cabin at its limit */
-    PLAN_STEPS_RESERVED = 15, /* only steps reserved for other cabins are free */
-    PLAN_BAD_CABINS = 16,     /* cabin above 7, or bad list of guarantees and limits */
-    PLAN_NEEDS_EDITION_2 = 17 /* image needs edition 2: a cabin, guarantee or limit that edition 1 cannot say */
+    PLAN_DONE = 0,              /* not refused */
+    PLAN_NOT_SOUND = 1,         /* table not sound */
+    PLAN_BAD_CAPACITY = 2,      /* capacity not 1 to 128 */
+    PLAN_NOT_IN_USE = 3,        /* step not in use */
+    PLAN_BAD_EXIT = 4,          /* exit above 3 */
+    PLAN_EXIT_FILLED = 5,       /* exit to be filled holds a link */
+    PLAN_EXIT_EMPTY = 6,        /* exit to copy or clear is empty */
+    PLAN_BAD_KIND = 7,          /* kind not 1 to 3, or content out of range */
+    PLAN_FULL = 8,              /* steps in use equal the capacity */
+    PLAN_NOT_KEY_LINE = 9,      /* not a key line */
+    PLAN_BAD_RESULT = 10,       /* some line result above 3 */
+    PLAN_TOO_SHORT = 11,        /* lent buffer shorter than needed */
+    PLAN_NOT_ACCEPTED = 12,     /* image not accepted; of a conversion also: image of the other edition */
+    PLAN_DOES_NOT_FIT = 13,     /* capacity below the steps in use, or the charges do not fit the new quotas */
+    PLAN_CABIN_AT_LIMIT = 14,   /* cabin at its limit */
+    PLAN_STEPS_RESERVED = 15,   /* only steps reserved for other cabins are free */
+    PLAN_BAD_CABINS = 16,       /* cabin above 7, or bad list of guarantees and limits */
+    PLAN_NEEDS_EDITION_2 = 17,  /* image needs edition 2: a cabin, guarantee or limit that edition 1 cannot say */
+    PLAN_SLIP_NOT_ACCEPTED = 18 /* slip not accepted */
 };
 
 enum plan_ending {
@@ -212,6 +217,20 @@ plan_reply plan_link(plan_table *t, uint16_t source, uint16_t source_exit, uint1
  * first: steps made doubtful; second: steps freed. Refusals, in order: 1, 3, 4, 6. */
 plan_reply plan_clear(plan_table *t, uint16_t step, uint16_t exit);
 
+/* Empties an exit as plan_clear does, and writes a slip of it to the start of the buffer, for plan_take_back. A slip is made of words of two bytes,
+ * the low one first: the step, the exit and the number of changed steps; then of each changed step, in ascending number, the old and the new record
+ * as in an image of edition 2. The record of a free step is 22, 4, its number and zeros. So the slip has 6 bytes and 44 for each changed step, whose
+ * number is its third word, and PLAN_SLIP_MAX bytes are room enough for any. Bytes past it are not touched.
+ * first: steps made doubtful; second: steps freed. Refusals, in order: 1, 3, 4, 6, 11 where the buffer is shorter than this slip. */
+plan_reply plan_clear_with_slip(plan_table *t, uint16_t step, uint16_t exit, uint8_t *buffer, size_t length);
+
+/* Takes back the clearing of a slip, which is exactly these bytes: puts its old records in place of the new ones and works out the counters. The
+ * capacity, the last number given and the list of guarantees and limits stay. Where no call changed the table since the clearing, the result is the
+ * table from before it. A slip is accepted exactly if each new record is the present one, the table with the old ones is sound, and clearing the named
+ * exit there gives the present table and this slip. So other steps may have changed meanwhile; right after it was taken back the slip is refused.
+ * first: steps brought back into use; second: 0. Refusals, in order: 1, 18. */
+plan_reply plan_take_back(plan_table *t, const uint8_t *slip, size_t length);
+
 /* Squeezes the table into that capacity, which may also be larger, and gives it these guarantees and limits. The steps in use are renumbered from 0
  * upward in their order, every target follows, bits, counters and cabins travel with their steps, and the last number given becomes the highest of
  * them. All places above it become zero. To keep the list of the table, lend a copy of it: what is lent does not overlap.
@@ -281,6 +300,7 @@ static inline const char *plan_refusal_words(uint16_t refusal) {
     case PLAN_STEPS_RESERVED: return "only steps reserved for other cabins are free";
     case PLAN_BAD_CABINS: return "cabin above 7, or bad list of guarantees and limits";
     case PLAN_NEEDS_EDITION_2: return "image needs edition 2: a cabin, guarantee or limit that edition 1 cannot say";
+    case PLAN_SLIP_NOT_ACCEPTED: return "slip not accepted";
     default: return "unknown refusal";
     }
 }

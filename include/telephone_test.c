@@ -1,7 +1,7 @@
 /* Links libtelephone.a and tries each call from C, or from C++: edition, names and words, the worked examples P1 to P10, every refusal of every call,
- * cabins with their guarantees and limits, images of both editions and their conversions, squeezes, trials, the case of `keys`, fields that all
- * differ, lengths past 16 bits, damaged images, and bytes that are no sound table. A table is lent with bytes around it, which have to stay; a refused
- * call has to leave every byte. Prints a line for each case that fails, and 'N passed, M failed' last. */
+ * cabins with their guarantees and limits, images of both editions and their conversions, squeezes, trials, clearings taken back, the case of `keys`,
+ * fields that all differ, lengths past 16 bits, damaged images and slips, and bytes that are no sound table. A table is lent with bytes around it,
+ * which have to stay; a refused call has to leave every byte. Prints a line for each case that fails, and 'N passed, M failed' last. */
 #include "telephone.h"
 #include <stdio.h>
 #include <string.h>
@@ -69,30 +69,31 @@ static lent p1(void) {
 }
 
 static void names(void) {
-    enum { KNOWN = 18 };
+    enum { KNOWN = 19 };
     static const char *const words[KNOWN] = {
         "done", "table not sound", "capacity not 1 to 128", "step not in use", "exit above 3", "exit to be filled holds a link",
         "exit to copy or clear is empty", "kind not 1 to 3, or content out of range", "steps in use equal the capacity", "not a key line",
         "some line result above 3", "lent buffer shorter than needed", "image not accepted",
         "capacity below the steps in use, or the charges do not fit the new quotas", "cabin at its limit",
         "only steps reserved for other cabins are free", "cabin above 7, or bad list of guarantees and limits",
-        "image needs edition 2: a cabin, guarantee or limit that edition 1 cannot say"};
+        "image needs edition 2: a cabin, guarantee or limit that edition 1 cannot say", "slip not accepted"};
     static const int refusals[KNOWN] = {
         PLAN_DONE, PLAN_NOT_SOUND, PLAN_BAD_CAPACITY, PLAN_NOT_IN_USE, PLAN_BAD_EXIT, PLAN_EXIT_FILLED, PLAN_EXIT_EMPTY, PLAN_BAD_KIND, PLAN_FULL,
         PLAN_NOT_KEY_LINE, PLAN_BAD_RESULT, PLAN_TOO_SHORT, PLAN_NOT_ACCEPTED, PLAN_DOES_NOT_FIT, PLAN_CABIN_AT_LIMIT, PLAN_STEPS_RESERVED,
-        PLAN_BAD_CABINS, PLAN_NEEDS_EDITION_2};
+        PLAN_BAD_CABINS, PLAN_NEEDS_EDITION_2, PLAN_SLIP_NOT_ACCEPTED};
     int all = 1;
     expect(plan_edition() == PLAN_EDITION && PLAN_EDITION == 4, "edition");
     expect(sizeof(plan_table) == 3876, "size of a table");
     for (int i = 0; i < KNOWN; i++) all = all && refusals[i] == i && strcmp(plan_refusal_words((uint16_t)i), words[i]) == 0;
-    expect(all, "refusals 0 to 17 and their words");
+    expect(all, "refusals 0 to 18 and their words");
     all = 1;
     for (long i = KNOWN; i < 65536; i++) all = all && strcmp(plan_refusal_words((uint16_t)i), "unknown refusal") == 0;
     expect(all, "words of all other numbers");
     expect(PLAN_ALARM == 0 && PLAN_CONTACT == 1 && PLAN_MESSAGE == 2 && PLAN_WAIT == 3, "kinds");
     expect(PLAN_ANSWERED == 0 && PLAN_ENGAGED == 1 && PLAN_NO_REPLY == 2 && PLAN_LINE_FAULT == 3, "exits");
     expect(PLAN_OPEN == 0 && PLAN_SPENT == 1 && PLAN_STOPPED == 2, "endings");
-    expect(PLAN_PLACES == 128 && PLAN_EXITS == 4 && PLAN_CABINS == 8 && PLAN_IMAGE_MAX == 42 + 22 * PLAN_PLACES, "sizes");
+    expect(PLAN_PLACES == 128 && PLAN_EXITS == 4 && PLAN_CABINS == 8, "numbers of places, exits and cabins");
+    expect(PLAN_IMAGE_MAX == 42 + 22 * PLAN_PLACES && PLAN_SLIP_MAX == 6 + 44 * PLAN_PLACES, "sizes");
 }
 
 static void edits(void) {
@@ -573,6 +574,13 @@ static int leaves_every_byte(lent *m, const uint16_t a[4], const uint8_t *line) 
     if (plan_key_line(t, line, strlen((const char *)line)).refusal) all = all && memcmp(m, &was, sizeof was) == 0;
     *m = was;
     memset(lent_bytes, UNTOUCHED, room);
+    if (plan_clear_with_slip(t, a[0], a[1], lent_bytes, a[2] < room ? a[2] : room).refusal) {
+        all = all && all_untouched(lent_bytes, room) && memcmp(m, &was, sizeof was) == 0;
+    }
+    *m = was;
+    if (plan_take_back(t, lent_bytes, a[3] < room ? a[3] : room).refusal) all = all && memcmp(m, &was, sizeof was) == 0;
+    *m = was;
+    memset(lent_bytes, UNTOUCHED, room);
     if (plan_trial(t, a[3], results, 2, lent_bytes, a[2] < room ? a[2] : room).refusal) all = all && all_untouched(lent_bytes, room);
     memset(lent_bytes, UNTOUCHED, room);
     if (plan_write_image(t, lent_bytes, a[3] < room ? a[3] : room).refusal) all = all && all_untouched(lent_bytes, room);
@@ -1030,6 +1038,332 @@ static void converted_lengths(void) {
     expect(not_converted(1, bytes, 22, PLAN_IMAGE_MAX, PLAN_NOT_ACCEPTED), "the length of 2,978 records in 16 bits");
 }
 
+/* Words of two bytes, the low one first, as they stand in images and slips. */
+static void put_words(uint8_t *bytes, const uint16_t *words, int many) {
+    for (int i = 0; i < many; i++) bytes[2 * i] = (uint8_t)words[i], bytes[2 * i + 1] = (uint8_t)(words[i] >> 8);
+}
+
+static uint16_t word(const uint8_t *bytes) { return (uint16_t)(bytes[0] + 256 * bytes[1]); }
+
+/* The record of a step in edition 2; a free step has one too, with zeros. */
+static void record_of(const plan_table *t, uint16_t step, uint8_t *record) {
+    const uint16_t *to = t->targets + step * 4, *bits = t->bits + step * 4;
+    const uint16_t sum = (uint16_t)(bits[0] + 2 * bits[1] + 4 * bits[2] + 8 * bits[3] + 16 * t->own[step]);
+    const uint16_t words[11] = {22, 4, step, t->kinds[step], t->contents[step], sum, to[0], to[1], to[2], to[3], t->cabins[step]};
+    put_words(record, words, 11);
+}
+
+/* The slip of a clearing, by the tables before and after it; gives its length. */
+static size_t slip_of(const plan_table *before, const plan_table *after, uint16_t step, uint16_t exit, uint8_t *slip) {
+    uint16_t head[3] = {step, exit, 0};
+    for (uint16_t i = 0; i < PLAN_PLACES; i++) {
+        uint8_t *old = slip + 6 + 44 * head[2];
+        record_of(before, i, old);
+        record_of(after, i, old + 22);
+        if (memcmp(old, old + 22, 22) != 0) head[2]++;
+    }
+    put_words(slip, head, 3);
+    return 6 + 44 * (size_t)head[2];
+}
+
+/* Whether a clearing with a slip is refused so, and changes no byte. */
+static int not_cleared(lent *m, uint16_t step, uint16_t exit, size_t room, int refusal) {
+    static uint8_t buffer[PLAN_SLIP_MAX + EDGE];
+    const lent was = *m;
+    memset(buffer, UNTOUCHED, sizeof buffer);
+    return gave(plan_clear_with_slip(&m->table, step, exit, buffer, room), refusal, 0, 0) && all_untouched(buffer, sizeof buffer) &&
+           memcmp(m, &was, sizeof was) == 0;
+}
+
+/* Whether a take-back is refused so, and changes no byte. */
+static int not_taken_back(lent *m, const uint8_t *slip, size_t length, int refusal) {
+    const lent was = *m;
+    return gave(plan_take_back(&m->table, slip, length), refusal, 0, 0) && memcmp(m, &was, sizeof was) == 0;
+}
+
+/* Whether a clearing with a slip answers so and is that of plan_clear, and writes its slip and no byte more: into a buffer that is just long enough,
+ * and then longer; one byte less, or none, is refused. Then whether it is taken back, once: the slip cut short, or with a byte more, is refused. */
+static int regretted(lent *m, uint16_t step, uint16_t exit, int doubtful, int freed) {
+    static uint8_t slip[PLAN_SLIP_MAX], around[EDGE + PLAN_SLIP_MAX + EDGE];
+    const lent was = *m;
+    lent cleared = *m;
+    int all = gave(plan_clear(&cleared.table, step, exit), 0, doubtful, freed);
+    const size_t length = slip_of(&was.table, &cleared.table, step, exit, slip), rooms[3] = {length, length + 1, PLAN_SLIP_MAX};
+    const uint8_t *written = around + EDGE;
+    all = all && length == 50 + 44 * (size_t)doubtful;
+    all = all && not_cleared(m, step, exit, length - 1, PLAN_TOO_SHORT) && not_cleared(m, step, exit, 0, PLAN_TOO_SHORT);
+    for (int i = 0; i < 3; i++) {
+        *m = was;
+        memset(around, UNTOUCHED, sizeof around);
+        all = all && gave(plan_clear_with_slip(&m->table, step, exit, around + EDGE, rooms[i]), 0, doubtful, freed);
+        all = all && memcmp(m, &cleared, sizeof cleared) == 0 && all_untouched(around, EDGE) && memcmp(written, slip, length) == 0;
+        all = all && all_untouched(written + length, sizeof around - EDGE - length);
+    }
+    for (size_t cut = 0; cut < length; cut++) all = all && not_taken_back(m, written, cut, PLAN_SLIP_NOT_ACCEPTED);
+    all = all && not_taken_back(m, written, length + 1, PLAN_SLIP_NOT_ACCEPTED);
+    all = all && gave(plan_take_back(&m->table, written, length), 0, freed, 0) && memcmp(m, &was, sizeof was) == 0;
+    return all && memcmp(written, slip, length) == 0 && not_taken_back(m, written, length, PLAN_SLIP_NOT_ACCEPTED);
+}
+
+/* A clearing taken back (W7): P1, P5, P6, P8 and P9, the shortest and the longest slips, every exit of tables in which the fields of step 2 differ. */
+static void slips(void) {
+    static const uint16_t p1_slip[47] = {0, 0, 2, /* step, exit, changed steps; then the old and the new record of steps 0 and 1 */
+                                         22, 4, 0, 0, 0, 0, 1, 0, 0, 0, 0, 22, 4, 0, 0, 0, 0, 0, 0, 0, 0, 0,
+                                         22, 4, 1, 1, 0, 0, 0, 0, 0, 0, 0, 22, 4, 1, 0, 0, 0, 0, 0, 0, 0, 0};
+    static const uint16_t p9_slip[47] = {0, 0, 2,
+                                         22, 4, 0, 0, 0, 2, 1, 1, 0, 0, 0, 22, 4, 0, 0, 0, 2, 0, 1, 0, 0, 0,
+                                         22, 4, 1, 1, 0, 0, 0, 0, 0, 0, 0, 22, 4, 1, 1, 0, 16, 0, 0, 0, 0, 0};
+    uint8_t expected[94], slip[94];
+    lent m = p1();
+    plan_table *t = &m.table;
+    put_words(expected, p1_slip, 47);
+    expect(gave(plan_clear_with_slip(t, 0, 0, slip, sizeof slip), 0, 1, 1) && memcmp(slip, expected, sizeof slip) == 0, "the slip of P1, cleared");
+    expect(gave(plan_take_back(t, slip, sizeof slip), 0, 1, 0) && regretted(&m, 0, 0, 1, 1), "P1, cleared and taken back");
+    plan_link(t, 0, PLAN_ANSWERED, 0, PLAN_ENGAGED);
+    expect(regretted(&m, 0, PLAN_ENGAGED, 0, 0), "a weak link");
+    put_words(expected, p9_slip, 47);
+    expect(gave(plan_clear_with_slip(t, 0, 0, slip, sizeof slip), 0, 1, 0) && memcmp(slip, expected, sizeof slip) == 0, "the slip of P9");
+    expect(gave(plan_take_back(t, slip, sizeof slip), 0, 0, 0) && regretted(&m, 0, 0, 1, 0), "P9, taken back");
+    m = p1();
+    plan_link(t, 0, PLAN_ANSWERED, 1, PLAN_ANSWERED);
+    expect(regretted(&m, 1, 0, 0, 0) && regretted(&m, 0, 0, 1, 1), "P8, taken back");
+    m = p1();
+    plan_add(t, 1, PLAN_NO_REPLY, PLAN_CONTACT, 1, 0);
+    plan_link(t, 0, PLAN_ANSWERED, 2, PLAN_NO_REPLY);
+    plan_link(t, 1, PLAN_NO_REPLY, 0, PLAN_ENGAGED);
+    expect(regretted(&m, 0, PLAN_ANSWERED, 2, 0), "P5, taken back");
+    plan_clear(t, 0, PLAN_ANSWERED);
+    expect(regretted(&m, 0, PLAN_ENGAGED, 2, 2), "P6, taken back");
+    for (int p = 0; p < 3; p++) {
+        m.table = different(patterns[p]);
+        for (uint16_t i = 0; i < 4 * 11; i++) {
+            plan_table u = *t;
+            const plan_reply r = plan_clear(&u, i / 4, i % 4);
+            if (r.refusal == 0) expect(regretted(&m, i / 4, i % 4, r.first, r.second), "all fields of step 2 different");
+            else expect(not_cleared(&m, i / 4, i % 4, r.refusal == 3 ? PLAN_SLIP_MAX : 0, r.refusal), "an exit that cannot be cleared");
+        }
+    }
+    fresh(t, 128);
+    for (uint16_t step = 0; step < 127; step++) plan_add(t, step, step % 4, PLAN_WAIT, 600, 0);
+    expect(regretted(&m, 0, 0, 127, 127) && regretted(&m, 126, 2, 1, 1), "128 steps, the longest slip");
+    plan_link(t, 126, 2, 0, 1);
+    plan_link(t, 0, 0, 127, 3);
+    expect(regretted(&m, 0, 0, 127, 0), "128 steps that stay");
+    expect(edges_stand(&m), "after the slips");
+}
+
+/* Refusals of both calls, each before the next of its order. */
+static void slips_refused(void) {
+    static const size_t rooms[2] = {0, PLAN_SLIP_MAX};
+    uint8_t slip[94];
+    lent m = p1(), cleared = m, out;
+    plan_clear_with_slip(&cleared.table, 0, 0, slip, sizeof slip);
+    out = cleared;
+    out.table.last = 4;
+    for (int i = 0; i < 2; i++) {
+        expect(not_cleared(&out, 9, 9, rooms[i], 1) && not_cleared(&out, 0, 0, rooms[i], 1), "a clearing in a table that is not sound");
+        expect(not_cleared(&m, 2, 4, rooms[i], 3) && not_cleared(&m, 65535, 0, rooms[i], 3), "at a step that is not in use");
+        expect(not_cleared(&m, 0, 4, rooms[i], 4) && not_cleared(&m, 1, 256, rooms[i], 4), "at an exit above 3");
+        expect(not_cleared(&m, 0, 1, rooms[i], 6) && not_cleared(&m, 1, 0, rooms[i], 6), "at an empty exit");
+    }
+    expect(not_taken_back(&out, slip, sizeof slip, 1) && not_taken_back(&out, slip, 0, 1), "a take-back in a table that is not sound");
+    expect(not_taken_back(&cleared, slip, 0, 18) && not_taken_back(&m, slip, 0, 18), "no slip");
+    expect(not_taken_back(&m, slip, sizeof slip, 18), "a clearing that was not made");
+    expect(gave(plan_take_back(&cleared.table, slip, sizeof slip), 0, 1, 0) && memcmp(&cleared, &m, sizeof m) == 0, "the slip that was refused");
+}
+
+/* A table of two cabins: steps 1 and 2, which leads back to 1, are of cabin 1, step 3 is of cabin 0. Clearing exit 0 of step 0 frees 1 and 2. */
+static lent shared(void) {
+    static const plan_quota quotas[PLAN_CABINS] = {{1, 2}, {0, 3}};
+    lent m = f4();
+    plan_fresh(&m.table, 8, quotas);
+    plan_add(&m.table, 0, 0, PLAN_CONTACT, 0, 1);
+    plan_add(&m.table, 1, 2, PLAN_MESSAGE, 15, 1);
+    plan_add(&m.table, 0, 3, PLAN_WAIT, 600, 0);
+    plan_link(&m.table, 0, 0, 2, 2);
+    return m;
+}
+
+/* What may happen between a clearing and its take-back: calls that change nothing, and changes that leave the slip's steps as they are. */
+static void regrets(void) {
+    enum { LENGTH = 50 + 44 * 2 };
+    uint8_t slip[LENGTH], other[PLAN_SLIP_MAX], bytes[PLAN_IMAGE_MAX];
+    lent m = shared(), n;
+    plan_table *t = &m.table;
+    const lent before = m;
+    expect(gave(plan_clear_with_slip(t, 0, 0, slip, LENGTH), 0, 2, 2) && word(slip + 4) == 3, "a clearing that frees two steps");
+    const lent cleared = m;
+    expect(plan_read(t, 3).refusal == 0 && plan_trial(t, 9, slip, 0, bytes, 9).refusal == 0 && gave(plan_counts(t), 0, 2, 6), "calls that read");
+    expect(plan_write_image(t, bytes, sizeof bytes).length == 42 + 2 * 22 && plan_key_line(t, (const uint8_t *)"H*4A", 4).refusal == 0, "and write");
+    REFUSED(3, m, plan_add(t, 1, 0, PLAN_CONTACT, 0, 0));
+    REFUSED(6, m, plan_clear(t, 0, 0));
+    REFUSED(13, m, squeeze(t, 1));
+    REFUSED(18, m, plan_take_back(t, bytes, 42));
+    expect(gave(plan_take_back(t, slip, LENGTH), 0, 2, 0) && memcmp(&m, &before, sizeof m) == 0, "taken back after them");
+    expect(gave(plan_key_line(t, (const uint8_t *)"H*30000A", 8), 0, 2, 2) && memcmp(&m, &cleared, sizeof m) == 0, "cleared by a key line");
+    expect(gave(plan_take_back(t, slip, LENGTH), 0, 2, 0) && memcmp(&m, &before, sizeof m) == 0, "and taken back");
+
+    m = cleared;
+    expect(gave(plan_add(t, 0, 0, PLAN_CONTACT, 9, 1), 0, 4, 0) && not_taken_back(&m, slip, LENGTH, 18), "a step added at the cleared exit");
+    expect(gave(plan_clear(t, 0, 0), 0, 1, 1) && gave(plan_take_back(t, slip, LENGTH), 0, 2, 0), "and cleared again");
+    n = before;
+    n.table.last = 4;
+    expect(memcmp(&m, &n, sizeof m) == 0, "the last number given stays");
+    m = cleared;
+    plan_link(t, 0, 3, 0, 0);
+    expect(not_taken_back(&m, slip, LENGTH, 18), "a link copied into the cleared exit");
+    m = cleared;
+    plan_link(t, 0, 3, 0, 1);
+    expect(not_taken_back(&m, slip, LENGTH, 18), "a link copied into another exit of its step");
+
+    m = cleared, n = before;
+    plan_add(&n.table, 3, 0, PLAN_CONTACT, 9, 1);
+    expect(gave(plan_add(t, 3, 0, PLAN_CONTACT, 9, 1), 0, 4, 0), "a step added elsewhere");
+    expect(gave(plan_take_back(t, slip, LENGTH), 0, 2, 0) && memcmp(&m, &n, sizeof m) == 0, "stays, with its number");
+    expect(gave(plan_clear(t, 3, 0), 0, 1, 1) && not_taken_back(&m, slip, LENGTH, 18), "a clearing elsewhere, after the take-back");
+    m = cleared;
+    plan_add(t, 3, 0, PLAN_CONTACT, 9, 1);
+    expect(gave(plan_add(t, 3, 1, PLAN_CONTACT, 9, 1), 0, 5, 0) && not_taken_back(&m, slip, LENGTH, 18), "a limit, reached meanwhile");
+    expect(gave(plan_clear(t, 3, 1), 0, 1, 1) && gave(plan_take_back(t, slip, LENGTH), 0, 2, 0), "and left again");
+
+    m = p1();
+    plan_add(t, 0, 1, PLAN_CONTACT, 1, 0);
+    plan_clear_with_slip(t, 0, 0, other, sizeof other);
+    plan_add(t, 2, 0, PLAN_CONTACT, 2, 0);
+    expect(gave(plan_add(t, 2, 1, PLAN_CONTACT, 0, 0), 0, 1, 0) && not_taken_back(&m, other, 94, 18), "a number given again");
+    expect(gave(plan_clear(t, 2, 1), 0, 1, 1) && gave(plan_take_back(t, other, 94), 0, 1, 0), "and freed again");
+    m = cleared;
+    plan_quota quotas[PLAN_CABINS] = {{1, 2}, {0, 3}};
+    expect(gave(plan_squeeze(t, 4, quotas), 0, 0, 0) && not_taken_back(&m, slip, LENGTH, 18), "a squeeze in between");
+    m = before;
+    expect(gave(plan_clear_with_slip(t, 2, 2, other, 50), 0, 0, 0) && gave(plan_clear_with_slip(t, 0, 0, slip, LENGTH), 0, 2, 2), "two clearings");
+    expect(not_taken_back(&m, other, 50, 18), "the first cannot be taken back before the second");
+    expect(gave(plan_take_back(t, slip, LENGTH), 0, 2, 0) && gave(plan_take_back(t, other, 50), 0, 0, 0), "the second first");
+    expect(memcmp(&m, &before, sizeof m) == 0 && plan_is_sound(t) == 1, "after both");
+}
+
+/* Puts a record into its step. */
+static void put_record(plan_table *t, const uint8_t *record) {
+    const uint16_t step = word(record + 4), bits = word(record + 10);
+    t->kinds[step] = word(record + 6);
+    t->contents[step] = word(record + 8);
+    t->own[step] = bits / 16;
+    t->cabins[step] = word(record + 20);
+    t->used[step] = step == 0 || t->kinds[step] != 0;
+    for (int i = 0; i < 4; i++) t->targets[step * 4 + i] = word(record + 12 + 2 * i), t->bits[step * 4 + i] = bits >> i & 1;
+}
+
+/* Works out all counters. */
+static void recount(plan_table *t) {
+    memset(t->counts, 0, sizeof t->counts);
+    for (int i = 0; i < PLAN_PLACES * 4; i++) {
+        if (t->targets[i] != 0 && t->targets[i] < PLAN_PLACES) t->counts[t->targets[i] * 2 + t->bits[i]]++;
+    }
+}
+
+/* Whether a slip is to be accepted, by the sentence of W7, and the table that it gives then. */
+static int to_be_accepted(const plan_table *t, const uint8_t *slip, size_t length, plan_table *before) {
+    static uint8_t again[PLAN_SLIP_MAX];
+    uint8_t record[22];
+    if (length < 6 || length > PLAN_SLIP_MAX || length % 44 != 6) return 0;
+    *before = *t;
+    for (const uint8_t *old = slip + 6; old < slip + length; old += 44) {
+        if (word(old + 4) >= PLAN_PLACES || word(old + 26) != word(old + 4)) return 0;
+        record_of(t, word(old + 4), record);
+        if (memcmp(record, old + 22, 22) != 0) return 0;
+        put_record(before, old);
+    }
+    recount(before);
+    plan_table after = *before;
+    if (plan_clear(&after, word(slip), word(slip + 2)).refusal != 0 || !same(&after, t)) return 0;
+    return slip_of(before, &after, word(slip), word(slip + 2), again) == length && memcmp(again, slip, length) == 0;
+}
+
+/* Whether bytes are taken back exactly if they are to be accepted. Counts both. */
+static int answered_slip(lent *m, const uint8_t *slip, size_t length, int met[2]) {
+    const lent was = *m;
+    plan_table before;
+    const int accepted = to_be_accepted(&m->table, slip, length, &before);
+    met[accepted]++;
+    if (!accepted) return not_taken_back(m, slip, length, PLAN_SLIP_NOT_ACCEPTED);
+    const int back = plan_counts(&before).first - plan_counts(&m->table).first;
+    const int all = gave(plan_take_back(&m->table, slip, length), 0, back, 0) && same(&m->table, &before) && edges_stand(m);
+    *m = was;
+    return all;
+}
+
+/* Damaged slips: every value in every byte, records exchanged, doubled, added and left out. A slip that no clearing wrote is accepted where it could
+ * have been written, as one with another content of a step that went. */
+static void damaged_slips(void) {
+    enum { LENGTH = 50 + 44 * 2 };
+    uint8_t slip[LENGTH + 44], bytes[LENGTH + 44];
+    int met[2] = {0, 0}, all = 1;
+    lent m = shared();
+    plan_table *t = &m.table;
+    plan_clear_with_slip(t, 0, 0, slip, LENGTH);
+    memcpy(bytes, slip, LENGTH);
+    for (size_t i = 0; i < LENGTH; i++) {
+        for (int value = 0; value < 256; value++) {
+            bytes[i] = (uint8_t)value;
+            all = all && answered_slip(&m, bytes, LENGTH, met);
+        }
+        bytes[i] = slip[i];
+    }
+    expect(all && met[0] > 30000 && met[1] > 200, "every value in every byte");
+    bytes[6 + 44 + 8] ^= 5;
+    expect(gave(plan_take_back(t, bytes, LENGTH), 0, 2, 0) && plan_read(t, 1).content == 5, "another content of a step that went");
+    expect(gave(plan_clear_with_slip(t, 0, 0, slip, LENGTH), 0, 2, 2) && memcmp(slip, bytes, LENGTH) == 0, "is in the slip of its clearing");
+    memcpy(bytes + 6, slip + 6 + 44, 44);
+    memcpy(bytes + 6 + 44, slip + 6, 44);
+    expect(not_taken_back(&m, bytes, LENGTH, 18), "records exchanged");
+    memcpy(bytes, slip, LENGTH);
+    memcpy(bytes + LENGTH, slip + LENGTH - 44, 44);
+    bytes[4] = 4;
+    expect(not_taken_back(&m, bytes, LENGTH + 44, 18), "a step in it twice");
+    for (uint16_t step = 3; step < 128; step++) {
+        record_of(t, step, bytes + LENGTH);
+        record_of(t, step, bytes + LENGTH + 22);
+        all = all && not_taken_back(&m, bytes, LENGTH + 44, 18);
+    }
+    expect(all, "a step in it that did not change");
+    memcpy(bytes, slip, LENGTH);
+    bytes[4] = 2;
+    expect(not_taken_back(&m, bytes, LENGTH - 44, 18), "a changed step left out");
+    bytes[4] = 0;
+    expect(not_taken_back(&m, bytes, 6, 18), "no step in it");
+    memset(bytes, 0, sizeof bytes);
+    expect(not_taken_back(&m, bytes, LENGTH, 18) && not_taken_back(&m, bytes, 6, 18), "zeros");
+    memset(bytes, 255, sizeof bytes);
+    expect(not_taken_back(&m, bytes, LENGTH, 18) && not_taken_back(&m, bytes, 50, 18), "ones");
+    expect(gave(plan_take_back(t, slip, LENGTH), 0, 2, 0) && edges_stand(&m), "the slip itself, after all of them");
+}
+
+/* Slips with lengths that 16 bits do not hold: the buffer, the bytes, and what a number of changed steps asks for. */
+static void slip_lengths(void) {
+    enum { LENGTH = 94, MANY = 1490, MOST = 6 + 44 * MANY };
+    static const size_t rooms[4] = {65535, 65536, 65536 + LENGTH - 1, MOST};
+    static uint8_t bytes[65536 + LENGTH + EDGE];
+    lent m = p1();
+    const lent was = m;
+    for (int i = 0; i < 4; i++) {
+        m = was;
+        memset(bytes, UNTOUCHED, sizeof bytes);
+        const plan_reply r = plan_clear_with_slip(&m.table, 0, 0, bytes, rooms[i]);
+        expect(gave(r, 0, 1, 1) && all_untouched(bytes + LENGTH, sizeof bytes - LENGTH), "much room");
+    }
+    expect(not_taken_back(&m, bytes, 65536 + LENGTH, 18) && not_taken_back(&m, bytes, 65536, 18), "a slip and 65,536 bytes");
+    memset(bytes + LENGTH, 0, sizeof bytes - LENGTH);
+    expect(not_taken_back(&m, bytes, 65536 + LENGTH, 18) && not_taken_back(&m, bytes, 65536 + 6, 18), "which are zeros");
+    /* 1,490 changed steps have a length of 30 in 16 bits, and 16,386 one of 94 */
+    for (size_t at = LENGTH; at < MOST; at += 44) memcpy(bytes + at, bytes + LENGTH - 44, 44);
+    bytes[4] = MANY % 256, bytes[5] = MANY / 256;
+    expect(not_taken_back(&m, bytes, MOST, 18) && not_taken_back(&m, bytes, MOST % 65536, 18), "1,490 changed steps");
+    bytes[4] = 2, bytes[5] = 64;
+    expect(not_taken_back(&m, bytes, LENGTH, 18), "16,386 changed steps");
+    bytes[5] = 0;
+    expect(gave(plan_take_back(&m.table, bytes, LENGTH), 0, 1, 0) && memcmp(&m, &was, sizeof m) == 0, "the slip alone");
+}
+
 static void keys(void) {
     static const char *const lines[5] = {"H*100001000A", "H*200000012A", "H*30000A", "H*4A", "H*30000A"};
     static const int answers[5][3] = {{0, 1, 0}, {0, 0, 0}, {0, 1, 1}, {0, 1, 127}, {6, 0, 0}};
@@ -1078,6 +1412,11 @@ int main(void) {
     trials();
     lengths();
     converted_lengths();
+    slips();
+    slips_refused();
+    regrets();
+    damaged_slips();
+    slip_lengths();
     keys();
     wild();
     printf("%d passed, %d failed\n", passed, failed);

@@ -1,7 +1,7 @@
 //! Prints the numbers: times as median and best of many passes, all measured in this process but those of the program `keys`, then stack and size.
-//! (a) is the proved library through its interface, (b) `counted`, (c) `marked`, (d) `tuned` and `convert`. Before anything is timed, (b), (c) and
-//! (d) are held to (a) after every edit, the soundness tests of (b) and (d) on damaged tables, and the trials and conversions of (d). With the word
-//! `edits`, it prints the edits that `versions` reads, and nothing else.
+//! (a) is the proved library through its interface, (b) `counted`, (c) `marked`, (d) `tuned`, `convert` and `slip`. Before anything is timed, (b), (c) and
+//! (d) are held to (a) after every edit, the soundness tests of (b) and (d) on damaged tables, and the trials, conversions and slips of (d). With the
+//! word `edits`, it prints the edits that `versions` reads, and nothing else.
 
 mod clock;
 mod convert;
@@ -9,6 +9,7 @@ mod counted;
 mod keys;
 mod marked;
 mod quotas;
+mod slip;
 mod tuned;
 
 use compare::stack::depth;
@@ -60,7 +61,7 @@ fn edits(seed: u64, quotas: Quotas, dense: bool, rings: bool) -> Vec<Command> {
         } else {
             continue;
         };
-        plan.draw(&Call::Edit(command)).expect("an edit that suits the plan");
+        plan.draw(&Call::Edit(command), false).expect("an edit that suits the plan");
         made.push(command);
     }
     made
@@ -510,6 +511,77 @@ fn trial_row(name: &str, kind: u16) {
     row(name, &times.map(|time| time.each(1000)));
 }
 
+/// Clears an exit with a slip by (a) and (d), and holds the answer, the table and the buffer to those of (a). Gives the answer, the table and the slip.
+fn cleared_with_slip(table: &Table, step: u16, exit: u16, room: usize) -> (Answer, Table, Vec<u8>) {
+    let (mut a, mut d) = (table.clone(), table.clone());
+    let (mut lent, mut other) = (vec![0xEE; room], vec![0xEE; room]);
+    let reply = answer(raw::clear_with_slip(&mut a, step, exit, &mut lent));
+    assert_eq!(slip::clear(&mut d, step, exit, &mut other), reply, "(d) differs: {step} {exit}");
+    assert!(a == d && lent == other, "(d) has another table or other bytes: {step} {exit}");
+    let length = reply.map_or(0, |(doubtful, _)| 50 + 44 * usize::from(doubtful));
+    lent.truncate(length);
+    (reply, a, lent)
+}
+
+/// Takes back a slip by (a) and (d), and holds the answer and the table to those of (a). Gives the answer.
+fn taken_back(table: &Table, slip: &[u8]) -> Answer {
+    let (mut a, mut d) = (table.clone(), table.clone());
+    let reply = answer(raw::take_back(&mut a, slip));
+    assert_eq!(slip::take_back(&mut d, slip).map(|back| (back, 0)), reply, "(d) differs: {slip:?}");
+    assert!(a == d, "(d) has another table: {slip:?}");
+    reply
+}
+
+/// A call on copies of one table, by (a) and (d). Gives the times of (a).
+fn copy_row(
+    name: &str,
+    table: &Table,
+    mut a_call: impl FnMut(&mut Table) -> Answer,
+    mut d_call: impl FnMut(&mut Table) -> Answer,
+) -> Times {
+    let (mut a, mut d) = (table.clone(), table.clone());
+    let times = passes(
+        500,
+        [
+            &mut || {
+                a.clone_from(black_box(table));
+                black_box(a_call(&mut a)).unwrap();
+            },
+            &mut || {
+                d.clone_from(black_box(table));
+                black_box(d_call(&mut d)).unwrap();
+            },
+        ],
+    );
+    row(name, &times);
+    times[0].clone()
+}
+
+/// Clearing exit 0 of step 0 with a slip, by (a) and (d). Gives the times of (a).
+fn slip_row(name: &str, table: &Table) -> Times {
+    assert!(cleared_with_slip(table, 0, 0, telephone::SLIP_MAX).0.is_ok(), "{name}");
+    let mut buffer = [0; telephone::SLIP_MAX];
+    let mut other = buffer;
+    copy_row(
+        name,
+        table,
+        |t| answer(raw::clear_with_slip(t, 0, 0, &mut buffer)),
+        |t| slip::clear(t, 0, 0, &mut other),
+    )
+}
+
+/// Taking that back by (a) and (d).
+fn back_row(name: &str, table: &Table) {
+    let (_, cleared, slip) = cleared_with_slip(table, 0, 0, telephone::SLIP_MAX);
+    assert!(taken_back(&cleared, &slip).is_ok(), "{name}");
+    copy_row(
+        name,
+        &cleared,
+        |t| answer(raw::take_back(t, black_box(&slip))),
+        |t| slip::take_back(t, black_box(&slip)).map(|back| (back, 0)),
+    );
+}
+
 /// A conversion by (a).
 fn proved_conversion(way: Way, image: &[u8], buffer: &mut [u8]) -> Result<u16, u16> {
     let reply = match way {
@@ -685,7 +757,7 @@ fn print_numbers() {
     println!("(a) the proved library");
     println!("(b) Rust with bits and counters, and a linear soundness test on every call");
     println!("(c) Rust with the plain plan, which marks after each clearing; it has no bits, no counters and no soundness test");
-    println!("(d) the job of (b), trials and conversions, in safe Rust written for speed");
+    println!("(d) the job of (b), trials, conversions and slips, in safe Rust written for speed");
     println!("All four agree in each answer, and in the table or plan after each of {} edits; (a), (b) and (d) agree on", mixes.len() * EDITS);
     println!("{sound} tables that are sound and {unsound} that are not. Nanoseconds of processor time, median and best of {PASSES} passes;");
     println!("of ratios, the median over the passes and the ratio of the best.");
@@ -704,6 +776,12 @@ fn print_numbers() {
         ("upward, no exit empty", chain(1..128, Chain::Dense)),
         ("downward, no exit empty", chain((1..128).rev(), Chain::Dense)),
     ];
+    // exit 1 of step 0 holds the chain, and exit 0 is weak
+    let weak = {
+        let mut table = kept(&taken_back[0].1);
+        table.bits.swap(0, 1);
+        lend(&table)
+    };
     head("Soundness test of one table", &["(a)", "(b)", "(d)"]);
     test_row("fresh, capacity 128", &sole());
     for (mix, table) in mixes.iter().zip(&tables) {
@@ -718,6 +796,23 @@ fn print_numbers() {
         clear_row(&format!("127 taken back {name}"), table, (127, 0));
     }
     println!("The worst order is 1, 127, 2, 126 and so on. Freeing 127 steps takes (a) {:.2} times its soundness test.", clearing.median() / test.median());
+
+    head("Copying, clearing with a slip", &["(a)", "(d)"]);
+    let with_slip = slip_row("127 steps freed", &freed);
+    for (name, table) in [&taken_back[0], &taken_back[3]] {
+        slip_row(&format!("127 taken back {name}"), table);
+    }
+    slip_row("a weak link, no step doubtful", &weak);
+    head("Copying, taking that back", &["(a)", "(d)"]);
+    back_row("127 steps brought back", &freed);
+    for (name, table) in [&taken_back[0], &taken_back[3]] {
+        back_row(&format!("127 bits, {name}"), table);
+    }
+    back_row("a weak link", &weak);
+    println!(
+        "With a slip, freeing 127 steps takes (a) {:.2} times the clearing without.",
+        with_slip.median() / clearing.median()
+    );
 
     head("Copying a table and squeezing it", &programs);
     squeeze_row("64 of 128 steps in use, spread", &chain((2..128).step_by(2), Chain::Dense));
@@ -748,8 +843,9 @@ mod tests {
     use super::*;
     use compare::Refusals;
     use reference::convert::Conversion;
+    use reference::faults::Fault;
     use reference::generate::{trials, Generator};
-    use reference::plan::plan_of;
+    use reference::history::run;
 
     #[test]
     fn programs_agree() {
@@ -772,7 +868,7 @@ mod tests {
             let mut four = Four::new(&lend(&Random(seed).sound_table()));
             let mut generator = Generator::new(seed);
             for _ in 0..200 {
-                let answer = match generator.call(&plan_of(&kept(&four.a))) {
+                let answer = match generator.call(&kept(&four.a)) {
                     Call::Edit(Command::Count) => continue,
                     Call::Edit(edit) => four.edit(edit),
                     Call::Squeeze { capacity, quotas } => {
@@ -855,6 +951,53 @@ mod tests {
         }
         for (found, refusals) in found.iter().zip([&[0, 11, 12][..], &[0, 11, 12, 17]]) {
             assert!(refusals.iter().all(|&refusal: &usize| found[refusal] > 200), "{found:?}");
+        }
+    }
+
+    /// Slips of generated tables and histories and of the chains that are timed: into all sorts of buffers; taken back, damaged and made up.
+    #[test]
+    fn slips_agree() {
+        let mut found = Refusals::default();
+        let mut note = |reply: Answer| found[usize::from(reply.err().unwrap_or(0))] += 1;
+        let mut random = Random(8);
+        for seed in 0..120 {
+            let mut table = Random(seed).sound_table();
+            let mut generator = Generator::new(seed);
+            for _ in 0..200 {
+                let call = generator.call(&table);
+                let lent = lend(&table);
+                match &call {
+                    Call::ClearWithSlip { step, exit, buffer } => {
+                        note(cleared_with_slip(&lent, *step, *exit, *buffer).0);
+                    }
+                    Call::TakeBack { slip } => note(taken_back(&lent, slip)),
+                    _ => {}
+                }
+                run(&mut table, &call, Fault::None);
+            }
+            let mut slip = random.made_up_slip(&table);
+            for _ in 0..20 {
+                note(taken_back(&lend(&table), &slip));
+                random.damage_slip(&table, &mut slip);
+            }
+            random.damage(&mut table);
+            note(cleared_with_slip(&lend(&table), 0, 0, 5638).0);
+            note(taken_back(&lend(&table), &slip));
+        }
+        for how in [Chain::Free, Chain::Held, Chain::Dense] {
+            let (_, cleared, mut slip) = cleared_with_slip(&chain(1..128, how), 0, 0, 5638);
+            for at in 0..slip.len() {
+                let was = slip[at];
+                for now in [was ^ 1, was ^ 16, was.wrapping_add(1), 255] {
+                    slip[at] = now;
+                    note(taken_back(&cleared, &slip));
+                }
+                slip[at] = was;
+            }
+            note(taken_back(&cleared, &slip));
+        }
+        for refusal in [0, 1, 3, 4, 6, 11, 18] {
+            assert!(found[refusal] > 20, "{found:?}");
         }
     }
 

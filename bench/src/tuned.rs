@@ -249,22 +249,45 @@ pub fn clear(t: &mut Table, step: u16, exit: u16) -> Result<(u16, u16), u16> {
     if !sound(t) {
         return Err(1);
     }
+    let at = filled(t, step, exit)?;
+    let (doubtful, held) = unlink(t, at);
+    let lost = repair(t, doubtful, held);
+    Ok((doubtful.count_ones() as u16, lost.count_ones() as u16))
+}
+
+/// The place of an exit that holds a link, or refusal 3, 4 or 6.
+#[inline(always)]
+pub fn filled(t: &Table, step: u16, exit: u16) -> Result<usize, u16> {
     let at = place(t, step, exit)?;
-    let (target, bit) = (usize::from(t.targets[at]) % PLACES, t.bits[at]);
-    if target == 0 {
+    if t.targets[at] == 0 {
         return Err(6);
     }
+    Ok(at)
+}
+
+/// Empties an exit that holds a link; gives the doubtful steps, and those of them that are held from elsewhere.
+#[inline(always)]
+pub fn unlink(t: &mut Table, at: usize) -> (u128, u128) {
+    let (target, bit) = (usize::from(t.targets[at]) % PLACES, t.bits[at]);
     let count = &mut t.counts[target * 2 + usize::from(bit & 1)];
     *count -= 1;
     let last = *count == 0;
     (t.targets[at], t.bits[at]) = (0, 0);
     if bit != t.own[target] || !last {
-        return Ok((0, 0));
+        return (0, 0);
     }
-    let (doubtful, held) = doubtful(t, target);
+    doubtful(t, target)
+}
+
+/// Takes steps back and frees the rest of the doubtful ones, which it gives.
+#[inline(always)]
+pub fn repair(t: &mut Table, doubtful: u128, held: u128) -> u128 {
+    if doubtful == 0 {
+        return 0;
+    }
     let lost = take_back(t, doubtful, held);
     free(t, lost);
-    Ok((doubtful.count_ones() as u16, lost.count_ones() as u16))
+    lost
 }
 
 #[inline(never)]
@@ -348,7 +371,7 @@ fn move_fields<const N: usize>(fields: &mut [u16], from: usize, to: usize) {
 
 /// The set of one step.
 #[inline(always)]
-fn one(step: usize) -> u128 {
+pub fn one(step: usize) -> u128 {
     let bit = u128::from(1u64 << (step % 64));
     if step < 64 {
         bit
@@ -359,7 +382,7 @@ fn one(step: usize) -> u128 {
 
 /// The lowest step of a set that has one.
 #[inline(always)]
-fn lowest(set: u128) -> usize {
+pub fn lowest(set: u128) -> usize {
     let (low, high) = (set as u64, (set >> 64) as u64);
     let lowest = if low != 0 { low.trailing_zeros() } else { 64 + high.trailing_zeros() };
     lowest as usize % PLACES

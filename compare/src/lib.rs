@@ -11,7 +11,7 @@ use reference::convert::{self, Conversion, Way};
 use reference::faults::Fault;
 use reference::generate::{key_text, Generator};
 use reference::history::{self, agrees, Call, Outcome, Start, UNTOUCHED};
-use reference::plan::{plan_of, Plan};
+use reference::plan::plan_of;
 use reference::sound::{sound, CONTACT};
 use reference::table::{Quotas, Table};
 use std::fmt::{self, Debug};
@@ -21,7 +21,7 @@ use telephone::raw::{self, Quota};
 pub const WORDS: usize = size_of::<raw::Table>() / 2;
 
 /// How often each refusal, 0 to the highest, came up.
-pub type Refusals = [usize; 18];
+pub type Refusals = [usize; 19];
 
 /// The same table for the interface.
 pub fn lend(table: &Table) -> raw::Table {
@@ -150,6 +150,12 @@ pub fn call(table: &mut raw::Table, call: &Call) -> Outcome {
         }
         Call::Edit(Command::Clear { step, exit }) => two(raw::clear(table, *step, *exit)),
         Call::Edit(Command::Count) => two(raw::counts(table)),
+        Call::ClearWithSlip { step, exit, buffer } => {
+            let (reply, lent) =
+                with_buffer(*buffer, |buffer| raw::clear_with_slip(table, *step, *exit, buffer));
+            Outcome { lent, ..two(reply) }
+        }
+        Call::TakeBack { slip } => two(with_bytes(slip, |slip| raw::take_back(table, slip))),
         Call::Squeeze { capacity, quotas } => {
             two(with_list(quotas, |quotas| raw::squeeze(table, *capacity, quotas)))
         }
@@ -331,7 +337,7 @@ pub fn as_said(table: &Table, call: &Call) -> Outcome {
     let outcome = both(&mut made, call);
     if sound(table) {
         let mut plan = plan_of(table);
-        let said = plan.draw(call);
+        let said = plan.draw(call, call.told(outcome.refusal));
         assert!(agrees(&outcome, said), "{call:?}: {outcome:?}, plan: {said:?}");
         assert!(plan_of(&made) == plan, "{call:?}: another plan");
     } else {
@@ -350,12 +356,12 @@ pub fn difference(proved: &Table, second: &Table) -> String {
     }
 }
 
-/// The next line of a visit by key lines: most are edits that suit the plan, the rest are malformed or odd.
-pub fn next_line(generator: &mut Generator, plan: &Plan) -> Vec<u8> {
-    match generator.call(plan) {
+/// The next line of a visit by key lines: most are edits that suit the table, the rest are malformed or odd.
+pub fn next_line(generator: &mut Generator, table: &Table) -> Vec<u8> {
+    match generator.call(table) {
         Call::Edit(command) => key_text(command),
         Call::KeyLine(line) => line,
-        _ => generator.key_line(plan),
+        _ => generator.key_line(&plan_of(table)),
     }
 }
 

@@ -13,7 +13,6 @@ use reference::image::{
     encode, in_edition_1, load, records, sizes, HEADER, OLD_HEADER, OLD_RECORD, RECORD,
 };
 use reference::laws;
-use reference::plan::plan_of;
 use reference::table::Table;
 
 const WAYS: [Way; 2] = [Way::Up, Way::Down];
@@ -277,7 +276,7 @@ fn images_of_histories() {
         let mut table = fresh_for_cabin_0(128);
         let mut generator = Generator::new(seed);
         for call in 0..600 {
-            let line = next_line(&mut generator, &plan_of(&table));
+            let line = next_line(&mut generator, &table);
             both(&mut table, &Call::KeyLine(line));
             if call % 12 == 0 {
                 convert_written(&table, &mut seen);
@@ -290,7 +289,7 @@ fn images_of_histories() {
         begun.unwrap();
         let mut generator = Generator::new(seed);
         for call in 0..150 {
-            pair.call(&generator.call(&plan_of(&pair.second))).unwrap();
+            pair.call(&generator.call(&pair.second)).unwrap();
             if call % 12 == 0 {
                 convert_written(&pair.second, &mut seen);
             }

@@ -1,14 +1,14 @@
 //! Faults planted in the second program. The comparison has to find each, by the evidence that it leaves, in the calls that have it and in no other.
 
 use compare::{converted, ring, rounds, Evidence, Pair};
-use reference::cabins::one_cabin;
-use reference::calls::{fresh_for_cabin_0, Command};
+use reference::cabins::{list, one_cabin};
+use reference::calls::{clear, fresh, fresh_for_cabin_0, Command};
 use reference::convert::{Conversion, Way};
 use reference::faults::{Fault, Length, Part, Sort};
 use reference::generate::{key_text, start, Generator, Random};
 use reference::history::{run, Call, Start};
 use reference::image::{encode, in_edition_1};
-use reference::plan::plan_of;
+use reference::slip::{between, LARGEST_SLIP};
 use reference::sound::{ALARM, CONTACT, MESSAGE, WAIT};
 use reference::table::Table;
 use std::collections::BTreeSet;
@@ -29,11 +29,11 @@ impl Cases {
     }
 }
 
-/// Calls on tables: those of made-up histories, half of them by key lines, each sort on a table that is not sound, a key line with two refusals, and
-/// some calls with lengths past 8 and 16 bits.
+/// Calls on tables: those of made-up histories, half of them by key lines, each sort on a table that is not sound, a key line with two refusals, an add
+/// held back by a guarantee, and some calls with lengths past 8 and 16 bits.
 fn cases() -> Vec<(Table, Call)> {
     let mut cases = Vec::new();
-    for seed in 0..32 {
+    for seed in 0..40 {
         let mut table = match seed % 4 {
             0 => fresh_for_cabin_0(128),
             1 => fresh_for_cabin_0(4),
@@ -41,21 +41,28 @@ fn cases() -> Vec<(Table, Call)> {
         };
         let mut generator = Generator::new(seed);
         for _ in 0..150 {
-            let call = match generator.call(&plan_of(&table)) {
-                Call::Edit(command) if seed >= 16 => Call::KeyLine(key_text(command)),
+            let call = match generator.call(&table) {
+                Call::Edit(command) if seed >= 20 => Call::KeyLine(key_text(command)),
                 call => call,
             };
             cases.push((table.clone(), call.clone()));
             run(&mut table, &call, Fault::None);
         }
     }
-    let mut unsound = ring(&[CONTACT; 5]);
+    let kinds = [CONTACT; 5];
+    let ring = ring(&kinds);
+    let mut cleared = ring.clone();
+    assert_eq!(clear(&mut cleared, 0, 0).refusal, 0);
+    let slip = between(&ring, &cleared, 0, 0);
+    let mut unsound = ring.clone();
     unsound.counts[3] += 1;
     let each = [
         Call::Edit(Command::Add { holder: 0, exit: 3, kind: 1, content: 0, cabin: 0 }),
         Call::Edit(Command::Link { source: 0, source_exit: 0, second: 0, second_exit: 2 }),
         Call::Edit(Command::Clear { step: 0, exit: 0 }),
         Call::Edit(Command::Count),
+        Call::ClearWithSlip { step: 0, exit: 0, buffer: LARGEST_SLIP },
+        Call::TakeBack { slip: slip.clone() },
         Call::Squeeze { capacity: 128, quotas: one_cabin(128) },
         Call::Read { step: 0 },
         Call::Trial { limit: 4, results: vec![0, 1], trace: 4 },
@@ -64,15 +71,19 @@ fn cases() -> Vec<(Table, Call)> {
         Call::KeyLine(b"H*4A".to_vec()),
     ];
     cases.extend(each.map(|call| (unsound.clone(), call)));
-    let kinds = [CONTACT; 5];
-    let ring = ring(&kinds);
     let refused = Command::Add { holder: 0, exit: 0, kind: 0, content: 0, cabin: 0 };
     cases.push((ring.clone(), Call::KeyLine(key_text(refused))));
+    // cabin 0 may have one step, and all places are guaranteed to cabin 1
+    let (reserved, _) = fresh(4, list(&[[0, 1], [3, 3]]));
+    let held = Command::Add { holder: 0, exit: 0, kind: 1, content: 0, cabin: 0 };
+    cases.push((reserved, Call::Edit(held)));
     for (limit, results, trace) in [(300, 300, 300), (65535, 70_000, 65_535), (9, 7, 65_536)] {
         let results = rounds(&kinds, results);
         cases.push((ring.clone(), Call::Trial { limit, results, trace }));
     }
     cases.push((ring.clone(), Call::Write { buffer: 65_536 }));
+    cases.push((ring.clone(), Call::ClearWithSlip { step: 0, exit: 0, buffer: 65_536 }));
+    cases.push((cleared, Call::TakeBack { slip: [&slip[..], &vec![0; 65_536]].concat() }));
     let line = [&b"H*4A"[..], &vec![b'0'; 65_536]].concat();
     cases.push((ring, Call::KeyLine(line)));
     cases
@@ -128,12 +139,20 @@ fn named() -> Vec<(Fault, Found)> {
     use Evidence::*;
     use Fault::*;
     use Sort::{
-        Add, Clear, ConvertDown, ConvertUp, Count, Fresh, KeyLine, Link, Load, Read, Squeeze,
-        Trial, Write,
+        Add, Clear, ClearWithSlip, ConvertDown, ConvertUp, Count, Fresh, KeyLine, Link, Load, Read,
+        Squeeze, TakeBack, Trial, Write,
     };
     let added: &[Evidence] = &[Refusal, Number(0), Table];
     let written: &[Evidence] = &[Refusal, Number(0), Lent];
     let convert = &[ConvertUp, ConvertDown];
+    let lending = &[ConvertUp, ConvertDown, ClearWithSlip];
+    // a clearing with a slip made by one program and refused by the other, by what it freed or kept
+    let none_doubtful: &[Evidence] = &[Refusal, Lent, Table];
+    let all_kept: &[Evidence] = &[Refusal, Number(0), Lent, Table];
+    let some_freed: &[Evidence] = &[Refusal, Number(0), Number(1), Lent, Table];
+    // the same of a take-back, by what it brings back
+    let put_back: &[Evidence] = &[Refusal, Table];
+    let brought_back: &[Evidence] = &[Refusal, Number(0), Table];
     vec![
         (CopyKeepsStrength, ways(&[Link, KeyLine], &[&[Table]])),
         (CounterOffByOne, ways(&[Link, KeyLine], &[&[Table]])),
@@ -171,6 +190,30 @@ fn named() -> Vec<(Fault, Found)> {
         (StoppedBeforeOpen, ways(&[Trial], &[&[Number(0)]])),
         (StoppedBeforeSpent, ways(&[Trial], &[&[Number(0)]])),
         (OpenBeforeSpent, ways(&[Trial], &[&[Number(0)]])),
+        (BitsLeftOut, ways(&[ClearWithSlip], &[&[Lent]])),
+        (TargetListed, ways(&[ClearWithSlip], &[&[Lent], none_doubtful])),
+        (CountersListed, ways(&[ClearWithSlip], &[&[Lent], none_doubtful, all_kept, some_freed])),
+        (FreedLeftOut, ways(&[ClearWithSlip], &[&[Lent], some_freed])),
+        (SlipDescending, ways(&[ClearWithSlip], &[&[Lent]])),
+        (NewBeforeOld, ways(&[ClearWithSlip], &[&[Lent]])),
+        (FreedUnnumbered, ways(&[ClearWithSlip], &[&[Lent]])),
+        (HolderNotCounted, ways(&[ClearWithSlip], &[&[Lent]])),
+        (ExitFirst, ways(&[ClearWithSlip], &[&[Lent]])),
+        (RoomForLargest, ways(&[ClearWithSlip], &[none_doubtful, all_kept, some_freed])),
+        (RoomBeforeEmpty, ways(&[ClearWithSlip], &[&[Refusal]])),
+        (ClearedThoughShort, ways(&[ClearWithSlip], &[&[Table]])),
+        (PresentUnread, ways(&[TakeBack], &[&[Refusal], put_back, brought_back])),
+        (ListUnasked, ways(&[TakeBack], &[brought_back])),
+        (CapacityUnasked, ways(&[TakeBack], &[brought_back])),
+        (RetraceSkipped, ways(&[TakeBack], &[&[Refusal], put_back, brought_back])),
+        (SlipUnread, ways(&[TakeBack], &[put_back, brought_back])),
+        (ExtraBytesTaken, ways(&[TakeBack], &[put_back, brought_back])),
+        (CountersKept, ways(&[TakeBack], &[&[Table]])),
+        (CountersOfListed, ways(&[TakeBack], &[&[Table]])),
+        (LastIsBack, ways(&[TakeBack], &[&[Table]])),
+        (BitsNotBack, ways(&[TakeBack], &[&[Table]])),
+        (CabinsNotBack, ways(&[TakeBack], &[&[Table]])),
+        (ListedSaidBack, ways(&[TakeBack], &[&[Number(0)]])),
         (CabinsBeforeImage, ways(&[ConvertDown], &[&[Refusal]])),
         (BufferBeforeCabins, ways(&[ConvertDown], &[&[Refusal]])),
         (BufferBeforeEdition, ways(convert, &[&[Refusal]])),
@@ -186,8 +229,8 @@ fn named() -> Vec<(Fault, Found)> {
         (LastIsHighest, ways(convert, &[&[Lent]])),
         (OrderKept, ways(convert, &[&[Lent]])),
         (RoomForEither, ways(&[ConvertDown], &[written])),
-        (WrittenAsFits, ways(convert, &[&[Lent]])),
-        (ZeroBehind, ways(convert, &[&[Lent]])),
+        (WrittenAsFits, ways(lending, &[&[Lent]])),
+        (ZeroBehind, ways(lending, &[&[Lent]])),
         (LengthOfGiven, ways(convert, &[&[Number(0)]])),
         (DoubtfulSaidFreed, ways(&[Clear], &[&[Number(1)]])),
         (CountsExchanged, ways(&[Count], &[&[Number(0), Number(1)]])),
@@ -266,9 +309,10 @@ fn cut_lengths_show() {
     for (length, sorts) in [
         (Length::Results, &[Sort::Trial][..]),
         (Length::Trace, &[Sort::Trial]),
-        (Length::Buffer, &[Sort::Write, Sort::ConvertUp, Sort::ConvertDown]),
+        (Length::Buffer, &[Sort::Write, Sort::ClearWithSlip, Sort::ConvertUp, Sort::ConvertDown]),
         (Length::Line, &[Sort::KeyLine]),
         (Length::Image, &[Sort::Load, Sort::ConvertUp, Sort::ConvertDown]),
+        (Length::Slip, &[Sort::TakeBack]),
     ] {
         let found = found(Fault::Cut(length), &cases);
         println!("{length:?} cut is found by {found:?}");

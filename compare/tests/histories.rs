@@ -6,7 +6,6 @@ use reference::calls::{fresh_for_cabin_0, Command};
 use reference::faults::Fault;
 use reference::generate::{start, Generator, Random};
 use reference::history::{Call, Outcome};
-use reference::plan::plan_of;
 use reference::table::Table;
 
 /// What a run of calls came across, so that a test can say that it covered what it should.
@@ -32,6 +31,12 @@ struct Seen {
     held_lines: [usize; 2],
     /// Trials by their ending.
     endings: [usize; 3],
+    /// Clearings with a slip, accepted and refused by 11.
+    slips: [usize; 2],
+    /// Take-backs: accepted, those of them that brought steps back, and refused by 18.
+    taken_back: usize,
+    brought_back: usize,
+    not_taken_back: usize,
 }
 
 impl Seen {
@@ -61,6 +66,14 @@ impl Seen {
                 self.unfit_lists += usize::from(*refusal == 13 && !small);
             }
             Call::Trial { .. } if accepted => self.endings[numbers[0]] += 1,
+            Call::ClearWithSlip { .. } if matches!(refusal, 0 | 11) => {
+                self.slips[usize::from(*refusal) / 11] += 1;
+            }
+            Call::TakeBack { .. } if accepted => {
+                self.taken_back += 1;
+                self.brought_back += usize::from(numbers[0] > 0);
+            }
+            Call::TakeBack { .. } => self.not_taken_back += usize::from(*refusal == 18),
             Call::KeyLine(_) if matches!(refusal, 14 | 15) => {
                 self.held_lines[usize::from(refusal - 14)] += 1;
             }
@@ -87,14 +100,14 @@ fn run(mut pair: Pair, calls: usize, seen: &mut Seen, mut next: impl FnMut(&Tabl
 fn visit(seed: u64, lines: usize, start: &Table, seen: &mut Seen) {
     let mut generator = Generator::new(seed);
     run(Pair::new(start, Fault::None), lines, seen, |table| {
-        Call::KeyLine(next_line(&mut generator, &plan_of(table)))
+        Call::KeyLine(next_line(&mut generator, table))
     });
 }
 
 /// A history of all calls.
 fn history(seed: u64, pair: Pair, calls: usize, seen: &mut Seen) {
     let mut generator = Generator::new(seed);
-    run(pair, calls, seen, |table| generator.call(&plan_of(table)));
+    run(pair, calls, seen, |table| generator.call(table));
 }
 
 #[test]
@@ -145,4 +158,6 @@ fn histories_agree() {
     }
     assert!(seen.bad_lists > 100 && seen.too_small > 100 && seen.unfit_lists > 100);
     assert!(seen.adds.iter().all(|&adds| adds > 300) && seen.no_cabin > 100);
+    assert!(seen.slips.iter().all(|&slips| slips > 300), "slips {:?}", seen.slips);
+    assert!(seen.taken_back > 300 && seen.brought_back > 100 && seen.not_taken_back > 300);
 }

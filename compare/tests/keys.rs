@@ -6,7 +6,6 @@ use compare::process::{keys_program, output};
 use reference::calls::fresh_for_cabin_0;
 use reference::generate::{Generator, Random};
 use reference::keys::{answer_lines, key_line};
-use reference::plan::plan_of;
 use std::fs::File;
 use std::path::Path;
 use std::process::{Command, Output};
@@ -52,7 +51,7 @@ fn visit(seed: u64, lines: usize) -> Vec<u8> {
     let mut generator = Generator::new(seed);
     let mut input = Vec::new();
     for _ in 0..lines {
-        let line = next_line(&mut generator, &plan_of(&table));
+        let line = next_line(&mut generator, &table);
         key_line(&mut table, &line);
         input.extend(line);
         input.push(10);

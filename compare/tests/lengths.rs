@@ -1,12 +1,13 @@
-//! Limits of trials and lengths: small ones each, and those at and past 8 and 16 bits of limits, results, traces, buffers, images and key lines. Both
-//! programs run each call; answers, written bytes and untouched ones are also held to what this file works out by itself.
+//! Limits of trials and lengths: small ones each, and those at and past 8 and 16 bits of limits, results, traces, buffers, images, slips and key lines.
+//! Both programs run each call; answers, written bytes and untouched ones are also held to what this file works out by itself.
 
 use compare::{both, ring, rounds, Pair};
-use reference::calls::{fresh_for_cabin_0, Ending};
+use reference::calls::{fresh_for_cabin_0, Command, Ending};
 use reference::faults::Fault;
 use reference::generate::Random;
 use reference::history::{Call, Outcome, Start, UNTOUCHED};
 use reference::image::{encode, in_edition_1, records};
+use reference::slip::between;
 use reference::sound::{CONTACT, MESSAGE, WAIT};
 use reference::table::Table;
 
@@ -171,6 +172,31 @@ fn long_images() {
             long[8..10].copy_from_slice(&count.to_le_bytes());
             load_refused(long);
         }
+    }
+}
+
+/// Bytes that are no slip, and slips with more behind them, so that what is left of their length in 16 bits is that of the slip. `slip` has more, and
+/// long buffers.
+#[test]
+fn long_slips() {
+    for table in tables() {
+        for length in LONG {
+            for byte in [0, 1, 22, UNTOUCHED] {
+                assert_eq!(made(&table, Call::TakeBack { slip: vec![byte; length] }).refusal, 18);
+            }
+        }
+    }
+    for table in &tables()[1..] {
+        let (step, exit) = (0, (0..4).find(|&exit| table.target(0, exit) != 0).expect("a link"));
+        let mut cleared = table.clone();
+        both(&mut cleared, &Call::Edit(Command::Clear { step, exit }));
+        let slip = between(table, &cleared, step, exit);
+        for more in LONG.into_iter().chain([2 * 65_536]) {
+            let slip = [&slip[..], &vec![0; more]].concat();
+            assert_eq!(made(&cleared, Call::TakeBack { slip }).refusal, 18);
+        }
+        assert_eq!(both(&mut cleared, &Call::TakeBack { slip }).refusal, 0);
+        assert!(cleared == *table);
     }
 }
 

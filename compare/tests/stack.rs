@@ -6,7 +6,9 @@ use compare::{lend, lend_list, ring, rounds};
 use reference::cabins::{list, one_cabin};
 use reference::calls::{add, clear, fresh, fresh_for_cabin_0, link};
 use reference::image::{encode, in_edition_1, OLD_HEADER, OLD_RECORD};
+use reference::slip::{between, SLIP_HEADER, SLIP_PAIR};
 use reference::sound::{CONTACT, WAIT};
+use reference::squeeze::squeeze;
 use reference::table::Table;
 use std::hint::black_box;
 use telephone::{raw, sole_quotas, Exit, Kind};
@@ -60,6 +62,14 @@ fn shared(exit: u16) -> Table {
     table
 }
 
+/// A table after an exit of step 0 is cleared, and the slip.
+fn cleared(before: &Table, exit: u16) -> (Table, Vec<u8>) {
+    let mut after = before.clone();
+    assert_eq!(clear(&mut after, 0, exit).refusal, 0);
+    let slip = between(before, &after, 0, exit);
+    (after, slip)
+}
+
 /// A call by name, and the bytes that it takes: of the caller's table, and of stack.
 #[derive(Debug)]
 struct Taken {
@@ -104,6 +114,18 @@ fn calls(exit: u16) -> Vec<Taken> {
     let adds = format!("H*1126{exit}1099A").into_bytes();
     let links = format!("H*2000{exit}127{exit}A").into_bytes();
     let clears = format!("H*3000{exit}A").into_bytes();
+    let ((empty, freed), (turned, kept)) = (cleared(&chain, exit), cleared(&held, exit));
+    let over = [&freed[..], &[0]].concat();
+    let [tight, limited] =
+        [(127, one_cabin(127)), (128, list(&[[0, 126]]))].map(|(places, list)| {
+            let mut table = empty.clone();
+            assert_eq!(squeeze(&mut table, places, list).refusal, 0);
+            table
+        });
+    // another content for the last step, which the clearing would leave
+    let mut other = kept.clone();
+    other[SLIP_HEADER + 127 * SLIP_PAIR + 8] = 1;
+    let mut room = [0; telephone::SLIP_MAX];
     vec![
         taken("edition", &chain, telephone::EDITION, |_| raw::edition()),
         taken("sole quotas", &chain, 127, |t| {
@@ -127,6 +149,27 @@ fn calls(exit: u16) -> Vec<Taken> {
         taken("link", &chain, 0, |t| raw::link(t, 0, exit, 127, exit).refusal),
         taken("clear, 127 freed", &chain, 127, |t| raw::clear(t, 0, exit).second),
         taken("clear, 127 taken back", &held, 127, |t| raw::clear(t, 0, exit).first),
+        taken("clear with slip, 127 freed", &chain, 127, |t| {
+            raw::clear_with_slip(t, 0, exit, &mut room).second
+        }),
+        taken("clear with slip, 127 taken back", &held, 127, |t| {
+            raw::clear_with_slip(t, 0, exit, &mut room).first
+        }),
+        taken("clear with slip, no room", &chain, 11, |t| {
+            raw::clear_with_slip(t, 0, exit, &mut room[1..]).refusal
+        }),
+        taken("clear with slip, no link", &chain, 6, |t| {
+            raw::clear_with_slip(t, 127, exit, &mut room).refusal
+        }),
+        taken("take back, 127 brought back", &empty, 127, |t| raw::take_back(t, &freed).first),
+        taken("take back, 127 turned back", &turned, 0, |t| raw::take_back(t, &kept).refusal),
+        taken("take back, another present", &chain, 18, |t| raw::take_back(t, &freed).refusal),
+        taken("take back, no such place", &tight, 18, |t| raw::take_back(t, &freed).refusal),
+        taken("take back, past a limit", &limited, 18, |t| raw::take_back(t, &freed).refusal),
+        taken("take back, another result", &turned, 18, |t| raw::take_back(t, &other).refusal),
+        taken("take back, a byte more", &empty, 18, |t| raw::take_back(t, &over).refusal),
+        taken("take back, no bytes", &empty, 18, |t| raw::take_back(t, &[]).refusal),
+        taken("take back, table unsound", &unsound, 1, |t| raw::take_back(t, &freed).refusal),
         taken("squeeze, 126 moved", &gap, 0, |t| raw::squeeze(t, 127, &least).refusal),
         taken("squeeze, none moved", &chain, 0, |t| raw::squeeze(t, 128, &most).refusal),
         taken("squeeze of eight cabins", &shared, 0, |t| raw::squeeze(t, 128, &own).refusal),
@@ -205,16 +248,19 @@ fn measure_sees_a_deep_stack() {
     assert!(depth(|| ()) < 512);
 }
 
-/// The deepest call in a thread with twice the limit for everything: the table, the call and what Rust needs to start a thread. An overflow ends
+/// The deepest calls in a thread with twice the limit for everything: the table, the call and what Rust needs to start a thread. An overflow ends
 /// the test program.
 #[test]
-fn deepest_call_in_a_small_thread() {
+fn deepest_calls_in_a_small_thread() {
     let visit = || {
         let mut table = telephone::Table::fresh(128, &sole_quotas(128))?;
         for step in 0..127 {
             table.add(step, Exit::Answered, Kind::Contact(0), 0)?;
         }
         table.link(0, Exit::Answered, 0, Exit::Engaged)?;
+        let mut slip = vec![0; telephone::SLIP_MAX];
+        let (_, length) = table.clear_with_slip(0, Exit::Answered, &mut slip)?;
+        table.take_back(&slip[..length])?;
         table.key_line(b"H*30000A")
     };
     let thread = std::thread::Builder::new().stack_size(2 * LIMIT).spawn(visit);

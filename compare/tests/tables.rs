@@ -6,6 +6,7 @@ use reference::calls::{fresh_for_cabin_0, Command};
 use reference::faults::Fault;
 use reference::generate::{key_text, Random};
 use reference::history::{Call, Start};
+use reference::slip::between;
 use reference::sound::sound;
 use reference::table::Table;
 use telephone::raw;
@@ -135,9 +136,15 @@ fn every_call(table: &Table, random: &mut Random) {
             Call::Edit(Command::Add { holder: a, exit: b % 6, kind: c, content: d, cabin }),
             link(a, b % 6, c, d % 6),
             clear(a, b % 6),
+            Call::ClearWithSlip { step: a, exit: b % 6, buffer: usize::from(c) * 50 },
+            Call::TakeBack { slip: vec![a as u8; usize::from(c)] },
             Call::Read { step: a },
             Call::Squeeze { capacity: a, quotas },
         ]);
+        // a slip that fits the table but for what its target may be
+        let mut before = table.clone();
+        before.targets[usize::from(a) % 128 * 4 + usize::from(b) % 4] = c;
+        calls.push(Call::TakeBack { slip: between(&before, table, a % 128, b % 4) });
         calls.push(Call::KeyLine(key_text(Command::Clear { step: a % 1000, exit: b % 10 })));
         calls.push(Call::Trial {
             limit: d % 8,

@@ -4,7 +4,7 @@
 
 use crate::cabins::{one_cabin, pairs};
 use crate::calls::{bare, first_refusal, Answer};
-use crate::faults::{cut, spoil, Fault, Length, Sort};
+use crate::faults::{cut, put, spoil, Fault, Length, Sort};
 use crate::history::{plain, Outcome, UNTOUCHED};
 use crate::image::{
     fields, in_edition_1, in_edition_2, is_old, load, sizes, sorted, HEADER, RECORD,
@@ -63,17 +63,9 @@ fn convert_with(way: Way, image: &[u8], buffer: &mut [u8], fault: Fault) -> Answ
         _ => {}
     }
     let refusal = first_refusal(&order);
-    let room = match refusal {
-        0 => written.len(),
-        11 if fault == Fault::WrittenAsFits => buffer.len(),
-        _ => 0,
-    };
-    buffer[..room].copy_from_slice(&written[..room]);
+    put(refusal, &written, buffer, fault);
     if refusal != 0 {
         return bare(refusal);
-    }
-    if let (Fault::ZeroBehind, Some(behind)) = (fault, buffer.get_mut(room)) {
-        *behind = 0;
     }
     let length = match fault {
         Fault::LengthOfGiven => image.len(),

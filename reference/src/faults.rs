@@ -1,13 +1,15 @@
 //! Deliberate errors, so that wrong variants can be run against the right one.
 //! The first fifteen are other ways to edit and stand in `calls`, `cabins` and `clearing`, the next
 //! two are of lists, two of images, eleven are other ways to squeeze, eight other ways to make a
-//! trial, and seventeen other ways to convert an image. Each of the rest spoils what a right call
-//! gives, in one part of it.
+//! trial, twelve other ways to clear with a slip, twelve other ways to take it back, and seventeen
+//! other ways to convert an image, of which two are of slips too. Each of the rest spoils what a
+//! right call gives, in one part of it.
 
 use crate::calls::{Command, Ending};
 use crate::convert::Way;
 use crate::history::{Call, Outcome, Start};
 use crate::image::{HEADER, RECORD};
+use crate::slip::{SLIP_HEADER, SLIP_PAIR};
 use crate::table::Table;
 
 /// A deliberate error.
@@ -92,6 +94,54 @@ pub enum Fault {
     TraceAsResults,
     /// Only results that a contact uses up are looked at for refusal 10.
     UsedResultsOnly,
+    /// A slip leaves out all bits.
+    BitsLeftOut,
+    /// A slip lists the target of the cleared exit, whether it changed or not.
+    TargetListed,
+    /// A slip lists the steps whose counters alone changed too.
+    CountersListed,
+    /// A slip leaves out the freed steps.
+    FreedLeftOut,
+    /// A slip has its steps in descending order.
+    SlipDescending,
+    /// A slip has the new record of a step before the old one.
+    NewBeforeOld,
+    /// A freed step's new record in a slip is without its number.
+    FreedUnnumbered,
+    /// A slip's number of changed steps is without the holder.
+    HolderNotCounted,
+    /// A slip begins with the exit, and then has the step.
+    ExitFirst,
+    /// The buffer of a slip must have room for the largest one.
+    RoomForLargest,
+    /// A clearing with a slip looks for room for the least slip before it looks at the exit.
+    RoomBeforeEmpty,
+    /// A clearing with too short a buffer for its slip is made all the same.
+    ClearedThoughShort,
+    /// Taking back does not look at the present table, but puts the old records into it.
+    PresentUnread,
+    /// Taking back does not ask whether the limits and guarantees allow the steps.
+    ListUnasked,
+    /// Taking back does not ask whether the capacity allows the steps.
+    CapacityUnasked,
+    /// Taking back does not make the clearing once more.
+    RetraceSkipped,
+    /// Taking back makes the clearing once more, and does not look at its slip.
+    SlipUnread,
+    /// Taking back accepts a slip with bytes behind it.
+    ExtraBytesTaken,
+    /// Taking back leaves the counters.
+    CountersKept,
+    /// Taking back works out the counters of the steps in the slip, and leaves the others.
+    CountersOfListed,
+    /// Taking back puts the highest step brought back for the last number given.
+    LastIsBack,
+    /// Taking back leaves out the bits of the old records.
+    BitsNotBack,
+    /// Taking back charges the steps to cabin 0.
+    CabinsNotBack,
+    /// Taking back answers the number of steps in the slip.
+    ListedSaidBack,
     /// A conversion down looks at cabins and list before it asks whether the image is accepted.
     CabinsBeforeImage,
     /// A conversion down looks at the buffer before cabins and list.
@@ -120,9 +170,9 @@ pub enum Fault {
     OrderKept,
     /// The buffer of a conversion must have room for either image.
     RoomForEither,
-    /// A conversion with too short a buffer writes what fits into it.
+    /// A conversion or a clearing with too short a buffer writes what fits into it.
     WrittenAsFits,
-    /// A conversion puts a zero behind the image, where the buffer has room for it.
+    /// A conversion or a clearing puts a zero behind what it writes, where the buffer has room.
     ZeroBehind,
     /// A conversion answers the length of the image given to it.
     LengthOfGiven,
@@ -156,6 +206,7 @@ pub enum Length {
     Buffer,
     Line,
     Image,
+    Slip,
 }
 
 /// A sort of call.
@@ -166,6 +217,8 @@ pub enum Sort {
     Add,
     Link,
     Clear,
+    ClearWithSlip,
+    TakeBack,
     Squeeze,
     Count,
     Read,
@@ -190,12 +243,14 @@ pub enum Part {
 }
 
 impl Sort {
-    pub const ALL: [Sort; 14] = [
+    pub const ALL: [Sort; 16] = [
         Sort::Fresh,
         Sort::Load,
         Sort::Add,
         Sort::Link,
         Sort::Clear,
+        Sort::ClearWithSlip,
+        Sort::TakeBack,
         Sort::Squeeze,
         Sort::Count,
         Sort::Read,
@@ -213,6 +268,8 @@ impl Sort {
             Call::Edit(Command::Link { .. }) => Sort::Link,
             Call::Edit(Command::Clear { .. }) => Sort::Clear,
             Call::Edit(Command::Count) => Sort::Count,
+            Call::ClearWithSlip { .. } => Sort::ClearWithSlip,
+            Call::TakeBack { .. } => Sort::TakeBack,
             Call::Squeeze { .. } => Sort::Squeeze,
             Call::Read { .. } => Sort::Read,
             Call::Trial { .. } => Sort::Trial,
@@ -255,7 +312,7 @@ impl Sort {
         let mut parts = vec![Part::Refusal];
         parts.extend((!self.converts()).then_some(Part::Table));
         parts.extend((0..self.numbers()).map(Part::Number));
-        if self.converts() || matches!(self, Sort::Trial | Sort::Write) {
+        if self.converts() || matches!(self, Sort::ClearWithSlip | Sort::Trial | Sort::Write) {
             parts.push(Part::Unwritten);
             parts.extend((!refused).then_some(Part::Written));
         }
@@ -286,6 +343,19 @@ pub fn cut(fault: Fault, which: Length, length: usize) -> usize {
     }
 }
 
+/// Writes into a lent buffer what a call with this refusal writes, with a fault or without.
+pub fn put(refusal: u16, written: &[u8], buffer: &mut [u8], fault: Fault) {
+    let room = match refusal {
+        0 => written.len(),
+        11 if fault == Fault::WrittenAsFits => buffer.len(),
+        _ => 0,
+    };
+    buffer[..room].copy_from_slice(&written[..room]);
+    if let (0, Fault::ZeroBehind, Some(behind)) = (refusal, fault, buffer.get_mut(room)) {
+        *behind = 0;
+    }
+}
+
 /// Spoils what a right call gave: its outcome, and the table if it has one.
 pub fn spoil(fault: Fault, sort: Sort, table: Option<&mut Table>, outcome: &mut Outcome) {
     let accepted = outcome.refusal == 0;
@@ -312,10 +382,11 @@ pub fn spoil(fault: Fault, sort: Sort, table: Option<&mut Table>, outcome: &mut 
             let written = match sort {
                 _ if refused => 0,
                 Sort::Trial => outcome.numbers[2],
+                Sort::ClearWithSlip => SLIP_HEADER + SLIP_PAIR * (1 + outcome.numbers[0]),
                 _ => outcome.numbers[0],
             };
             match part {
-                Part::Refusal => outcome.refusal = outcome.refusal % 17 + 1,
+                Part::Refusal => outcome.refusal = outcome.refusal % 18 + 1,
                 Part::Number(i) => outcome.numbers[i] += 1,
                 Part::Written if written > 0 => outcome.lent[written - 1] ^= 1,
                 Part::Unwritten if written < outcome.lent.len() => outcome.lent[written] ^= 1,

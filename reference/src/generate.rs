@@ -1,17 +1,19 @@
-//! Made-up calls, key lines, lists, images, conversions, sound tables and unsound ones, the same
-//! for the same seed. Most calls suit the plan at hand; the rest have odd numbers, wrong keys,
-//! short buffers, or lists that are bad or do not fit.
-//! Serves the tests of "A history is a list" of document 01, and of W6 of document 02.
+//! Made-up calls, key lines, lists, images, conversions, slips, sound tables and unsound ones, the
+//! same for the same seed. Most calls suit the table at hand; the rest have odd numbers, wrong keys,
+//! short buffers, lists that are bad or do not fit, or slips that are old, damaged or of no
+//! clearing. Serves the tests of "A history is a list" of document 01, and of W6 and W7 of document
+//! 02.
 
 use std::array::from_fn;
 use std::ops::Range;
 
 use crate::cabins::{for_cabin_0, one_cabin};
-use crate::calls::Command;
+use crate::calls::{clear, Command};
 use crate::convert::{Conversion, Way};
 use crate::history::{Call, Start};
-use crate::image::{encode, in_edition_1, in_edition_2, records, HEADER, RECORD};
+use crate::image::{encode, in_edition_1, in_edition_2, record, records, HEADER, RECORD};
 use crate::plan::{plan_of, Plan, PlanStep};
+use crate::slip::{between, LARGEST_SLIP, SLIP_HEADER, SLIP_PAIR};
 use crate::sound::{CONTACT, MESSAGE, WAIT};
 use crate::table::{members, place, Charges, Quotas, Table, CABINS, EXITS, PLACES};
 
@@ -19,10 +21,19 @@ use crate::table::{members, place, Charges, Quotas, Table, CABINS, EXITS, PLACES
 const ODD: [u16; 21] =
     [0, 1, 2, 3, 4, 5, 7, 8, 15, 16, 99, 100, 127, 128, 255, 256, 257, 600, 601, 32768, 65535];
 
-/// Phases of a history: fill, make rings, clear, mix. Each lists add, link, clear, squeeze, trial
-/// and other calls by a letter, as often as it has them.
-const PHASES: [&[u8]; 4] =
-    [b"aaaaaaaaaaaallcssttoo", b"aalllllllllccsttoo", b"allcccccccccsttoo", b"aaalllcccstttoooo"];
+/// Phases of a history: fill, make rings, clear, mix. Each lists add, link, clear, clear with a
+/// slip, take back, squeeze, trial and other calls by a letter, as often as it has them.
+const PHASES: [&[u8]; 4] = [
+    b"aaaaaaaaaaaalllckkbsstttoo",
+    b"aalllllllllckkbsttoo",
+    b"allccccccckkkbsttoo",
+    b"aaalllcckkbbstttoooo",
+];
+
+/// What may come right after a clearing with a slip: taking back at once, or after an add at the
+/// cleared exit or elsewhere, a link, a clearing, a squeeze, a trial, another call, or several.
+const SEQUELS: [&[u8]; 12] =
+    [b"b", b"b", b"b", b"eb", b"ab", b"lb", b"cb", b"sb", b"tb", b"ob", b"aaaab", b"ocalb"];
 
 /// Splitmix64.
 pub struct Random(pub u64);
@@ -391,6 +402,71 @@ impl Random {
         }
     }
 
+    /// A slip that no clearing wrote, whose new records are the present ones: in the old ones, an
+    /// empty exit has a link of any strength, to a step in use or to one more, of any cabin. Some
+    /// can be taken back, and others would give a table that is not sound.
+    pub fn made_up_slip(&mut self, table: &Table) -> Vec<u8> {
+        let plan = plan_of(table);
+        let (step, exit) = self.place(&plan, false);
+        let mut before = table.clone();
+        let place = place(usize::from(step) % PLACES, usize::from(exit) % EXITS);
+        let bound = self.pick(&[table.capacity.into(), PLACES]);
+        let free = (1..bound).filter(|&step| table.used[step] == 0);
+        let used = members(table.in_use() & !1);
+        let targets: Vec<usize> = if self.once_in(2) { free.collect() } else { used.collect() };
+        if let [_, ..] = targets[..] {
+            let target = self.pick(&targets);
+            if table.used[target] == 0 {
+                before.used[target] = 1;
+                (before.kinds[target], before.contents[target]) = self.kind_and_content();
+                before.own[target] = self.below(2) as u16;
+                let any = self.below(CABINS) as u16;
+                let fitting = self.cabin(&plan);
+                before.cabins[target] = self.pick(&[any, fitting]);
+            }
+            let strong = before.own[target];
+            (before.targets[place], before.bits[place]) =
+                (target as u16, self.pick(&[strong, strong, 1 - strong]));
+        }
+        between(&before, table, step, exit)
+    }
+
+    /// Damages a slip that may fit a table: cuts it, adds bytes, puts a number into a field, changes
+    /// a bit, exchanges the records of a step, has another order, leaves a step out, or lists one
+    /// that did not change.
+    pub fn damage_slip(&mut self, table: &Table, slip: &mut Vec<u8>) {
+        slip.resize(slip.len().max(SLIP_HEADER), 0);
+        let pairs = (slip.len() - SLIP_HEADER) / SLIP_PAIR;
+        let any = self.below(slip.len());
+        let pair = SLIP_HEADER + SLIP_PAIR * self.below(pairs.max(1));
+        match self.below(10) {
+            0 => slip.truncate(any),
+            1 | 2 => slip.extend(vec![0; self.pick(&[1, 2, RECORD, SLIP_PAIR, 65_536])]),
+            3 if any + 1 < slip.len() => {
+                let at = self.pick(&[0, 2, 4, any & !1, pair + 8]).min(slip.len() - 2);
+                slip[at..at + 2].copy_from_slice(&self.pick(&ODD).to_le_bytes());
+            }
+            4 | 5 => slip[any] ^= 1 << self.below(8),
+            6 if pairs > 0 => slip[pair..pair + SLIP_PAIR].rotate_left(RECORD),
+            7 if pairs > 1 => slip[SLIP_HEADER..].rotate_left(SLIP_PAIR),
+            8 if pairs > 1 => {
+                slip.drain(pair..pair + SLIP_PAIR);
+                slip[4] = slip[4].wrapping_sub(1);
+            }
+            _ => {
+                let steps: Vec<usize> = members(table.in_use()).collect();
+                let same = record(table, self.pick(&steps));
+                let behind = slip[SLIP_HEADER..]
+                    .chunks_exact(SLIP_PAIR)
+                    .position(|pair| pair[4] > same[4])
+                    .unwrap_or(pairs);
+                let at = SLIP_HEADER + SLIP_PAIR * behind;
+                slip.splice(at..at, [&same[..], &same].concat());
+                slip[4] = slip[4].wrapping_add(1);
+            }
+        }
+    }
+
     /// Puts an odd number into one field of a table, or one that is next to its own. Places low in
     /// the arrays come up more often.
     pub fn damage(&mut self, table: &mut Table) {
@@ -447,21 +523,34 @@ pub struct Generator {
     random: Random,
     phase: &'static [u8],
     left: usize,
+    /// Letters of the calls that come first.
+    soon: &'static [u8],
+    /// The exits cleared with a slip, and the slips, the last one last.
+    slips: Vec<(u16, u16, Vec<u8>)>,
 }
 
 impl Generator {
     pub fn new(seed: u64) -> Generator {
-        Generator { random: Random(seed), phase: PHASES[0], left: 2 * PLACES }
+        let (phase, left) = (PHASES[0], 2 * PLACES);
+        Generator { random: Random(seed), phase, left, soon: b"", slips: Vec::new() }
     }
 
-    /// The next call, to be made on this plan.
-    pub fn call(&mut self, plan: &Plan) -> Call {
+    /// The next call, to be made on this table.
+    pub fn call(&mut self, table: &Table) -> Call {
+        let plan = &plan_of(table);
         if self.left == 0 {
             self.phase = self.random.pick(&PHASES);
             self.left = 1 + self.random.below(2 * usize::from(plan.capacity) + 8);
         }
         self.left -= 1;
-        match self.random.pick(self.phase) {
+        let letter = match self.soon.split_off_first() {
+            Some(&letter) => letter,
+            None => self.random.pick(self.phase),
+        };
+        match letter {
+            b'k' => self.clear_with_slip(table, plan),
+            b'b' => Call::TakeBack { slip: self.slip(table) },
+            b'e' => self.add_at_cleared(plan),
             b's' => {
                 let capacity = self.random.capacity(plan);
                 let quotas = self.random.list(capacity, &plan.charges());
@@ -471,6 +560,50 @@ impl Generator {
             b'o' => self.other(plan),
             letter => Call::Edit(self.command(plan, letter)),
         }
+    }
+
+    /// A clearing with a slip, into a buffer about as long as it has to be. The slip is kept, even
+    /// where the buffer is too short for it.
+    fn clear_with_slip(&mut self, table: &Table, plan: &Plan) -> Call {
+        let (step, exit) = self.random.place(plan, true);
+        let mut cleared = table.clone();
+        let mut needed = SLIP_HEADER + SLIP_PAIR;
+        if clear(&mut cleared, step, exit).refusal == 0 {
+            let slip = between(table, &cleared, step, exit);
+            needed = slip.len();
+            self.slips.push((step, exit, slip));
+            self.soon = if self.random.once_in(3) { b"" } else { self.random.pick(&SEQUELS) };
+        }
+        let (more, less) = (needed + self.random.below(40), self.random.below(needed));
+        let rooms = [needed, needed, more, more, more, LARGEST_SLIP, needed - 1, less];
+        let buffer = self.random.pick(&rooms);
+        Call::ClearWithSlip { step, exit, buffer }
+    }
+
+    /// The last slip, an earlier one, one that no clearing wrote, or one of these damaged.
+    fn slip(&mut self, table: &Table) -> Vec<u8> {
+        let random = &mut self.random;
+        let mut slip = match self.slips[..] {
+            [.., (_, _, ref slip)] if random.once_in(2) => slip.clone(),
+            [_, .., _] if random.once_in(3) => {
+                let recent = self.slips.len().min(8);
+                self.slips[self.slips.len() - 1 - random.below(recent)].2.clone()
+            }
+            _ => random.made_up_slip(table),
+        };
+        if random.once_in(4) {
+            random.damage_slip(table, &mut slip);
+        }
+        slip
+    }
+
+    /// An add at the exit that was cleared last with a slip.
+    fn add_at_cleared(&mut self, plan: &Plan) -> Call {
+        let mut command = self.command(plan, b'a');
+        if let (Command::Add { holder, exit, .. }, Some(last)) = (&mut command, self.slips.last()) {
+            (*holder, *exit) = (last.0, last.1);
+        }
+        Call::Edit(command)
     }
 
     /// The next key line, to be made on this plan. It has no byte 10.
@@ -495,7 +628,11 @@ impl Generator {
     fn other(&mut self, plan: &Plan) -> Call {
         let random = &mut self.random;
         match random.below(9) {
-            0 => Call::Read { step: random.place(plan, true).0 },
+            0 => {
+                let mut step = random.place(plan, true).0;
+                random.maybe_odd(&mut step, 6);
+                Call::Read { step }
+            }
             1 => Call::Write { buffer: random.around(HEADER + RECORD * plan.steps.len()) },
             2 => Call::ImageLength,
             3 => Call::Edit(Command::Count),

@@ -1,11 +1,12 @@
 //! The calls of a history as values, run on a table, and the comparison with the plain plan.
-//! Renders "A history is a list", W2's squeeze in it, W3's trial, W5's cabins and lists, and demand
-//! 3's list of what has to agree.
+//! Renders "A history is a list", W2's squeeze in it, W3's trial, W5's cabins and lists, W7's slips,
+//! and demand 3's list of what has to agree.
 
 use crate::calls::{edit, fresh_with, read, trial_with, Answer, Command};
 use crate::faults::{cut, spoil, Fault, Length, Sort};
 use crate::image::{length, load_with, write};
 use crate::keys::{decode, key_line_with};
+use crate::slip::{clear_with_slip_with, take_back_with};
 use crate::squeeze::squeeze_with;
 use crate::table::{Quotas, Table};
 
@@ -14,6 +15,8 @@ use crate::table::{Quotas, Table};
 #[derive(Clone, PartialEq, Eq, Debug)]
 pub enum Call {
     Edit(Command),
+    ClearWithSlip { step: u16, exit: u16, buffer: usize },
+    TakeBack { slip: Vec<u8> },
     Squeeze { capacity: u16, quotas: Quotas },
     Read { step: u16 },
     Trial { limit: u16, results: Vec<u8>, trace: usize },
@@ -30,12 +33,24 @@ pub enum Start {
 }
 
 impl Call {
-    /// The command, given as a call or as a key line.
+    /// The command, given as a call, as a clearing with a slip, or as a key line.
     pub fn command(&self) -> Option<Command> {
         match self {
             Call::Edit(command) => Some(*command),
+            Call::ClearWithSlip { step, exit, .. } => {
+                Some(Command::Clear { step: *step, exit: *exit })
+            }
             Call::KeyLine(line) => decode(line),
             _ => None,
+        }
+    }
+
+    /// What the plan is told of a call with this refusal: whether it got 11 or 18 of W7.
+    pub fn told(&self, refusal: u16) -> bool {
+        match self {
+            Call::ClearWithSlip { .. } => refusal == 11,
+            Call::TakeBack { .. } => refusal == 18,
+            _ => false,
         }
     }
 }
@@ -66,6 +81,16 @@ pub fn begin(start: &Start, fault: Fault) -> (Table, Outcome) {
 pub fn run(table: &mut Table, call: &Call, fault: Fault) -> Outcome {
     let mut outcome = match call {
         Call::Edit(command) => plain(edit(table, *command, fault), Vec::new()),
+        Call::ClearWithSlip { step, exit, buffer } => {
+            let mut lent = vec![UNTOUCHED; *buffer];
+            let room = &mut lent[..cut(fault, Length::Buffer, *buffer)];
+            let answer = clear_with_slip_with(table, *step, *exit, room, fault);
+            plain(answer, lent)
+        }
+        Call::TakeBack { slip } => {
+            let slip = &slip[..cut(fault, Length::Slip, slip.len())];
+            plain(take_back_with(table, slip, fault), Vec::new())
+        }
         Call::Squeeze { capacity, quotas } => {
             plain(squeeze_with(table, *capacity, *quotas, fault), Vec::new())
         }

@@ -88,7 +88,7 @@ pub fn records(image: &[u8]) -> Vec<&[u8]> {
 /// An accepted image of either edition, its step records in ascending step number.
 pub fn sorted(image: &[u8]) -> Vec<u8> {
     let mut records = records(image);
-    records[1..].sort_by_key(|record| fields::<3>(record)[2]);
+    records[1..].sort_by_key(|record| number(record));
     records.concat()
 }
 
@@ -98,24 +98,33 @@ pub fn fields<const N: usize>(bytes: &[u8]) -> [u16; N] {
 }
 
 /// Little-endian bytes.
-fn bytes(fields: impl IntoIterator<Item = u16>) -> Vec<u8> {
+pub fn bytes(fields: impl IntoIterator<Item = u16>) -> Vec<u8> {
     fields.into_iter().flat_map(u16::to_le_bytes).collect()
 }
 
 /// The bytes of a table's image. On a table that is not sound they mean nothing.
 pub fn encode(table: &Table) -> Vec<u8> {
-    let mut all = vec![HEADER as u16, 3, table.capacity, table.last, table.size()];
-    all.extend(table.quotas);
-    for step in members(table.in_use()) {
-        let exits = place(step, 0)..place(step, EXITS);
-        let bits = table.bits[exits.clone()].iter().chain([&table.own[step]]);
-        let sum = bits.enumerate().fold(0, |sum, (i, &bit)| sum | (bit & 1) << i);
-        let (kind, content) = (table.kinds[step], table.contents[step]);
-        all.extend([RECORD as u16, 4, step as u16, kind, content, sum]);
-        all.extend(&table.targets[exits]);
-        all.push(table.cabins[step]);
-    }
+    let header = [HEADER as u16, 3, table.capacity, table.last, table.size()];
+    let mut image = bytes(header.into_iter().chain(table.quotas));
+    members(table.in_use()).for_each(|step| image.extend(record(table, step)));
+    image
+}
+
+/// The record of a step; that of a free one has its number and zeros.
+pub fn record(table: &Table, step: usize) -> Vec<u8> {
+    let exits = place(step, 0)..place(step, EXITS);
+    let bits = table.bits[exits.clone()].iter().chain([&table.own[step]]);
+    let sum = bits.enumerate().fold(0, |sum, (i, &bit)| sum | (bit & 1) << i);
+    let (kind, content) = (table.kinds[step], table.contents[step]);
+    let mut all = vec![RECORD as u16, 4, step as u16, kind, content, sum];
+    all.extend(&table.targets[exits]);
+    all.push(table.cabins[step]);
     bytes(all)
+}
+
+/// The number of the step that a record is of.
+pub fn number(record: &[u8]) -> u16 {
+    fields::<3>(record)[2]
 }
 
 /// Whether bytes begin with the length and the kind of edition 1's first record.

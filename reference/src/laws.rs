@@ -1,8 +1,8 @@
-//! What a squeeze has to keep, what the limit of a trial does, what cabins are promised, and what
-//! conversions leave, checked on generated tables with any strengths, and histories. It is stated
-//! of any program that makes calls, so that it can be asked of this one and of the one it is held
-//! to. Renders W2, W3, W5 and W6 of document 02. Each law gives how often it met the case that it
-//! is about.
+//! What a squeeze has to keep, what the limit of a trial does, what cabins are promised, what
+//! conversions leave, and what slips say and bring back, checked on generated tables with any
+//! strengths, and histories. It is stated of any program that makes calls, so that it can be asked
+//! of this one and of the one it is held to. Renders W2, W3, W5, W6 and W7 of document 02. Each law
+//! gives how often it met the case that it is about.
 
 use std::collections::BTreeMap;
 use std::ops::Range;
@@ -12,11 +12,12 @@ use crate::calls::{Command, Ending};
 use crate::convert::{Conversion, Way};
 use crate::faults::Fault;
 use crate::generate::{start, Generator, Random};
-use crate::history::{begin, Call, Outcome, Start};
-use crate::image::{encode, in_edition_1, sorted, HEADER, RECORD};
+use crate::history::{begin, Call, Outcome, Start, UNTOUCHED};
+use crate::image::{bytes, encode, fields, in_edition_1, number, record, sorted, HEADER, RECORD};
 use crate::plan::{plan_of, Plan};
+use crate::slip::{changes, listed, SLIP_HEADER, SLIP_PAIR};
 use crate::sound::{sound, CONTACT};
-use crate::table::{members, Quotas, Table, CABINS, EXITS, PLACES};
+use crate::table::{mark, members, place, Quotas, Successors, Table, CABINS, EXITS, PLACES};
 
 /// Makes a call on a table.
 pub type Program<'a> = &'a dyn Fn(&mut Table, &Call) -> Outcome;
@@ -37,7 +38,7 @@ pub fn steps_travel(program: Program, seeds: Range<u64>) -> usize {
         assert!(sound(&new));
         assert_eq!((new.capacity, new.quotas, new.last), (capacity, quotas, table.size() - 1));
         let mut plan = plan_of(&table);
-        assert_eq!(plan.draw(&Call::Squeeze { capacity, quotas }), Ok([Some(0), Some(0)]));
+        assert_eq!(plan.draw(&Call::Squeeze { capacity, quotas }, false), Ok([Some(0), Some(0)]));
         assert_eq!(plan_of(&new), plan);
         for step in members(table.in_use()) {
             let number = renumbered(&table, step);
@@ -177,20 +178,21 @@ pub fn guarantees_are_kept(program: Program, seeds: Range<u64>) -> usize {
 }
 
 /// The steps in use less 1 are the cabins' charges, counted from the first table and the answers to
-/// adds and clearings since; each step keeps the cabin that added it until it is freed; and no add
-/// below a guarantee gets 8, 14 or 15. Gives the freed steps of other cabins than 0.
-pub fn charges_are_counted(program: Program, seeds: Range<u64>) -> usize {
+/// adds, clearings and take-backs since; each step keeps the cabin that added it until it is freed,
+/// and has it again when it is brought back; and no add below a guarantee gets 8, 14 or 15. Gives
+/// the steps of other cabins than 0 that were freed, and those brought back.
+pub fn charges_are_counted(program: Program, seeds: Range<u64>) -> [usize; 2] {
     let cabins = |table: &Table| -> BTreeMap<usize, u16> {
         members(table.in_use() & !1).map(|step| (step, table.cabins[step])).collect()
     };
-    let mut freed = 0;
+    let [mut freed, mut back] = [0, 0];
     for seed in seeds {
         let (mut table, _) = begin(&start(seed), Fault::None);
         let mut generator = Generator::new(seed);
         let mut charged = cabins(&table);
         let mut count = charged.len();
         for _ in 0..400 {
-            let call = generator.call(&plan_of(&table));
+            let call = generator.call(&table);
             let outcome = program(&mut table, &call);
             let accepted = outcome.refusal == 0;
             match call.command() {
@@ -209,8 +211,19 @@ pub fn charges_are_counted(program: Program, seeds: Range<u64>) -> usize {
                         table.used[step] == 1
                     });
                 }
-                None if accepted && matches!(call, Call::Squeeze { .. }) => {
+                _ => {}
+            }
+            match &call {
+                Call::Squeeze { .. } if accepted => {
                     charged = (1..).zip(charged.into_values()).collect();
+                }
+                Call::TakeBack { slip } if accepted => {
+                    count += outcome.numbers[0];
+                    for (old, _) in changes(slip).into_iter().filter(|(old, _)| number(old) != 0) {
+                        let cabin = u16::from_le_bytes([old[RECORD - 2], old[RECORD - 1]]);
+                        let new = charged.insert(number(old).into(), cabin).is_none();
+                        back += usize::from(new && cabin != 0);
+                    }
                 }
                 _ => {}
             }
@@ -219,7 +232,136 @@ pub fn charges_are_counted(program: Program, seeds: Range<u64>) -> usize {
             assert_eq!(cabins(&table), charged, "{call:?}");
         }
     }
-    freed
+    [freed, back]
+}
+
+/// A clearing with a slip gives the counts and the table of the clearing; its slip has the holder
+/// and the steps made doubtful, and no others, each with its records of before and after. Taken
+/// back at once, it gives the table from before and answers the steps freed; another last number
+/// given stays. Gives the clearings that freed steps and took others back.
+pub fn slips_bring_back(program: Program, seeds: Range<u64>) -> usize {
+    let mut both = 0;
+    for (table, ..) in tables(seeds) {
+        for step in members(table.in_use()) {
+            for exit in (0..EXITS as u16).filter(|&exit| table.target(step as u16, exit) != 0) {
+                let step = step as u16;
+                let mut cleared = table.clone();
+                let counts = program(&mut cleared, &Call::Edit(Command::Clear { step, exit }));
+                let (after, slip) = cleared_with_slip(program, &table, step, exit, &counts);
+                assert_eq!(after, cleared);
+                let mut changed = table.in_use() & !mark(1, &emptied(&table, step, exit));
+                assert_eq!(changed.count_ones() as usize, counts.numbers[0]);
+                changed |= 1 << step;
+                let steps: Vec<usize> = members(changed).collect();
+                let head = bytes([step, exit, steps.len() as u16]);
+                let of = |&step: &usize| [record(&table, step), record(&cleared, step)].concat();
+                assert_eq!(slip, [head, steps.iter().flat_map(of).collect()].concat());
+                let [doubtful, freed] = [counts.numbers[0], counts.numbers[1]];
+                for last in [table.last, (table.last + 1) % table.capacity] {
+                    let present = Table { last, ..cleared.clone() };
+                    let back = taken_back(program, &present, &slip, freed);
+                    assert_eq!(back, Table { last, ..table.clone() });
+                }
+                both += usize::from(freed > 0 && doubtful > freed);
+            }
+        }
+    }
+    both
+}
+
+/// What a take-back that is accepted has done, whatever the slip: capacity, last number given and
+/// list are as they were, and so are all steps that the slip does not name; no step is taken out;
+/// the table is sound, and clearing the named exit gives the table from before the take-back and
+/// the slip. Gives the accepted ones, and of these the ones whose slip was not the last thing that
+/// changed the table.
+pub fn take_backs_retrace(program: Program, seeds: Range<u64>) -> [usize; 2] {
+    let [mut accepted, mut later] = [0, 0];
+    for seed in seeds {
+        let (mut table, _) = begin(&start(seed), Fault::None);
+        let mut generator = Generator::new(seed);
+        let mut last = Vec::new();
+        for _ in 0..400 {
+            let call = generator.call(&table);
+            let present = table.clone();
+            let outcome = program(&mut table, &call);
+            match &call {
+                Call::TakeBack { slip } if outcome.refusal == 0 => {
+                    accepted += 1;
+                    later += usize::from(std::mem::take(&mut last) != *slip);
+                    retraces(program, &present, &table, slip);
+                    assert_eq!(outcome.numbers[0], (table.size() - present.size()).into());
+                }
+                Call::ClearWithSlip { .. } if outcome.refusal == 0 => {
+                    last = outcome.lent[..slip_length(&outcome)].to_vec();
+                }
+                _ => last = if table == present { last } else { Vec::new() },
+            }
+        }
+    }
+    [accepted, later]
+}
+
+/// What a table rebuilt from a slip has to be, given the one that it was put into.
+pub fn retraces(program: Program, present: &Table, rebuilt: &Table, slip: &[u8]) {
+    assert!(sound(rebuilt));
+    assert_eq!(
+        (rebuilt.capacity, rebuilt.last, rebuilt.quotas),
+        (present.capacity, present.last, present.quotas)
+    );
+    let named = listed(slip);
+    for step in 0..PLACES {
+        let same = record(rebuilt, step) == record(present, step);
+        assert_eq!(same, !named.contains(&(step as u16)));
+        assert!(rebuilt.used[step] >= present.used[step]);
+    }
+    let [step, exit, _] = fields(slip);
+    let counts = program(&mut rebuilt.clone(), &Call::Edit(Command::Clear { step, exit }));
+    let again = cleared_with_slip(program, rebuilt, step, exit, &counts);
+    assert_eq!(again, (present.clone(), slip.to_vec()));
+}
+
+/// The length of the slip that a clearing with this outcome writes.
+pub fn slip_length(cleared: &Outcome) -> usize {
+    SLIP_HEADER + SLIP_PAIR * (1 + cleared.numbers[0])
+}
+
+/// Clears an exit with a slip, which has to give these counts; gives the table and the slip. One
+/// byte less is refused, and what is past the slip stays.
+fn cleared_with_slip(
+    program: Program,
+    table: &Table,
+    step: u16,
+    exit: u16,
+    counts: &Outcome,
+) -> (Table, Vec<u8>) {
+    let length = slip_length(counts);
+    let mut short = table.clone();
+    let refused = program(&mut short, &Call::ClearWithSlip { step, exit, buffer: length - 1 });
+    assert_eq!(
+        (refused.refusal, refused.numbers, refused.lent),
+        (11, vec![0, 0], vec![UNTOUCHED; length - 1])
+    );
+    assert_eq!(short, *table);
+    let mut cleared = table.clone();
+    let made = program(&mut cleared, &Call::ClearWithSlip { step, exit, buffer: length + 9 });
+    assert_eq!((made.refusal, &made.numbers), (0, &counts.numbers));
+    assert_eq!(made.lent[length..], [UNTOUCHED; 9]);
+    (cleared, made.lent[..length].to_vec())
+}
+
+/// The table after a take-back, which has to be accepted and bring back so many steps.
+fn taken_back(program: Program, table: &Table, slip: &[u8], steps: usize) -> Table {
+    let mut table = table.clone();
+    let outcome = program(&mut table, &Call::TakeBack { slip: slip.to_vec() });
+    assert_eq!((outcome.refusal, outcome.numbers), (0, vec![steps, 0]));
+    table
+}
+
+/// The strong links that are left when an exit is emptied.
+fn emptied(table: &Table, step: u16, exit: u16) -> Successors {
+    let mut emptied = table.clone();
+    emptied.targets[place(step.into(), exit.into())] = 0;
+    emptied.strong_links()
 }
 
 /// An image converted to the other edition loads as the same table, and its plan is the one that

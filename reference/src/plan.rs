@@ -2,7 +2,7 @@
 //! It has no bits and counters; after a clearing, what step 0 reaches is marked. Charges and unmet
 //! guarantees are counted as W5 says them.
 //! Renders "The plain plan of a table" of document 01, W2's squeeze of it, W3's refusal of a trial,
-//! and W5's cabins.
+//! W5's cabins, and W7's take-back, which puts the slip's old records into it.
 
 use std::collections::{BTreeMap, BTreeSet};
 use std::iter::zip;
@@ -12,6 +12,7 @@ use crate::calls::Command;
 use crate::history::{Call, Start};
 use crate::image::{fields, in_edition_2, HEADER, RECORD};
 use crate::keys::decode;
+use crate::slip::changes;
 use crate::sound::{capacity_fits, fits};
 use crate::table::{members, place, Charges, Quotas, Table, CABINS};
 
@@ -26,6 +27,14 @@ pub struct PlanStep {
     pub content: u16,
     pub targets: [u16; 4],
     pub cabin: u16,
+}
+
+impl PlanStep {
+    /// The number and the step that a record says, without bits.
+    fn of_record(record: &[u8]) -> (u16, PlanStep) {
+        let [_, _, number, kind, content, _, targets @ .., cabin] = fields::<11>(record);
+        (number, PlanStep { kind, content, targets, cabin })
+    }
 }
 
 /// A plain plan: capacity, last number given, guarantees and limits, and the steps in use by
@@ -74,11 +83,8 @@ impl Plan {
     pub fn of_image(image: &[u8]) -> Plan {
         let image = in_edition_2(image).expect("an accepted image");
         let [_, _, capacity, last, _, quotas @ ..] = fields::<21>(&image);
-        let step = |record: &[u8]| {
-            let [_, _, number, kind, content, _, targets @ .., cabin] = fields::<11>(record);
-            (number, PlanStep { kind, content, targets, cabin })
-        };
-        Plan { capacity, last, quotas, steps: image[HEADER..].chunks(RECORD).map(step).collect() }
+        let steps = image[HEADER..].chunks(RECORD).map(PlanStep::of_record).collect();
+        Plan { capacity, last, quotas, steps }
     }
 
     /// Draws the first call of a history. Whether an image is accepted has to be told, since the
@@ -96,9 +102,21 @@ impl Plan {
     }
 
     /// Draws a call into the plan, which does not know the steps made doubtful, nor what a read or
-    /// a trial answers.
-    pub fn draw(&mut self, call: &Call) -> Said {
+    /// a trial answers. Whether W7's calls got 11 or 18 has to be told, for the same reason.
+    pub fn draw(&mut self, call: &Call, told: bool) -> Said {
         match call {
+            Call::ClearWithSlip { step, exit, .. } => {
+                refuse_if(*self.exit(*step, *exit)? == 0, 6)?;
+                refuse_if(told, 11)?;
+                self.draw_command(Command::Clear { step: *step, exit: *exit })
+            }
+            Call::TakeBack { slip } => {
+                refuse_if(told, 18)?;
+                let before = self.steps.len();
+                let old = changes(slip).into_iter().map(|(old, _)| PlanStep::of_record(old));
+                self.steps.extend(old);
+                Ok([Some((self.steps.len() - before) as u16), Some(0)])
+            }
             Call::Edit(command) => self.draw_command(*command),
             Call::KeyLine(line) => self.draw_command(decode(line).ok_or(9u16)?),
             Call::Squeeze { capacity, quotas } => {

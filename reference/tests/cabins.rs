@@ -170,5 +170,6 @@ fn guarantees_are_kept() {
 
 #[test]
 fn charges_are_counted() {
-    assert!(laws::charges_are_counted(&right, 0..72) > 500);
+    let [freed, back] = laws::charges_are_counted(&right, 0..72);
+    assert!(freed > 500 && back > 100, "{freed} {back}");
 }

@@ -285,7 +285,7 @@ fn conversions(seed: u64) -> impl Iterator<Item = Conversion> {
 /// Each refusal comes up often, and accepted conversions too.
 #[test]
 fn generated_conversions() {
-    let mut refusals = [[0; 18]; 2];
+    let mut refusals = [[0; 19]; 2];
     for conversion in conversions(3) {
         let Conversion { way, image, .. } = &conversion;
         let refusal = run(&conversion, Fault::None).refusal;

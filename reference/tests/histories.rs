@@ -7,7 +7,7 @@ use common::image_of;
 use reference::calls::Command;
 use reference::faults::{Fault, Sort};
 use reference::generate::{start, Generator};
-use reference::history::{agrees, begin, run, Call, Start};
+use reference::history::{agrees, begin, run, Call, Outcome, Start};
 use reference::image::load;
 use reference::plan::{plan_of, Plan};
 use reference::sound::{sound, ALARM, MESSAGE, WAIT};
@@ -31,8 +31,8 @@ fn without_strong_chain(table: &Table, step: u16, exit: u16) -> u32 {
 #[derive(Default, Debug)]
 struct Seen {
     /// First calls by their refusal, and all other calls.
-    begun: [u32; 18],
-    refusals: [u32; 18],
+    begun: [u32; 19],
+    refusals: [u32; 19],
     /// Squeezes refused by 16, and by 13 for their list alone.
     bad_lists: u32,
     unfit_lists: u32,
@@ -50,6 +50,13 @@ struct Seen {
     endings: [u32; 3],
     bad_results: u32,
     short_traces: u32,
+    /// Clearings with a slip, accepted and refused by 11.
+    slips: u32,
+    short_slips: u32,
+    /// Take-backs: accepted, those of them that brought steps back, and refused.
+    taken_back: u32,
+    brought_back: u32,
+    not_taken_back: u32,
 }
 
 /// Runs the first call on table and plan and compares all that has to agree.
@@ -67,7 +74,7 @@ fn first(start: &Start, seen: &mut Seen) -> (Table, Plan) {
 fn check(table: &mut Table, plan: &mut Plan, call: &Call, seen: &mut Seen) {
     let before = table.clone();
     let outcome = run(table, call, Fault::None);
-    let said = plan.draw(call);
+    let said = plan.draw(call, call.told(outcome.refusal));
     assert!(agrees(&outcome, said), "{call:?}: {outcome:?}, plan: {said:?}");
     assert_eq!(plan_of(table), *plan, "{call:?}");
     assert!(sound(table), "{call:?}");
@@ -96,12 +103,18 @@ fn check(table: &mut Table, plan: &mut Plan, call: &Call, seen: &mut Seen) {
         seen.bad_lists += u32::from(outcome.refusal == 16);
         seen.unfit_lists += u32::from(outcome.refusal == 13 && *capacity >= before.size());
     }
-    if matches!(call, Call::Trial { .. }) {
-        match outcome.refusal {
-            0 => seen.endings[outcome.numbers[0]] += 1,
-            10 => seen.bad_results += 1,
-            _ => seen.short_traces += 1,
+    match (call, outcome.refusal) {
+        (Call::Trial { .. }, 0) => seen.endings[outcome.numbers[0]] += 1,
+        (Call::Trial { .. }, 10) => seen.bad_results += 1,
+        (Call::Trial { .. }, _) => seen.short_traces += 1,
+        (Call::ClearWithSlip { .. }, 0) => seen.slips += 1,
+        (Call::ClearWithSlip { .. }, 11) => seen.short_slips += 1,
+        (Call::TakeBack { .. }, 0) => {
+            seen.taken_back += 1;
+            seen.brought_back += u32::from(table.size() > before.size());
         }
+        (Call::TakeBack { .. }, _) => seen.not_taken_back += 1,
+        _ => {}
     }
     seen.refusals[usize::from(outcome.refusal)] += 1;
     seen.full_128 += u32::from(table.size() == 128);
@@ -114,7 +127,7 @@ fn histories_agree_with_the_plan() {
         let (mut table, mut plan) = first(&start(seed), &mut seen);
         let mut generator = Generator::new(seed);
         for _ in 0..500 {
-            let call = generator.call(&plan);
+            let call = generator.call(&table);
             check(&mut table, &mut plan, &call, &mut seen);
         }
     }
@@ -130,23 +143,41 @@ fn histories_agree_with_the_plan() {
     assert!(seen.full_128 > 100 && seen.squeezed > 1000 && seen.renumbered > 500);
     assert!(seen.endings.iter().all(|&ended| ended > 1000));
     assert!(seen.bad_results > 500 && seen.short_traces > 500);
+    assert!(seen.slips > 1000 && seen.short_slips > 500);
+    assert!(seen.taken_back > 1000 && seen.brought_back > 500 && seen.not_taken_back > 1000);
 }
 
-/// Whether a variant differs from the right one, in the table or an outcome, after the first call
-/// or one of so many others.
-fn differs(seed: u64, calls: usize, fault: Fault) -> bool {
-    let start = start(seed);
-    let [(mut right, outcome), (mut wrong, other)] =
-        [Fault::None, fault].map(|fault| begin(&start, fault));
-    let (mut plan, _) = Plan::begin(&start, outcome.refusal == 0);
-    let mut generator = Generator::new(seed);
-    (right != wrong || outcome != other)
-        || (0..calls).any(|_| {
-            let call = generator.call(&plan);
-            let outcome = run(&mut right, &call, Fault::None);
-            let other = run(&mut wrong, &call, fault);
-            let _ = plan.draw(&call);
-            outcome != other || right != wrong
+/// A history, and what the right program gives: the outcome of each call and the table after it.
+struct Made {
+    start: Start,
+    begun: (Table, Outcome),
+    calls: Vec<(Call, Outcome, Table)>,
+}
+
+/// Histories of 240 calls each.
+fn histories() -> Vec<Made> {
+    let history = |seed| {
+        let start = start(seed);
+        let begun = begin(&start, Fault::None);
+        let (mut table, mut generator) = (begun.0.clone(), Generator::new(seed));
+        let next = || {
+            let call = generator.call(&table);
+            let outcome = run(&mut table, &call, Fault::None);
+            (call, outcome, table.clone())
+        };
+        let calls = std::iter::repeat_with(next).take(240).collect();
+        Made { start, begun, calls }
+    };
+    (0..54).map(history).collect()
+}
+
+/// Whether a variant differs from the right one, in the table or an outcome, after some call.
+fn differs(history: &Made, fault: Fault) -> bool {
+    let begun = begin(&history.start, fault);
+    let mut table = begun.0.clone();
+    begun != history.begun
+        || history.calls.iter().any(|(call, outcome, after)| {
+            run(&mut table, call, fault) != *outcome || table != *after
         })
 }
 
@@ -193,6 +224,32 @@ fn every_fault_is_found() {
         Fault::OneMoveMore,
         Fault::TraceAsResults,
         Fault::UsedResultsOnly,
+        Fault::BitsLeftOut,
+        Fault::TargetListed,
+        Fault::CountersListed,
+        Fault::FreedLeftOut,
+        Fault::SlipDescending,
+        Fault::NewBeforeOld,
+        Fault::FreedUnnumbered,
+        Fault::HolderNotCounted,
+        Fault::ExitFirst,
+        Fault::RoomForLargest,
+        Fault::RoomBeforeEmpty,
+        Fault::ClearedThoughShort,
+        Fault::WrittenAsFits,
+        Fault::ZeroBehind,
+        Fault::PresentUnread,
+        Fault::ListUnasked,
+        Fault::CapacityUnasked,
+        Fault::RetraceSkipped,
+        Fault::SlipUnread,
+        Fault::ExtraBytesTaken,
+        Fault::CountersKept,
+        Fault::CountersOfListed,
+        Fault::LastIsBack,
+        Fault::BitsNotBack,
+        Fault::CabinsNotBack,
+        Fault::ListedSaidBack,
         Fault::DoubtfulSaidFreed,
         Fault::CountsExchanged,
         Fault::CountersExchanged,
@@ -202,25 +259,27 @@ fn every_fault_is_found() {
         Fault::WrittenDescending,
         Fault::MovesInAByte,
     ];
+    let histories = histories();
     for fault in faults {
-        let found = (0..54).filter(|&seed| differs(seed, 200, fault)).count();
+        let found = histories.iter().filter(|history| differs(history, fault)).count();
         println!("{fault:?} is found by {found} histories of 54");
         assert!(found >= 9, "{fault:?} is found by {found} histories of 54");
     }
-    assert!(!(0..54).any(|seed| differs(seed, 200, Fault::None)));
+    assert!(!histories.iter().any(|history| differs(history, Fault::None)));
 }
 
 /// What is wrong in one part of one sort of call is found too, but where no history has such a
 /// call: a count or an image's length that is refused, and a conversion.
 #[test]
 fn every_spoiled_part_is_found() {
+    let histories = histories();
     for fault in Fault::spoiled() {
         let Fault::Spoiled { sort, refused, .. } = fault else { unreachable!() };
         let met = match sort {
             Sort::Count | Sort::ImageLength => !refused,
             _ => !sort.converts(),
         };
-        let found = (0..54).any(|seed| differs(seed, 200, fault));
+        let found = histories.iter().any(|history| differs(history, fault));
         assert_eq!(found, met, "{fault:?}");
     }
 }

@@ -157,7 +157,7 @@ fn generated_lines() {
         for _ in 0..800 {
             let line = generator.key_line(&plan);
             let answer = key_line(&mut table, &line);
-            let said = plan.draw(&Call::KeyLine(line.clone()));
+            let said = plan.draw(&Call::KeyLine(line.clone()), false);
             assert_eq!(answer.refusal, said.err().unwrap_or(0));
             expected.push_str(&format!("{} {} {}\n", answer.refusal, answer.first, answer.second));
             input.extend(line);

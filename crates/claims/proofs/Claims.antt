@@ -7,6 +7,7 @@
 --   written-equal loaded-equal   one table, one image (W1); demand-2-old-*, an image of edition 1 (W5)
 --   convert-*                 an image converted to the other edition (W6)
 --   squeeze-*                 an accepted squeeze, and what its table does (W2)
+--   slip-demand take-back-demand told-demand   a clearing with a slip, its taking back, and what the plan is told of them (W7)
 --   trial-demand trial-only trial-longer   an accepted trial, and one with a larger limit (W3)
 --   examples-shown ..         P1 to P10, each refusal of each call, key lines byte by byte, a table for each clause of soundness
 --   keys-demand keys-blocks   the program `keys`
@@ -28,14 +29,16 @@ use Rattle.table.specs.Plan.{planOf}
 use Rattle.table.proofs.Sound as Soundness
 use Rattle.image.specs.Image.{Edition, edition1, edition2, image, editionIn, imageLength, writeCall, written, accepted, loadCall, Bytes}
 use Rattle.image.specs.Convert.{convertRefusal, convertCall}
+use Rattle.image.specs.Slip.{clearSlipRefusal, clearSlipCall, takeBackRefusal, takeBackCall}
 use Rattle.image.proofs.Laws as Images
 use Rattle.keyline.specs.Keys.{spokenCounts}
-use Rattle.history.specs.History.{First, Call, tableAfter, heardBy, planAfter, drawnBy, firstRefusal, planFirstRefusal, firstTable, firstPlan}
+use Rattle.history.specs.History.{First, Call, withTold, tableAfter, heardBy, planAfter, drawnBy, firstRefusal, planFirstRefusal, firstTable, firstPlan}
 use Rattle.history.specs.Acts.{Act}
-use Rattle.history.specs.Demands.{Demand1, Demand3, GuaranteeDemand, ChargesDemand, AddDemand, LinkDemand, ClearDemand, CountDemand, SqueezeDemand, TwiceDemand, WriteDemand, EqualDemand, SortedDemand, OldDemand, ConvertDemand, RefusalDemand, SameTableDemand}
+use Rattle.history.specs.Demands.{Demand1, Demand3, GuaranteeDemand, ChargesDemand, AddDemand, LinkDemand, ClearDemand, CountDemand, SqueezeDemand, TwiceDemand, WriteDemand, EqualDemand, SortedDemand, OldDemand, ConvertDemand, RefusalDemand, SameTableDemand, ToldDemand, SlipDemand, TakeBackDemand}
 use Rattle.table.specs.Trial.{TrialOutcome, trialRefusal, trialCall, TrialDemand, SameTrial, LongerDemand, underNumbers}
 use Rattle.history.proofs.Demand1 as Refusals
 use Rattle.history.proofs.Demand2
+use Rattle.history.proofs.Slips
 use Rattle.table.proofs.Trials
 use Rattle.history.proofs.Demand3 as Histories
 use Rattle.history.proofs.Accounts
@@ -57,6 +60,10 @@ use Rattle.telephone.proofs.plan_link.Statement as link-contract
 use Rattle.telephone.proofs.plan_link.Met as link-met
 use Rattle.telephone.proofs.plan_clear.Statement as clear-contract
 use Rattle.telephone.proofs.plan_clear.Met as clear-met
+use Rattle.telephone.proofs.plan_clear_with_slip.Statement as clear-with-slip-contract
+use Rattle.telephone.proofs.plan_clear_with_slip.Met as clear-with-slip-met
+use Rattle.telephone.proofs.plan_take_back.Statement as take-back-contract
+use Rattle.telephone.proofs.plan_take_back.Met as take-back-met
 use Rattle.telephone.proofs.plan_read.Statement as read-contract
 use Rattle.telephone.proofs.plan_read.Met as read-met
 use Rattle.telephone.proofs.plan_trial.Statement as trial-contract
@@ -111,17 +118,21 @@ module _ (f : First) (cs : List Call) where
   pub history-reached : (i : ℕ) → inUse left i ≡ true → (i ≡ 0 → ⊥) → (n : ℕ) × StrongChain left 0 i n
   history-reached = Histories.history-reached f cs
 
-  pub history-plan : planOf left ≡ planAfter (firstPlan f) cs
+  pub history-plan : planOf left ≡ planAfter (firstPlan f) (withTold (firstTable f) cs)
   history-plan = Histories.history-plan f cs
 
   pub history-begun : firstRefusal f ≡ planFirstRefusal f
   history-begun = Histories.history-begun f cs
 
-  pub history-heard : heardBy (firstTable f) cs ≡ drawnBy (firstPlan f) cs
+  pub history-heard : heardBy (firstTable f) cs ≡ drawnBy (firstPlan f) (withTold (firstTable f) cs)
   history-heard = Histories.history-heard f cs
 
   pub history-counts : (i b : ℕ) → i < places → b < counters → counterOf left i b ≡ linksTo left i b
   history-counts = Histories.history-counts f cs
+
+-- W7: what the plan is told: the calls as they are, and of each whether it is a clearing with a slip that got 11 or a take-back that got 18
+pub told-demand : (t : Table) (cs : List Call) → ToldDemand t cs (withTold t cs)
+told-demand = Slips.told-demand
 
 -- W5: "a cabin below its guarantee is never told "full", whatever the others add or keep"
 pub guarantee-kept : (f : First) (cs : List Call) → GuaranteeDemand f cs
@@ -192,6 +203,15 @@ convert-up-written = Demand2.up-demand
 -- 11 only where each that does is longer than the buffer
 pub convert-refusals : (v : Edition) (bs buffer : List ℕ) → RefusalDemand v bs buffer (convertCall v bs buffer)
 convert-refusals = Demand2.refusal-demand
+
+-- W7: a clearing with a slip that is not refused, and its taking back where no call changed the table since
+pub slip-demand : (t : Table) (i e : ℕ) (buffer : List ℕ) → clearSlipRefusal t i e (length buffer) ≡ 0 →
+    SlipDemand t i e buffer (clearSlipCall t i e buffer)
+slip-demand = Slips.slip-demand
+
+-- and an accepted take-back: its result cleared again gives the present table
+pub take-back-demand : (t : Table) → Sound t → (bs : List ℕ) → takeBackRefusal t bs ≡ 0 → TakeBackDemand t bs (takeBackCall t bs)
+take-back-demand = Slips.take-back-demand
 
 -- W2: an accepted squeeze of a sound table, and a second one
 pub squeeze-demand : (t : Table) → Sound t → (c : ℕ) (q : List ℕ) → squeezeRefusal t c q ≡ 0 → SqueezeDemand t c q (squeezeCall t c q)
@@ -271,6 +291,12 @@ module _ {M : Type 1} where
 
   pub plan-clear : clear-contract.statement M
   plan-clear = clear-met.met
+
+  pub plan-clear-with-slip : clear-with-slip-contract.statement M
+  plan-clear-with-slip = clear-with-slip-met.met
+
+  pub plan-take-back : take-back-contract.statement M
+  plan-take-back = take-back-met.met
 
   pub plan-read : read-contract.statement M
   plan-read = read-met.met

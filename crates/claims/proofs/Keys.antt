@@ -23,10 +23,10 @@ use Rattle.keyline.specs.declared.Command.the-variants.{Add, Link, Clear, Count
 use Rattle.keyline.specs.declared.Decoded.{Decoded}
 use Rattle.keyline.specs.declared.Decoded.the-variants.{Line, Nothing}
 use Rattle.keyline.specs.Keys.{decode, callDigit, spokenCounts, perform, performLine, keyCall}
-use Rattle.history.specs.History.{Heard, fresh, keyLine, heardAs, callOf, run, ran, heardBy, drawnBy, firstTable, firstPlan}
+use Rattle.history.specs.History.{Call, Heard, fresh, keyLine, heardAs, callOf, run, ran, isTold, withTold, heardBy, drawnBy, firstTable, firstPlan}
 use Rattle.history.proofs.Demand3.{demand-3}
 use Rattle.session.specs.Session.{keysTable, linesOf, threeNumbers, printed, answers, keysOutput}
-use Rattle.claims.specs.Keys.{drawnLine, drawnLines, KeysDemand}
+use Rattle.claims.specs.Keys.{keyed, drawnLine, drawnLines, KeysDemand}
 
 -- what an answer of the call has beside what is heard of it: the first number of a clearing, and nothing else
 record Told (call : ℕ) (a : Answer) : Type 0 where
@@ -96,6 +96,12 @@ unfolding answers drawnLines firsts heardBy run ran
 answers-drawn t [] = refl
 answers-drawn t (l ∷ ls) = ap₂ _++_ (line-drawn t l) (answers-drawn (keyCall t l .table) ls)
 
+-- the plan is told nothing of key lines
+nothing-told : (t : Table) (ls : List (List ℕ)) → withTold t (map keyLine ls) ≡ map keyed ls
+unfolding withTold isTold keyed
+nothing-told t [] = refl
+nothing-told t (l ∷ ls) = ap (λ (cs : List (Bool × Call)). (false, keyLine l) ∷ cs) (nothing-told (run t (keyLine l) .table) ls)
+
 -- the list of quotas that `keys` begins with is a good one
 lists : Bool
 unfolding listFits quotasFit guaranteeOf limitOf soleQuotas all total
@@ -114,5 +120,6 @@ keys-demand bs =
       printed =
           answers-drawn keysTable (linesOf bs) ∙
           ap (λ (hs : List Heard). drawnLines (linesOf bs) hs (firsts keysTable (linesOf bs)))
-          (ap (λ (u : Table). heardBy u (map keyLine (linesOf bs))) (sym t) ∙ d .heard ∙ ap (λ q. drawnBy q (map keyLine (linesOf bs))) p);
+          (ap (λ (u : Table). heardBy u (map keyLine (linesOf bs))) (sym t) ∙ d .heard
+          ∙ ap₂ drawnBy p (nothing-told (firstTable (fresh places list)) (linesOf bs)));
     }

@@ -1,7 +1,7 @@
 // Clear: an exit of a step is emptied, and the steps that no chain of links reaches any more are freed.
 ghost use mathlib.Core.Path.{_≡_};
 ghost use Rattle.table.specs.Sound.{Sound};
-ghost use Rattle.table.specs.Clear.{repaired, cleared, clearCall};
+ghost use Rattle.table.specs.Clear.{repaired, cleared, clearRefusal, clearCall};
 ghost use Rattle.table.proofs.Calls.{ClearFits};
 ghost use Rattle.words.specs.Words.{tableOf, wordsOf, Becomes};
 ghost use Rattle.withdraw.specs.Withdraw.{Emptied};
@@ -27,7 +27,7 @@ fn repair_table(t: &mut [u16; WORDS], start: u16) -> Answer
 }
 
 // Rule 1, and the others where it does not stop: exit e of step i, which holds a link, is cleared.
-fn clear_exit(t: &mut [u16; WORDS], i: usize, e: usize) -> Answer
+pub fn clear_exit(t: &mut [u16; WORDS], i: usize, e: usize) -> Answer
     requires { ⌜ Sound (tableOf (now t)) × ClearFits (tableOf (now t)) i e ⌝ }
     ensures answer { λ r. ⌜ r ≡ cleared (tableOf (now (t .entry))) i e .answer ⌝ }
     ensures table { λ r. ⌜ Becomes (now (t .entry)) (now (t .exit)) (cleared (tableOf (now (t .entry))) i e .table) ⌝ }
@@ -45,6 +45,24 @@ fn clear_exit(t: &mut [u16; WORDS], i: usize, e: usize) -> Answer
     repair_table(t, target)
 }
 
+// The refusal of a clearing, or 0.
+pub fn clear_refusal(t: &[u16; WORDS], step: u16, exit: u16) -> u16
+    ensures { λ r. ⌜ r ≡ clearRefusal (tableOf (now (t .entry))) step exit ⌝ }
+{
+    let unsound = soundness::table_refusal(t);
+    if unsound != 0 {
+        return unsound;
+    }
+    let refusal = edits::exit_refusal(t, step, exit);
+    if refusal != 0 {
+        return refusal;
+    }
+    if words::target_at(t, words::wide(step), words::wide(exit)) == 0 {
+        return words::EXIT_EMPTY;
+    }
+    0
+}
+
 // Clears an exit: the link in it is taken out, and the steps that nothing leads to any more are freed. The answer counts the steps that were
 // doubtful and those that were freed. A refused one leaves the table as it was.
 pub fn clear(t: &mut [u16; WORDS], step: u16, exit: u16) -> Answer
@@ -52,18 +70,9 @@ pub fn clear(t: &mut [u16; WORDS], step: u16, exit: u16) -> Answer
     ensures table { λ r. ⌜ now (t .exit) ≡ wordsOf (clearCall (tableOf (now (t .entry))) step exit .table) ⌝ }
 {
     words::sized(t);
-    let unsound = soundness::table_refusal(t);
-    if unsound != 0 {
-        return Answer::Refused(unsound);
-    }
-    let refusal = edits::exit_refusal(t, step, exit);
+    let refusal = clear_refusal(t, step, exit);
     if refusal != 0 {
         return Answer::Refused(refusal);
     }
-    let i = words::wide(step);
-    let e = words::wide(exit);
-    if words::target_at(t, i, e) == 0 {
-        return Answer::Refused(words::EXIT_EMPTY);
-    }
-    clear_exit(t, i, e)
+    clear_exit(t, words::wide(step), words::wide(exit))
 }

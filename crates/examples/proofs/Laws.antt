@@ -1,51 +1,26 @@
 -- What the tests of the examples mean: an entry that passes says what it states, and so does each entry of a run. And that the words of the
 -- examples are those of the definitions: `doneBy` is `run`, `tableLeft` is `tableAfter`, `taken` is what `repair` takes. Assumes nothing.
---   same-true, table-same, done-same   what passes a test of sameness is the same
+--   done-same                          what passes a test of sameness is the same
 --   facts-hold, entry-shown            an entry that passes is shown
 --   run-shown, run-at                  so is each entry of a run, and each run of a list of runs
 --   taken-repair                       `repair` takes the steps of `taken`, in that order
 --   done-run, done-refusal, done-first, left-after   an act and a history agree
-use mathlib.Core.Path.{_≡_, refl, sym, _∙_, ap, ap₂, subst}
+use mathlib.Core.Path.{_≡_, refl, sym, _∙_, ap, subst}
 use mathlib.Core.Bool.{Bool, true, false}
 use mathlib.Core.List.{List, [], _∷_, _++_, map, List·Memᴰ, List·Memᴰ·head, List·Memᴰ·tail, nil≢cons, cons≢nil, head-eq-of-cons-eq, tail-eq-of-cons-eq}
 use Prim.Native.Nat.{ℕ, zero, suc}
 use lib.Dec.{eqb, ltb}
 use borrow.Author.Tests.{eqb-true}
-use Rattle.finite.proofs.Bools.{and-left, and-right, clash, passes-at}
-use Rattle.finite.specs.Below.{lowest, passes}
+use Rattle.finite.proofs.Bools.{and-left, and-right, passes-at}
+use Rattle.finite.proofs.Select.{same-true}
+use Rattle.finite.specs.Below.{lowest, passes, same}
 use Rattle.table.specs.Table.{Table}
 use Rattle.table.specs.Calls.{refusedTable}
 use Rattle.table.specs.Clear.{Repair, wanted, repair}
-use Rattle.history.specs.History.{First, fresh, load, Call, add, link, clear, read, trial, write, keyLine, squeeze, onlyRefusal, heardAs, ran, run, tableAfter, firstTable}
+use Rattle.table.proofs.Same.{table-same}
+use Rattle.history.specs.History.{First, fresh, load, Call, add, link, clear, read, trial, write, keyLine, squeeze, clearSlip, takeBack, onlyRefusal, heardAs, ran, run, tableAfter, firstTable}
 use Rattle.history.specs.Acts.{Act, begin, call, convert, Done, told, wrote, callDone, doneBy, refusedBy}
-use Rattle.examples.specs.Examples.{takeOne, taken, takeAll, Fact, _is_, seen, Entry, accepts, refuses, actOf, Run, tableLeft, Holds, Shown, same, sameTable, doneTests, factsHold, passed, walk, everyRun}
-
-same-true : (xs ys : List ℕ) → same xs ys ≡ true → xs ≡ ys
-unfolding same
-same-true [] [] p = refl
-same-true [] (y ∷ ys) p = clash p refl
-same-true (x ∷ xs) [] p = clash p refl
-same-true (x ∷ xs) (y ∷ ys) p =
-    ap₂ _∷_ (eqb-true x y (and-left (eqb x y) (same xs ys) p)) (same-true xs ys (and-right (eqb x y) (same xs ys) p))
-
-table-same : (t u : Table) → passes (sameTable t u) ≡ true → t ≡ u
-unfolding sameTable
-table-same t u p =
-    let at = passes-at (sameTable t u) p in
-    λ i.
-    record {
-      capacity = eqb-true (t .capacity) (u .capacity) (at 0) i;
-      last = eqb-true (t .last) (u .last) (at 1) i;
-      used = same-true (t .used) (u .used) (at 2) i;
-      kinds = same-true (t .kinds) (u .kinds) (at 3) i;
-      contents = same-true (t .contents) (u .contents) (at 4) i;
-      own = same-true (t .own) (u .own) (at 5) i;
-      targets = same-true (t .targets) (u .targets) (at 6) i;
-      bits = same-true (t .bits) (u .bits) (at 7) i;
-      counts = same-true (t .counts) (u .counts) (at 8) i;
-      cabins = same-true (t .cabins) (u .cabins) (at 9) i;
-      quotas = same-true (t .quotas) (u .quotas) (at 10) i;
-    }
+use Rattle.examples.specs.Examples.{takeOne, taken, takeAll, Fact, _is_, seen, Entry, accepts, refuses, actOf, Run, tableLeft, Holds, Shown, doneTests, factsHold, passed, walk, everyRun}
 
 done-same : (d r : Done) → passes (doneTests d r) ≡ true → d ≡ r
 unfolding doneTests
@@ -139,6 +114,8 @@ done-run t (trial limit results trace) = refl
 done-run t (write buffer) = refl
 done-run t (keyLine bs) = refl
 done-run t (squeeze c q) = refl
+done-run t (clearSlip i e buffer) = refl
+done-run t (takeBack bs) = refl
 
 pub done-refusal : (t : Table) (c : Call) → doneBy t (call c) .refusal ≡ run t c .heard .refusal
 unfolding doneBy callDone told wrote run ran heardAs onlyRefusal
@@ -150,6 +127,8 @@ done-refusal t (trial limit results trace) = refl
 done-refusal t (write buffer) = refl
 done-refusal t (keyLine bs) = refl
 done-refusal t (squeeze c q) = refl
+done-refusal t (clearSlip i e buffer) = refl
+done-refusal t (takeBack bs) = refl
 
 pub done-first : (t : Table) (f : First) → doneBy t (begin f) .table ≡ firstTable f
 unfolding doneBy told firstTable

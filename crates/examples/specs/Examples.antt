@@ -1,4 +1,4 @@
--- The examples in one table: P1 to P10 of document 01 ("Edits on F4"), what they do not show, W1's to W3's, W5's and W6's, then each call refused
+-- The examples in one table: P1 to P10 of document 01 ("Edits on F4"), what they do not show, W1's to W3's, W5's to W7's, then each call refused
 -- for each of its reasons ("Reasons for no") and the calls that P1 to P10 do not make. The entries of a run are made one after the other, each on the
 -- table that the one before left. Assumes nothing.
 --   taken              the steps that a repair takes back, in their order
@@ -18,8 +18,8 @@ use mathlib.Core.List.{List, [], _∷_, _++_, List·Memᴰ}
 use Prim.Native.Nat.{ℕ, zero, suc, _+_, _/_, _%_, _^_}
 use lib.ListN.{set, take, replicate}
 use lib.Dec.{eqb, ltb}
-use Rattle.finite.specs.Below.{lowest, tabulate, passes}
-use Rattle.table.specs.Table.{Table, cabinCount, inUse, kindOf, contentOf, ownBit, cabinOf, targetOf, counterOf, holds, strong, withNumbers, withLinks, withSteps}
+use Rattle.finite.specs.Below.{lowest, tabulate, passes, same}
+use Rattle.table.specs.Table.{Table, cabinCount, inUse, kindOf, contentOf, ownBit, cabinOf, targetOf, counterOf, holds, strong, sameTable, withNumbers, withLinks, withSteps}
 use Rattle.table.specs.Cabins.{soleQuotas, charge}
 use Rattle.table.specs.Sound.{soundTests}
 use Rattle.table.specs.Calls.{refusedTable, addCall}
@@ -30,7 +30,7 @@ use Rattle.keyline.specs.declared.Command.the-variants.{Add, Link, Clear, Count
 use Rattle.keyline.specs.declared.Decoded.{Decoded}
 use Rattle.keyline.specs.declared.Decoded.the-variants.{Line, Nothing}
 use Rattle.keyline.specs.Keys.{decode}
-use Rattle.history.specs.History.{fresh, load, add, link, clear, read, trial, write, keyLine, squeeze, firstTable}
+use Rattle.history.specs.History.{fresh, load, add, link, clear, read, trial, write, keyLine, squeeze, clearSlip, takeBack, firstTable}
 use Rattle.history.specs.Acts.{Act, begin, call, convert, Done, doneBy, refusedBy}
 
 -- one round of rule 3 of clearing: step k is taken back and counted no longer doubtful
@@ -131,34 +131,13 @@ abbrev pub Shown : Table → Entry → Type 0
 Shown t (accepts a fs) = Accepted t (doneBy t a) fs
 Shown t (refuses a n) = doneBy t a ≡ refusedBy n t a
 
--- the tests: two lists of numbers, two tables, two acts done are the same
-unfoldable pub same : List ℕ → List ℕ → Bool
-same [] [] = true
-same [] (y ∷ ys) = false
-same (x ∷ xs) [] = false
-same (x ∷ xs) (y ∷ ys) = eqb x y && same xs ys
-
-unfoldable pub sameTable : Table → Table → List Bool
-sameTable t u =
-    eqb (t .capacity) (u .capacity) ∷
-    eqb (t .last) (u .last) ∷
-    same (t .used) (u .used) ∷
-    same (t .kinds) (u .kinds) ∷
-    same (t .contents) (u .contents) ∷
-    same (t .own) (u .own) ∷
-    same (t .targets) (u .targets) ∷
-    same (t .bits) (u .bits) ∷
-    same (t .counts) (u .counts) ∷
-    same (t .cabins) (u .cabins) ∷
-    same (t .quotas) (u .quotas) ∷
-    []
-
+-- the tests: two acts done are the same
 unfoldable pub doneTests : Done → Done → List Bool
 doneTests d r =
     eqb (d .refusal) (r .refusal) ∷
     same (d .numbers) (r .numbers) ∷
     same (d .lent) (r .lent) ∷
-    passes (sameTable (d .table) (r .table)) ∷
+    sameTable (d .table) (r .table) ∷
     []
 
 unfoldable pub factsHold : Table → Done → List Fact → Bool
@@ -597,6 +576,68 @@ pub record Twins (t u : Table) : Type 0 where
   pub plan : planOf t ≡ planOf u
   pub images : image writtenEdition t ≡ image writtenEdition u → ⊥
 
+-- W7: the slip of a clearing on F4 that frees contact 7, which was step 1: two changed steps. Step 0 had it in its first exit.
+unfoldable pub freedSlip : List ℕ
+freedSlip =
+    (0 ∷ 0 ∷ 0 ∷ 0 ∷ 2 ∷ 0 ∷ []) ++
+    ((22 ∷ 0 ∷ 4 ∷ 0 ∷ 0 ∷ 0 ∷ 0 ∷ 0 ∷ 0 ∷ 0 ∷ 0 ∷ 0 ∷ 1 ∷ 0 ∷ 0 ∷ 0 ∷ 0 ∷ 0 ∷ 0 ∷ 0 ∷ 0 ∷ 0 ∷ []) ++
+    ((22 ∷ 0 ∷ 4 ∷ 0 ∷ replicate 18 0) ++
+    ((22 ∷ 0 ∷ 4 ∷ 0 ∷ 1 ∷ 0 ∷ 1 ∷ 0 ∷ 7 ∷ 0 ∷ replicate 12 0) ++
+    (22 ∷ 0 ∷ 4 ∷ 0 ∷ 1 ∷ 0 ∷ replicate 16 0))))
+
+-- the slip of a clearing that turns two bits: steps 1 and 2 hold each other, and step 0 holds both, step 2 by a weak link
+unfoldable pub turnedSlip : List ℕ
+turnedSlip =
+    (0 ∷ 0 ∷ 0 ∷ 0 ∷ 3 ∷ 0 ∷ []) ++
+    ((22 ∷ 0 ∷ 4 ∷ 0 ∷ 0 ∷ 0 ∷ 0 ∷ 0 ∷ 0 ∷ 0 ∷ 2 ∷ 0 ∷ 1 ∷ 0 ∷ 2 ∷ 0 ∷ 0 ∷ 0 ∷ 0 ∷ 0 ∷ 0 ∷ 0 ∷ []) ++
+    ((22 ∷ 0 ∷ 4 ∷ 0 ∷ 0 ∷ 0 ∷ 0 ∷ 0 ∷ 0 ∷ 0 ∷ 2 ∷ 0 ∷ 0 ∷ 0 ∷ 2 ∷ 0 ∷ 0 ∷ 0 ∷ 0 ∷ 0 ∷ 0 ∷ 0 ∷ []) ++
+    ((22 ∷ 0 ∷ 4 ∷ 0 ∷ 1 ∷ 0 ∷ 1 ∷ 0 ∷ 7 ∷ 0 ∷ 0 ∷ 0 ∷ 2 ∷ 0 ∷ replicate 8 0) ++
+    ((22 ∷ 0 ∷ 4 ∷ 0 ∷ 1 ∷ 0 ∷ 1 ∷ 0 ∷ 7 ∷ 0 ∷ 16 ∷ 0 ∷ 2 ∷ 0 ∷ replicate 8 0) ++
+    ((22 ∷ 0 ∷ 4 ∷ 0 ∷ 2 ∷ 0 ∷ 2 ∷ 0 ∷ 3 ∷ 0 ∷ 1 ∷ 0 ∷ 1 ∷ 0 ∷ replicate 8 0) ++
+    (22 ∷ 0 ∷ 4 ∷ 0 ∷ 2 ∷ 0 ∷ 2 ∷ 0 ∷ 3 ∷ 0 ∷ 17 ∷ 0 ∷ 1 ∷ 0 ∷ replicate 8 0))))))
+
+unfoldable pub regrets : List Entry
+regrets =
+    accepts (call (add 0 0 1 7 0)) (answer is (1 ∷ 0 ∷ []) ∷ []) ∷
+    -- the clearing's refusals, whatever the buffer, then 11: this slip has 94 bytes
+    refuses (call (clearSlip 2 4 [])) 3 ∷
+    refuses (call (clearSlip 0 4 [])) 4 ∷
+    refuses (call (clearSlip 0 1 [])) 6 ∷
+    refuses (call (clearSlip 0 0 (replicate 93 9))) 11 ∷
+    -- the slip, and the byte past it as it was; the last number given stays
+    accepts (call (clearSlip 0 0 (replicate 95 9)))
+    (answer is (1 ∷ 1 ∷ []) ∷ bytes is (freedSlip ++ (9 ∷ [])) ∷ steps is (0 ∷ []) ∷ sizes is (4 ∷ 1 ∷ []) ∷ []) ∷
+    -- 18: no bytes, a byte after the slip, a byte less, and the slip of another clearing
+    refuses (call (takeBack [])) 18 ∷
+    refuses (call (takeBack (freedSlip ++ (0 ∷ [])))) 18 ∷
+    refuses (call (takeBack (take 93 freedSlip))) 18 ∷
+    refuses (call (takeBack turnedSlip)) 18 ∷
+    -- taken back: one step is back, and the table is the one from before
+    accepts (call (takeBack freedSlip))
+    (answer is (1 ∷ 0 ∷ []) ∷ steps is (0 ∷ 1 ∷ []) ∷ what 1 is (1 ∷ 7 ∷ []) ∷ exit 0 0 is (strongLink ∷ 1 ∷ []) ∷ counts 1 is (1 ∷ 0 ∷ []) ∷
+    sizes is (4 ∷ 1 ∷ []) ∷ []) ∷
+    refuses (call (takeBack freedSlip)) 18 ∷
+    -- a clearing that frees none and turns two bits: its slip has them
+    accepts (call (add 1 0 2 3 0)) (answer is (2 ∷ 0 ∷ []) ∷ []) ∷
+    accepts (call (link 0 0 2 0)) [] ∷
+    accepts (call (link 1 0 0 1)) (exit 0 1 is (weakLink ∷ 2 ∷ []) ∷ []) ∷
+    accepts (call (clearSlip 0 0 (replicate 138 9)))
+    (answer is (2 ∷ 0 ∷ []) ∷ bytes is turnedSlip ∷ own 1 is (1 ∷ []) ∷ own 2 is (1 ∷ []) ∷ exit 0 1 is (strongLink ∷ 2 ∷ []) ∷
+    exit 2 0 is (strongLink ∷ 1 ∷ []) ∷ exit 1 0 is (weakLink ∷ 2 ∷ []) ∷ []) ∷
+    accepts (call (takeBack turnedSlip))
+    (answer is (0 ∷ 0 ∷ []) ∷ own 1 is (0 ∷ []) ∷ own 2 is (0 ∷ []) ∷ exit 0 0 is (strongLink ∷ 1 ∷ []) ∷ exit 0 1 is (weakLink ∷ 2 ∷ []) ∷
+    exit 2 0 is (weakLink ∷ 1 ∷ []) ∷ exit 1 0 is (strongLink ∷ 2 ∷ []) ∷ counts 1 is (1 ∷ 1 ∷ []) ∷ counts 2 is (1 ∷ 1 ∷ []) ∷ []) ∷
+    -- the weak link to step 2: of step 2 the counters alone change, so step 0 alone is in the slip
+    refuses (call (clearSlip 0 1 (replicate 49 9))) 11 ∷
+    accepts (call (clearSlip 0 1 (replicate 50 9)))
+    (answer is (0 ∷ 0 ∷ []) ∷
+    bytes is
+    ((0 ∷ 0 ∷ 1 ∷ 0 ∷ 1 ∷ 0 ∷ []) ++
+    ((22 ∷ 0 ∷ 4 ∷ 0 ∷ 0 ∷ 0 ∷ 0 ∷ 0 ∷ 0 ∷ 0 ∷ 2 ∷ 0 ∷ 1 ∷ 0 ∷ 2 ∷ 0 ∷ 0 ∷ 0 ∷ 0 ∷ 0 ∷ 0 ∷ 0 ∷ []) ++
+    (22 ∷ 0 ∷ 4 ∷ 0 ∷ 0 ∷ 0 ∷ 0 ∷ 0 ∷ 0 ∷ 0 ∷ 0 ∷ 0 ∷ 1 ∷ 0 ∷ replicate 8 0))) ∷
+    counts 2 is (1 ∷ 0 ∷ []) ∷ []) ∷
+    []
+
 unfoldable pub examples : List Run
 examples =
     record { table = tableF4; entries = p1ToP7 } ∷
@@ -610,6 +651,7 @@ examples =
     record { table = tableF4; entries = sorted } ∷
     record { table = tableF4; entries = editions } ∷
     record { table = tableF4; entries = conversions } ∷
+    record { table = tableF4; entries = regrets } ∷
     record { table = tableF4; entries = shared ++ lists } ∷
     record { table = tableF4; entries = firstStrong } ∷
     record { table = tableF4; entries = secondStrong } ∷
@@ -649,6 +691,8 @@ notSoundReasons =
     refuses (call (write (7 ∷ []))) 1 ∷
     refuses (call (keyLine [])) 1 ∷
     refuses (call (squeeze 0 [])) 1 ∷
+    refuses (call (clearSlip 1 4 [])) 1 ∷
+    refuses (call (takeBack [])) 1 ∷
     []
 
 -- the reasons that F4 gives, and after P1 the others

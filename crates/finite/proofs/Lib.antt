@@ -6,3 +6,4 @@ pub mod Select
 pub mod Loops
 pub mod Packed
 pub mod Totals
+pub mod Stores

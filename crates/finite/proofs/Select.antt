@@ -5,10 +5,11 @@
 --   rising-same       two rising rows of numbers with the same values are one row
 --   lowest-only       a search finds the only number that passes
 --   tabulate-entries  a list is tabulated by its entries
-use mathlib.Core.Path.{_≡_, refl, sym, _∙_, ap}
+--   same-true same-refl same-lists   what passes the test of sameness is the same list, and the other way round
+use mathlib.Core.Path.{_≡_, refl, sym, _∙_, ap, ap₂, subst}
 use mathlib.Core.Bool.{Bool, true, false}
 use mathlib.Core.Logic.{⊎-elim}
-use mathlib.Core.List.{List}
+use mathlib.Core.List.{List, [], _∷_}
 use Prim.Native.Nat.{ℕ, zero, suc, _≤_, _<_}
 use native.Mathlib.Nat.{not-suc-le-zero}
 use native.Mathlib.Omega.{arith}
@@ -16,8 +17,8 @@ use lib.ListN.{length, getD}
 use lib.Seq.{ext-getD}
 use lib.Dec.{eqb, ltb}
 use borrow.Author.Tests.{eqb-true, eq-eqb, ne-eqb, ltb-true, lt-ltb}
-use Rattle.finite.specs.Below.{any, one, count, lowest, tabulate}
-use Rattle.finite.proofs.Bools.{or-left, or-right, or-elim, test, clash, same-test}
+use Rattle.finite.specs.Below.{any, one, count, lowest, tabulate, same}
+use Rattle.finite.proofs.Bools.{and-intro, and-left, and-right, or-left, or-right, or-elim, test, clash, same-test}
 use Rattle.finite.proofs.Below.{le-or-lt, eq-or-ne, any-at, any-intro, any-false, count-change, count-none, lowest-passes, lowest-first, length-tabulate, getD-tabulate}
 
 -- a longer range counts no less, and more by each number that passes
@@ -148,3 +149,20 @@ module _ {A : Type 0} where
   tabulate-entries n f l d e h =
       ext-getD d (tabulate n f) l (length-tabulate n f ∙ sym e)
       (λ i b. let c : i < n = omega (arith, length-tabulate n f) in getD-tabulate n f d i c ∙ h i c)
+
+-- lists of numbers that are the same
+pub same-true : (xs ys : List ℕ) → same xs ys ≡ true → xs ≡ ys
+unfolding same
+same-true [] [] p = refl
+same-true [] (y ∷ ys) p = clash p refl
+same-true (x ∷ xs) [] p = clash p refl
+same-true (x ∷ xs) (y ∷ ys) p =
+    ap₂ _∷_ (eqb-true x y (and-left (eqb x y) (same xs ys) p)) (same-true xs ys (and-right (eqb x y) (same xs ys) p))
+
+pub same-refl : (xs : List ℕ) → same xs xs ≡ true
+unfolding same
+same-refl [] = refl
+same-refl (x ∷ xs) = and-intro (eq-eqb x x refl) (same-refl xs)
+
+pub same-lists : {xs ys : List ℕ} → xs ≡ ys → same xs ys ≡ true
+same-lists {xs} q = subst (λ (ys : List ℕ). same xs ys ≡ true) q (same-refl xs)

@@ -1,4 +1,4 @@
--- Tests, counts and searches over the numbers below n, and work repeated n times. Assumes nothing.
+-- Tests, counts and searches over the numbers below n, work repeated n times, and tests of lists. Assumes nothing.
 --   all n p        p holds of every number below n
 --   any n p        p holds of some number below n
 --   count n p      how many numbers below n pass p
@@ -8,10 +8,12 @@
 --   tabulate n f   the list f 0, f 1, .. f (n - 1)
 --   total n f      f 0 + f 1 + .. up to f (n - 1)
 --   passes tests   all tests of a list are passed
+--   same xs ys     two lists of numbers are the same
 --   one b          1 for a test that is passed, 0 for one that is not
 use mathlib.Core.Bool.{Bool, true, false, _&&_, _||_}
 use mathlib.Core.List.{List, [], _∷_}
 use Prim.Native.Nat.{ℕ, zero, suc, _+_}
+use lib.Dec.{eqb}
 
 unfoldable pub all : ℕ → (ℕ → Bool) → Bool
 all zero p = true
@@ -43,6 +45,12 @@ lowest n p = find n (λ k. k + 1) 0 p
 abbrev pub passes : List Bool → Bool
 passes [] = true
 passes (x ∷ xs) = x && passes xs
+
+unfoldable pub same : List ℕ → List ℕ → Bool
+same [] [] = true
+same [] (y ∷ ys) = false
+same (x ∷ xs) [] = false
+same (x ∷ xs) (y ∷ ys) = eqb x y && same xs ys
 
 module _ {A : Type 0} where
   unfoldable pub rounds : ℕ → (ℕ → A → A) → A → A

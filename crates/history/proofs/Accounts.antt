@@ -1,12 +1,13 @@
 -- The cabins along a history (document 02, W5): what one call changes, and what is counted from the first table on. Assumes nothing.
 --   guarantee-demand   a cabin below its guarantee is not refused by 8, 14 or 15
 --   charges-demand     the charges, cabin by cabin and together
-use mathlib.Core.Path.{_≡_, refl, sym, _∙_, ap}
+use mathlib.Core.Path.{_≡_, refl, sym, _∙_, ap, subst}
 use mathlib.Core.Bool.{Bool, true, false, _&&_, not, cond}
 use mathlib.Core.Logic.{⊎-elim}
 use mathlib.Core.List.{List, [], _∷_}
 use Prim.Native.Nat.{ℕ, _+_, _-_, _≤_, _<_}
 use native.Mathlib.Omega.{arith}
+use lib.ListN.{length}
 use lib.Dec.{eqb}
 use borrow.Author.Tests.{eq-eqb, ne-eqb, lt-leb}
 use Rattle.finite.specs.Below.{one, count}
@@ -26,11 +27,13 @@ use Rattle.table.proofs.Edits.{number-given, adds}
 use Rattle.table.proofs.Clear.{Cleared, reached-in-use, emptied-used, emptied-steps, formed-emptied}
 use Rattle.table.proofs.Calls.{unless-zero, unless-refused, past-sound, add-fits, ClearFits, clear-fits, clear-cleared}
 use Rattle.table.proofs.Squeeze.{squeeze-fits, charge-same, used-same}
+use Rattle.image.specs.Slip.{clearSlipRefusal, clearSlipCall, slipStep, slipExit, rebuilt, takeBackRefusal, takeBackCall}
+use Rattle.image.proofs.TakenBack.{slip-outcome, slip-cleared, accepted-taken, again-made}
 use Rattle.keyline.specs.declared.Command.the-variants.{Add, Link, Clear, Count}
 use Rattle.keyline.specs.declared.Decoded.{Decoded}
 use Rattle.keyline.specs.declared.Decoded.the-variants.{Line, Nothing}
 use Rattle.keyline.specs.Keys.{keyCabin, decode, callDigit, spokenCounts, perform, callConditions, lineConditions, performLine, keyCall}
-use Rattle.history.specs.History.{First, Call, add, link, clear, read, trial, write, keyLine, squeeze, Heard, onlyRefusal, heardAs, callOf, ran, run, tableAfter, heardBy, firstTable}
+use Rattle.history.specs.History.{First, Call, add, link, clear, read, trial, write, keyLine, squeeze, clearSlip, takeBack, Heard, onlyRefusal, heardAs, callOf, ran, run, tableAfter, heardBy, firstTable}
 use Rattle.history.specs.Acts.{told}
 use Rattle.history.specs.Accounts.{cabinFor, gave, gone, account, tally}
 use Rattle.history.specs.Demands.{NotFull, GuaranteeDemand, ChargesDemand}
@@ -40,13 +43,13 @@ use Rattle.history.proofs.Demand3.{begun, after-sound}
 
 -- what a call did to the charges and to the steps in use, beside what was heard
 record Counts (cabin : ℕ) (t : Table) (h : Heard) (u : Table) : Type 0 where
-  each : (c : ℕ) → charge u c + cond (eqb (h .freed) 0) 0 (gone t u c) ≡ charge t c + cond (eqb cabin c) (gave h) 0
-  steps : stepsInUse u + h .freed ≡ stepsInUse t + gave h
+  each : (c : ℕ) → charge u c + cond (eqb (h .freed) 0) 0 (gone t u c) ≡ charge t c + cond (eqb cabin c) (gave h) 0 + cond (eqb (h .back) 0) 0 (gone u t c)
+  steps : stepsInUse u + h .freed ≡ stepsInUse t + gave h + h .back
 
-counts-still : (cabin : ℕ) (t u : Table) (h : Heard) → h .given ≡ 0 → h .freed ≡ 0 → ((c : ℕ) → charge u c ≡ charge t c) → stepsInUse u ≡ stepsInUse t →
-    Counts cabin t h u
+counts-still : (cabin : ℕ) (t u : Table) (h : Heard) → h .given ≡ 0 → h .freed ≡ 0 → h .back ≡ 0 → ((c : ℕ) → charge u c ≡ charge t c) →
+    stepsInUse u ≡ stepsInUse t → Counts cabin t h u
 unfolding gave
-counts-still cabin t u h g f same steps =
+counts-still cabin t u h g f b same steps =
     record {
       each =
           λ c.
@@ -54,6 +57,7 @@ counts-still cabin t u h g f same steps =
           let left : cond (eqb (h .freed) 0) 0 (gone t u c) ≡ 0 = ap (λ (b : Bool). cond b 0 (gone t u c)) (eq-eqb _ 0 f) in
           let right : cond (eqb cabin c) (one (not (eqb (h .given) 0))) 0 ≡ 0 =
           ap (λ (n : ℕ). cond (eqb cabin c) n 0) gaves ∙ cond-same (eqb cabin c) in
+          let none : cond (eqb (h .back) 0) 0 (gone u t c) ≡ 0 = ap (λ (b : Bool). cond b 0 (gone u t c)) (eq-eqb _ 0 b) in
           let s = same c in
           omega arith;
       steps = let gaves : one (not (eqb (h .given) 0)) ≡ 0 = ap (λ (b : Bool). one (not b)) (eq-eqb _ 0 g) in omega arith;
@@ -68,7 +72,7 @@ counts-unless cabin digit n t o f =
     (eq-or-ne n 0)
   where
     counts-refused : (n : ℕ) → Counts cabin t (onlyRefusal n) t
-    counts-refused n = unfold onlyRefusal in counts-still cabin t t _ refl refl (λ c. refl) refl
+    counts-refused n = unfold onlyRefusal in counts-still cabin t t _ refl refl refl (λ c. refl) refl
 
 module _ {t : Table} (s : Sound t) where
   counts-add : (holder e kind content cabin : ℕ) →
@@ -89,7 +93,7 @@ module _ {t : Table} (s : Sound t) where
           let gaves : one (not (eqb n 0)) ≡ 1 = ap (λ (b : Bool). one (not b)) (ne-eqb n 0 (a .nonzero)) in
           record { each = λ c. charged-more c gaves; steps = more gaves }
         where
-          charged-more : (c : ℕ) → one (not (eqb n 0)) ≡ 1 → charge u c + 0 ≡ charge t c + cond (eqb cabin c) (one (not (eqb n 0))) 0
+          charged-more : (c : ℕ) → one (not (eqb n 0)) ≡ 1 → charge u c + 0 ≡ charge t c + cond (eqb cabin c) (one (not (eqb n 0))) 0 + 0
           charged-more c gaves =
               ⊎-elim
               (λ (q : cabin ≡ c).
@@ -98,7 +102,7 @@ module _ {t : Table} (s : Sound t) where
               (λ (d : cabin ≡ c → ⊥). let stays = charge-stays a c (λ q. d (sym q)) in rw (ne-eqb cabin c d) (omega arith))
               (eq-or-ne cabin c)
 
-          more : one (not (eqb n 0)) ≡ 1 → stepsInUse u + 0 ≡ stepsInUse t + one (not (eqb n 0))
+          more : one (not (eqb n 0)) ≡ 1 → stepsInUse u + 0 ≡ stepsInUse t + one (not (eqb n 0)) + 0
           more gaves =
               unfold stepsInUse in
               let size : count (u .capacity) (inUse u) ≡ count (t .capacity) (inUse u) = ap (λ (k : ℕ). count k (inUse u)) (a .size) in
@@ -113,7 +117,7 @@ module _ {t : Table} (s : Sound t) where
       counts-unless cabin 2 _ t _
       (λ z.
       unfold heardAs refusalOf firstOf secondOf in
-      counts-still cabin t _ _ refl refl (λ c. unfold charge charged inUse cabinOf linkTable relink withLinks in refl)
+      counts-still cabin t _ _ refl refl refl (λ c. unfold charge charged inUse cabinOf linkTable relink withLinks in refl)
       (unfold stepsInUse inUse linkTable relink withLinks in refl))
 
   -- the steps that a clearing frees leave their cabins' charges
@@ -175,20 +179,32 @@ module _ {t : Table} (s : Sound t) where
         let u = charged-used t c k (and-left (charged t c k) _ y) .0 in
         clash (count-same (t .capacity) (inUse v) (inUse t) (λ j _. still j) even k l u) (not-true-false _ (and-right (charged t c k) _ y))))
 
+    freed-left : (c : ℕ) → charge v c + cond (eqb (clear-cleared s i e g .1) 0) 0 (gone t v c) ≡ charge t c
+    freed-left c =
+        let all = left c in
+        ⊎-elim
+        (λ (f : clear-cleared s i e g .1 ≡ 0). let none = none-gone f c in rw (eq-eqb _ 0 f) (omega arith))
+        (λ (f : clear-cleared s i e g .1 ≡ 0 → ⊥). rw (ne-eqb _ 0 f) all)
+        (eq-or-ne (clear-cleared s i e g .1) 0)
+
     counts-cleared : (cabin : ℕ) → Counts cabin t (heardAs 3 (cleared t i e .answer)) (cleared t i e .table)
     unfolding v
     counts-cleared cabin =
         rw (clear-cleared s i e g .2)
         (unfold heardAs refusalOf firstOf secondOf gave in
         record {
-          each =
-              λ c.
-              let right = cond-same (eqb cabin c) in
-              let all = left c in
-              ⊎-elim
-              (λ (f : clear-cleared s i e g .1 ≡ 0). let none = none-gone f c in rw (eq-eqb _ 0 f) (omega arith))
-              (λ (f : clear-cleared s i e g .1 ≡ 0 → ⊥). rw (ne-eqb _ 0 f) (omega arith))
-              (eq-or-ne (clear-cleared s i e g .1) 0);
+          each = λ c. let right = cond-same (eqb cabin c) in let all = freed-left c in omega arith;
+          steps = let x = fall in omega arith;
+        })
+
+    -- W7: and where the clearing is taken back, they are charged again
+    counts-restored : (cabin : ℕ) → Counts cabin (cleared t i e .table) (heardAs 5 (Given (secondOf (cleared t i e .answer)) 0)) t
+    unfolding v
+    counts-restored cabin =
+        rw (clear-cleared s i e g .2)
+        (unfold heardAs refusalOf firstOf secondOf gave in
+        record {
+          each = λ c. let right = cond-same (eqb cabin c) in let all = freed-left c in omega arith;
           steps = let x = fall in omega arith;
         })
 
@@ -198,7 +214,7 @@ module _ {t : Table} (s : Sound t) where
 
   counts-count : (cabin : ℕ) → Counts cabin t (heardAs 4 (spokenCounts t .answer)) (spokenCounts t .table)
   unfolding spokenCounts heardAs refusalOf firstOf secondOf
-  counts-count cabin = counts-still cabin t t _ refl refl (λ c. refl) refl
+  counts-count cabin = counts-still cabin t t _ refl refl refl (λ c. refl) refl
 
   counts-squeeze : (cabin c : ℕ) (q : List ℕ) → Counts cabin t (heardAs 0 (squeezeCall t c q .answer)) (squeezeCall t c q .table)
   unfolding squeezeCall
@@ -207,11 +223,11 @@ module _ {t : Table} (s : Sound t) where
       (λ z.
       let f = squeeze-fits s c q z in
       unfold heardAs refusalOf firstOf secondOf in
-      counts-still cabin t _ _ refl refl (λ d. ap (λ (h : ℕ → ℕ). h d) (charge-same s c q (f .roomy))) (used-same s c q (f .roomy)))
+      counts-still cabin t _ _ refl refl refl (λ d. ap (λ (h : ℕ → ℕ). h d) (charge-same s c q (f .roomy))) (used-same s c q (f .roomy)))
 
   counts-line : (d : Decoded) → Counts keyCabin t (heardAs (callOf d) (performLine t d .answer)) (performLine t d .table)
   unfolding callOf performLine perform callDigit
-  counts-line Nothing = unfold heardAs refusalOf firstOf secondOf in counts-still keyCabin t t _ refl refl (λ c. refl) refl
+  counts-line Nothing = unfold heardAs refusalOf firstOf secondOf in counts-still keyCabin t t _ refl refl refl (λ c. refl) refl
   counts-line (Line (Add holder e kind content)) = counts-add holder e kind content keyCabin
   counts-line (Line (Link source e second f)) = counts-link keyCabin source e second f
   counts-line (Line (Clear i e)) = counts-clear keyCabin i e
@@ -221,16 +237,36 @@ module _ {t : Table} (s : Sound t) where
   unfolding keyCall
   counts-keys bs = rw (unless-zero _ t (performLine t (decode bs)) (past-sound s [] ∙ (unfold first in refl))) (counts-line (decode bs))
 
+  counts-slip : (cabin i e : ℕ) (buffer : List ℕ) → Counts cabin t (heardAs 3 (clearSlipCall t i e buffer .answer)) (clearSlipCall t i e buffer .table)
+  counts-slip cabin i e buffer =
+      subst (λ (o : Outcome). Counts cabin t (heardAs 3 (o .answer)) (o .table)) (sym (slip-outcome t i e buffer))
+      (counts-unless cabin 3 (clearSlipRefusal t i e (length buffer)) t (cleared t i e)
+      (λ z. counts-cleared i e (slip-cleared t i e buffer z .0) cabin))
+
+module _ {t : Table} (s : Sound t) where
+  counts-back : (cabin : ℕ) (bs : List ℕ) → Counts cabin t (heardAs 5 (takeBackCall t bs .answer)) (takeBackCall t bs .table)
+  unfolding takeBackCall
+  counts-back cabin bs =
+      counts-unless cabin 5 (takeBackRefusal t bs) t _
+      (λ z.
+      let x = accepted-taken t bs z in
+      let freed = ap (λ (o : Outcome). secondOf (o .answer)) (again-made t bs (x .fits)) in
+      subst (λ (n : ℕ). Counts cabin t (heardAs 5 (Given n 0)) (rebuilt t bs)) (sym freed)
+      (subst (λ (v : Table). Counts cabin v (heardAs 5 (Given (secondOf (cleared (rebuilt t bs) (slipStep bs) (slipExit bs) .answer)) 0)) (rebuilt t bs)) (x .table)
+      (counts-restored (x .sound) (slipStep bs) (slipExit bs) (x .fits) cabin)))
+
   call-counts : (k : Call) → Counts (cabinFor k) t (run t k .heard) (run t k .table)
   unfolding cabinFor run ran onlyRefusal
-  call-counts (add holder e kind content cabin) = counts-add holder e kind content cabin
-  call-counts (link source e second f) = counts-link keyCabin source e second f
-  call-counts (clear i e) = counts-clear keyCabin i e
-  call-counts (read i) = counts-still keyCabin t t _ refl refl (λ c. refl) refl
-  call-counts (trial limit results trace) = counts-still keyCabin t t _ refl refl (λ c. refl) refl
-  call-counts (write buffer) = counts-still keyCabin t t _ refl refl (λ c. refl) refl
-  call-counts (keyLine bs) = counts-keys bs
-  call-counts (squeeze c q) = counts-squeeze keyCabin c q
+  call-counts (add holder e kind content cabin) = counts-add s holder e kind content cabin
+  call-counts (link source e second f) = counts-link s keyCabin source e second f
+  call-counts (clear i e) = counts-clear s keyCabin i e
+  call-counts (read i) = counts-still keyCabin t t _ refl refl refl (λ c. refl) refl
+  call-counts (trial limit results trace) = counts-still keyCabin t t _ refl refl refl (λ c. refl) refl
+  call-counts (write buffer) = counts-still keyCabin t t _ refl refl refl (λ c. refl) refl
+  call-counts (keyLine bs) = counts-keys s bs
+  call-counts (squeeze c q) = counts-squeeze s keyCabin c q
+  call-counts (clearSlip i e buffer) = counts-slip s keyCabin i e buffer
+  call-counts (takeBack bs) = counts-back keyCabin bs
 
 -- along the list
 after-account : (c : ℕ) (t : Table) → Sound t → (cs : List Call) → charge (tableAfter t cs) c ≡ account c (charge t c) t cs

@@ -5,36 +5,38 @@
 use mathlib.Core.Path.{_≡_, refl, sym, _∙_, ap, ap₂}
 use mathlib.Core.Bool.{Bool, true, false, cond}
 use mathlib.Core.Logic.{⊎-elim}
-use mathlib.Core.List.{List, []}
-use Prim.Native.Nat.{ℕ, _-_}
+use mathlib.Core.List.{List, [], _∷_, _++_}
+use Prim.Native.Nat.{ℕ, _-_, _≤_, _<_}
 use native.Mathlib.Omega.{arith}
 use lib.ListN.{length}
 use lib.Dec.{eqb, ltb}
 use borrow.Author.Tests.{eq-eqb, ne-eqb}
-use Rattle.finite.proofs.Below.{eq-or-ne}
+use Rattle.finite.proofs.Below.{le-or-lt, eq-or-ne}
 use Rattle.table.specs.declared.Answer.the-variants.{Refused, Given}
 use Rattle.table.specs.Table.{Table}
 use Rattle.table.specs.Sound.{Sound}
-use Rattle.table.specs.Answer.{Outcome, first, unless, refusalOf, firstOf, secondOf, triedRefusal}
+use Rattle.table.specs.Answer.{Outcome, tooShort, slipNotAccepted, first, unless, refusalOf, firstOf, secondOf, triedRefusal}
 use Rattle.table.specs.Calls.{addCall, linkCall, readCall}
 use Rattle.table.specs.Trial.{trialCall}
-use Rattle.table.specs.Clear.{clearCall}
-use Rattle.table.specs.Plan.{planOf, planCount, planReadRefusal, planTrialRefusal}
+use Rattle.table.specs.Clear.{cleared, clearRefusal, clearCall}
+use Rattle.table.specs.Plan.{planOf, planCount, planClearConditions, planClearRefusal, planClearSlipRefusal, planReadRefusal, planTrialRefusal}
 use Rattle.table.proofs.Links.{sound-wired}
 use Rattle.table.proofs.Plan.{plan-capacity, plan-count}
 use Rattle.table.proofs.Clear.{emptied-steps}
 use Rattle.table.proofs.Trials.{trial-refusal-given}
-use Rattle.table.proofs.Calls.{done, next, first-same, past-sound, unless-zero, unless-refused, add-refusal, link-refusal, clear-refusal, read-refusal, trial-refusal, add-fits, link-fits, clear-fits, number-plan, add-sound, add-plan, link-sound, link-plan, clear-cleared, clear-plan}
+use Rattle.table.proofs.Calls.{done, next, first-same, nonzero, first-append, past-sound, unless-zero, unless-refused, add-refusal, link-refusal, clear-refusal, read-refusal, trial-refusal, add-fits, link-fits, clear-fits, number-plan, add-sound, add-plan, link-sound, link-plan, clear-cleared, clear-plan}
 use Rattle.table.specs.Squeeze.{squeezeCall}
 use Rattle.table.proofs.Squeeze.{squeeze-fits, squeeze-sound, squeeze-plan, squeeze-refusal}
 use Rattle.image.specs.Image.{writtenEdition, imageSize, imageLength, writeRefusal, writeCall}
+use Rattle.image.specs.Slip.{slipLength, SlipOutcome, clearSlipRefusal, clearSlipCall, takeBackRefusal, takeBackCall}
 use Rattle.image.proofs.Laws.{put-refusal}
+use Rattle.image.proofs.TakenBack.{slip-refused, slip-short, slip-fits, slip-cleared, slip-outcome, slip-refusal-given, accepted-taken, taken-accepted, not-taken, taken-rise, back-refusal-given, rebuilt-plan}
 use Rattle.keyline.specs.declared.Command.{Command}
 use Rattle.keyline.specs.declared.Command.the-variants.{Add, Link, Clear, Count}
 use Rattle.keyline.specs.declared.Decoded.{Decoded}
 use Rattle.keyline.specs.declared.Decoded.the-variants.{Line, Nothing}
 use Rattle.keyline.specs.Keys.{keyCabin, decode, callDigit, spokenCounts, perform, performLine, keyCall}
-use Rattle.history.specs.History.{Call, add, link, clear, read, trial, write, keyLine, squeeze, onlyRefusal, heardAs, callOf, ran, run, Drawn, drawUnless, drawAdd, drawLink, drawClear, drawCount, drawSqueeze, unchanged, planWriteRefusal, drawCommand, drawLine, draw}
+use Rattle.history.specs.History.{Call, add, link, clear, read, trial, write, keyLine, squeeze, clearSlip, takeBack, onlyRefusal, heardAs, callOf, ran, run, Drawn, drawUnless, drawAdd, drawLink, drawnCleared, drawClear, drawClearSlip, drawTakeBack, drawCount, drawSqueeze, isTold, unchanged, planWriteRefusal, drawCommand, drawLine, draw}
 
 -- an outcome and what is drawn beside it
 record Beside (digit : ℕ) (o : Outcome) (d : Drawn) : Type 0 where
@@ -56,6 +58,7 @@ heard-refused digit n =
       freed = cond-same (eqb digit 3) i;
       spokenUsed = cond-same (eqb digit 4) i;
       spokenFree = cond-same (eqb digit 4) i;
+      back = cond-same (eqb digit 5) i;
     }
 
 -- refused alike, or accepted with an outcome beside the drawing
@@ -83,8 +86,8 @@ module _ {t : Table} (s : Sound t) where
         heard = given-heard (number-plan s);
       })
     where
-      given-heard : {n m : ℕ} → n ≡ m → heardAs 1 (Given n 0) ≡ record { refusal = 0; given = m; freed = 0; spokenUsed = 0; spokenFree = 0 }
-      given-heard q = unfold heardAs refusalOf firstOf secondOf in (λ i. record { refusal = 0; given = q i; freed = 0; spokenUsed = 0; spokenFree = 0 })
+      given-heard : {n m : ℕ} → n ≡ m → heardAs 1 (Given n 0) ≡ record { refusal = 0; given = m; freed = 0; spokenUsed = 0; spokenFree = 0; back = 0 }
+      given-heard q = unfold heardAs refusalOf firstOf secondOf in (λ i. record { refusal = 0; given = q i; freed = 0; spokenUsed = 0; spokenFree = 0; back = 0 })
 
   beside-link : (source e second f : ℕ) → Beside 2 (linkCall t source e second f) (drawLink (planOf t) source e second f)
   unfolding linkCall drawLink
@@ -98,11 +101,9 @@ module _ {t : Table} (s : Sound t) where
         heard = (unfold heardAs onlyRefusal refusalOf firstOf secondOf in refl);
       })
 
-  beside-clear : (i e : ℕ) → Beside 3 (clearCall t i e) (drawClear (planOf t) i e)
-  unfolding clearCall drawClear
-  beside-clear i e =
-      beside-unless 3 _ _ _ _ s (clear-refusal s i e)
-      (λ z.
+  -- a clearing that is not refused
+  beside-cleared : (i e : ℕ) → clearRefusal t i e ≡ 0 → Beside 3 (cleared t i e) (drawnCleared (planOf t) i e)
+  beside-cleared i e z =
       let g = clear-fits t i e z in
       let r = clear-cleared s i e g in
       let c = r .3 in
@@ -117,10 +118,82 @@ module _ {t : Table} (s : Sound t) where
             let fall = c .fall in
             let same = emptied-steps t i e in
             omega arith);
+      }
+    where
+      freed-heard : (d : ℕ) {n m : ℕ} → n ≡ m → heardAs 3 (Given d n) ≡ record { refusal = 0; given = 0; freed = m; spokenUsed = 0; spokenFree = 0; back = 0 }
+      freed-heard d q = unfold heardAs refusalOf firstOf secondOf in (λ i. record { refusal = 0; given = 0; freed = q i; spokenUsed = 0; spokenFree = 0; back = 0 })
+
+  beside-clear : (i e : ℕ) → Beside 3 (clearCall t i e) (drawClear (planOf t) i e)
+  unfolding clearCall drawClear
+  beside-clear i e = beside-unless 3 _ _ _ _ s (clear-refusal s i e) (beside-cleared i e)
+
+  -- W7: the plan is told of 11, and of nothing else
+  slip-refusal : (i e : ℕ) (buffer : List ℕ) →
+      clearSlipRefusal t i e (length buffer) ≡ planClearSlipRefusal (planOf t) (isTold t (clearSlip i e buffer)) i e
+  unfolding planClearSlipRefusal planClearRefusal isTold
+  slip-refusal i e buffer =
+      let n = clearSlipRefusal t i e (length buffer) in
+      let told = eqb (refusalOf (clearSlipCall t i e buffer .answer)) tooShort in
+      let plan : first (planClearConditions (planOf t) i e ++ ((told, tooShort) ∷ [])) ≡ cond (eqb (clearRefusal t i e) 0) (cond told tooShort 0) (clearRefusal t i e) =
+      first-append (planClearConditions (planOf t) i e) ((told, tooShort) ∷ []) (unfold nonzero in refl)
+      ∙ ap (λ (m : ℕ). cond (eqb m 0) (first ((told, tooShort) ∷ [])) m) (sym (clear-refusal s i e)) ∙ (unfold first in refl) in
+      ⊎-elim
+      (λ (z : clearRefusal t i e ≡ 0).
+      ⊎-elim
+      (λ (l : slipLength t i e ≤ length buffer).
+      let q = slip-fits t i e buffer z l in
+      let r = slip-refusal-given t i e buffer ∙ q in
+      q ∙ sym (plan ∙ rw (z, r)))
+      (λ (l : length buffer < slipLength t i e).
+      let c = slip-short t i e buffer z l in
+      let r : refusalOf (clearSlipCall t i e buffer .answer) ≡ tooShort = ap (λ (o : SlipOutcome). refusalOf (o .answer)) c ∙ (unfold refusalOf in refl) in
+      sym (slip-refusal-given t i e buffer) ∙ r ∙ sym (plan ∙ rw (z, r)))
+      (le-or-lt (slipLength t i e) (length buffer)))
+      (λ d.
+      let c = slip-refused t i e buffer d in
+      let r : refusalOf (clearSlipCall t i e buffer .answer) ≡ clearRefusal t i e = ap (λ (o : SlipOutcome). refusalOf (o .answer)) c ∙ (unfold refusalOf in refl) in
+      sym (slip-refusal-given t i e buffer) ∙ r ∙ sym (plan ∙ rw (ne-eqb (clearRefusal t i e) 0 d)))
+      (eq-or-ne (clearRefusal t i e) 0)
+
+  beside-slip : (i e : ℕ) (buffer : List ℕ) →
+      Beside 3 (record { answer = clearSlipCall t i e buffer .answer; table = clearSlipCall t i e buffer .table })
+      (drawClearSlip (planOf t) (isTold t (clearSlip i e buffer)) i e)
+  unfolding drawClearSlip
+  beside-slip i e buffer =
+      rw (slip-outcome t i e buffer)
+      (beside-unless 3 _ _ _ _ s (slip-refusal i e buffer) (λ z. beside-cleared i e (slip-cleared t i e buffer z .0)))
+
+  -- W7: and of 18
+  back-refusal : (bs : List ℕ) → takeBackRefusal t bs ≡ first ((isTold t (takeBack bs), slipNotAccepted) ∷ [])
+  unfolding first isTold
+  back-refusal bs =
+      ⊎-elim
+      (λ (z : takeBackRefusal t bs ≡ 0). z ∙ sym (rw (back-refusal-given t bs, z)))
+      (λ d.
+      let n = not-taken t bs s (λ x. d (taken-accepted t bs s x)) in
+      n ∙ sym (rw (back-refusal-given t bs, n)))
+      (eq-or-ne (takeBackRefusal t bs) 0)
+
+  beside-back : (bs : List ℕ) → Beside 5 (takeBackCall t bs) (drawTakeBack (planOf t) (isTold t (takeBack bs)) bs)
+  unfolding takeBackCall drawTakeBack
+  beside-back bs =
+      beside-unless 5 _ _ _ _ s (back-refusal bs)
+      (λ z.
+      let x = accepted-taken t bs z in
+      let plan = rebuilt-plan t (s .shape) (s .most) bs in
+      record {
+        sound = x .sound;
+        plan = plan;
+        heard =
+            back-heard
+            (let before = plan-count (sound-wired s) in
+            let after = ap planCount (sym plan) ∙ plan-count (sound-wired (x .sound)) in
+            let rise = taken-rise t bs x in
+            omega arith);
       })
     where
-      freed-heard : (d : ℕ) {n m : ℕ} → n ≡ m → heardAs 3 (Given d n) ≡ record { refusal = 0; given = 0; freed = m; spokenUsed = 0; spokenFree = 0 }
-      freed-heard d q = unfold heardAs refusalOf firstOf secondOf in (λ i. record { refusal = 0; given = 0; freed = q i; spokenUsed = 0; spokenFree = 0 })
+      back-heard : {n m : ℕ} → n ≡ m → heardAs 5 (Given n 0) ≡ record { refusal = 0; given = 0; freed = 0; spokenUsed = 0; spokenFree = 0; back = m }
+      back-heard q = unfold heardAs refusalOf firstOf secondOf in (λ i. record { refusal = 0; given = 0; freed = 0; spokenUsed = 0; spokenFree = 0; back = q i })
 
   beside-count : Beside 4 (spokenCounts t) (drawCount (planOf t))
   unfolding spokenCounts drawCount
@@ -131,8 +204,8 @@ module _ {t : Table} (s : Sound t) where
         heard = spoken (sym (plan-count (sound-wired s))) (ap₂ _-_ (sym (plan-capacity t)) (sym (plan-count (sound-wired s))));
       }
     where
-      spoken : {a b c d : ℕ} → a ≡ b → c ≡ d → heardAs 4 (Given a c) ≡ record { refusal = 0; given = 0; freed = 0; spokenUsed = b; spokenFree = d }
-      spoken q r = unfold heardAs refusalOf firstOf secondOf in (λ i. record { refusal = 0; given = 0; freed = 0; spokenUsed = q i; spokenFree = r i })
+      spoken : {a b c d : ℕ} → a ≡ b → c ≡ d → heardAs 4 (Given a c) ≡ record { refusal = 0; given = 0; freed = 0; spokenUsed = b; spokenFree = d; back = 0 }
+      spoken q r = unfold heardAs refusalOf firstOf secondOf in (λ i. record { refusal = 0; given = 0; freed = 0; spokenUsed = q i; spokenFree = r i; back = 0 })
 
   beside-command : (c : Command) → Beside (callDigit c) (perform t c) (drawCommand (planOf t) c)
   unfolding callDigit perform drawCommand
@@ -178,8 +251,8 @@ module _ {t : Table} (s : Sound t) where
 -- what a call on a sound table comes to
 pub record Agrees (t : Table) (c : Call) : Type 0 where
   pub sound : Sound (run t c .table)
-  pub plan : planOf (run t c .table) ≡ draw (planOf t) c .plan
-  pub heard : run t c .heard ≡ draw (planOf t) c .heard
+  pub plan : planOf (run t c .table) ≡ draw (planOf t) (isTold t c) c .plan
+  pub heard : run t c .heard ≡ draw (planOf t) (isTold t c) c .heard
 
 pub call-agrees : {t : Table} → Sound t → (c : Call) → Agrees t c
 unfolding run ran draw unchanged
@@ -192,3 +265,5 @@ call-agrees s (write buffer) =
     record { sound = s; plan = refl; heard = ap onlyRefusal (written-refusal s buffer ∙ write-refusal s (length buffer)) }
 call-agrees s (keyLine bs) = let b = beside-keys s bs in record { sound = b .sound; plan = b .plan; heard = b .heard }
 call-agrees s (squeeze c q) = let b = beside-squeeze s c q in record { sound = b .sound; plan = b .plan; heard = b .heard }
+call-agrees s (clearSlip i e buffer) = let b = beside-slip s i e buffer in record { sound = b .sound; plan = b .plan; heard = b .heard }
+call-agrees s (takeBack bs) = let b = beside-back s bs in record { sound = b .sound; plan = b .plan; heard = b .heard }

@@ -8,24 +8,26 @@ use native.Mathlib.Omega.{arith}
 use lib.ListN.{length, getD}
 use lib.Dec.{eqb}
 use borrow.Author.Tests.{eqb-false, eq-eqb, ne-eqb}
-use Rattle.finite.proofs.Bools.{and-intro, and-left, and-right, test, not-true-false}
+use Rattle.finite.proofs.Bools.{and-intro, and-left, and-right, not-true-false}
 use Rattle.finite.proofs.Below.{eq-or-ne}
 use Rattle.table.specs.Answer.{Outcome, first, unless, refusalOf, firstOf, secondOf, triedRefusal, endingOf, lastOf, movesOf}
 use Rattle.table.specs.Calls.{freshCall, addRefusal, addCall, linkRefusal, linkCall, noFields, readConditions, readRefusal, readCall, tableTests}
 use Rattle.table.specs.Trial.{trialConditions, trialRefusal}
-use Rattle.table.specs.Clear.{stops, repaired, cleared, clearRefusal, clearCall}
+use Rattle.table.specs.Clear.{cleared, clearRefusal, clearCall}
 use Rattle.table.specs.Squeeze.{squeezeRefusal, squeezeCall}
 use Rattle.table.specs.Table.{Table}
 use Rattle.table.proofs.Calls.{nonzero, first-append, unless-zero, unless-refused, read-refused, trial-refused}
 use Rattle.table.proofs.Trials.{trial-refusal-given}
 use Rattle.image.specs.Image.{Edition, writtenEdition, writeConditions, writeRefusal, writeCall, imageTable, loadCall}
 use Rattle.image.specs.Convert.{convertConditions, convertRefusal, convertCall}
+use Rattle.image.specs.Slip.{clearSlipConditions, clearSlipRefusal, takeBackRefusal, takeBackCall}
 use Rattle.image.proofs.Laws.{put-refused, put-refusal}
+use Rattle.image.proofs.TakenBack.{cleared-given, slip-refusal-given, slip-refused-as}
 use Rattle.keyline.specs.declared.Command.the-variants.{Add, Link, Clear, Count}
 use Rattle.keyline.specs.declared.Decoded.{Decoded}
 use Rattle.keyline.specs.declared.Decoded.the-variants.{Line, Nothing}
 use Rattle.keyline.specs.Keys.{decode, spokenCounts, perform, callConditions, lineConditions, keyConditions, performLine, keyCall}
-use Rattle.history.specs.History.{fresh, load, add, link, clear, read, trial, write, keyLine, squeeze}
+use Rattle.history.specs.History.{fresh, load, add, link, clear, read, trial, write, keyLine, squeeze, clearSlip, takeBack}
 use Rattle.history.specs.Acts.{Act, begin, call, convert, Done, told, wrote, fieldNumbers, triedNumbers, callDone, doneBy, answerSize, lentTo, refusedBy, conditionsOf}
 use Rattle.history.specs.Demands.{FirstHeld, none, some, Demand1}
 
@@ -99,10 +101,6 @@ outcome-demand t u a cs o c z r d f =
       refused = λ h. d ∙ told-refused (first cs) u o (λ q. h (e ∙ q)) ∙ sym (f (first cs)) ∙ ap (λ (n : ℕ). refusedBy n t a) (sym e);
     }
 
-cleared-given : (t : Table) (i e : ℕ) → refusalOf (cleared t i e .answer) ≡ 0
-unfolding refusalOf repaired
-cleared-given t i e = ⊎-elim (λ (h : stops t i e ≡ true). rw h) (λ (h : stops t i e ≡ false). rw h) (test (stops t i e))
-
 -- a decoded line as one outcome: refused by the conditions of its call, or accepted
 pub record Performed (t : Table) (d : Decoded) : Type 0 where
   pub outcome : Outcome
@@ -169,6 +167,15 @@ convert-demand t v bs buffer =
       refused = λ h. rw (put-refused n (λ z. h (e ∙ z)) v (imageTable bs) buffer);
     }
 
+clear-slip-demand : (t : Table) (i e : ℕ) (buffer : List ℕ) → Demand1 t (call (clearSlip i e buffer))
+unfolding doneBy callDone conditionsOf refusedBy answerSize lentTo refusalOf firstOf secondOf
+clear-slip-demand t i e buffer =
+    let n = slip-refusal-given t i e buffer in
+    record {
+      listed = rw n (unfold clearSlipRefusal in (first-held (clearSlipConditions t i e (length buffer)) (unfold nonzero in refl)));
+      refused = λ h. rw (slip-refused-as t i e buffer (λ z. h (n ∙ z)));
+    }
+
 pub demand-1 : (t : Table) (a : Act) → Demand1 t a
 unfolding doneBy callDone conditionsOf refusedBy nothingDone answerSize lentTo nonzero
 demand-1 t (begin (fresh c q)) = (unfold freshCall refusalOf in outcome-demand t _ (begin (fresh c q)) _ _ refl refl refl refl (λ n. refl))
@@ -185,4 +192,7 @@ demand-1 t (call (write buffer)) = write-demand t buffer
 demand-1 t (call (keyLine bs)) = key-demand t bs
 demand-1 t (call (squeeze c q)) =
     (unfold squeezeCall squeezeRefusal refusalOf in outcome-demand t t (call (squeeze c q)) _ _ refl refl refl refl (λ n. refl))
+demand-1 t (call (clearSlip i e buffer)) = clear-slip-demand t i e buffer
+demand-1 t (call (takeBack bs)) =
+    (unfold takeBackCall takeBackRefusal refusalOf in outcome-demand t t (call (takeBack bs)) _ _ refl refl refl refl (λ n. refl))
 demand-1 t (convert v bs buffer) = convert-demand t v bs buffer

@@ -21,7 +21,7 @@ use Rattle.table.proofs.Edits.{sound-fresh}
 use Rattle.table.proofs.Plan.{plan-fresh}
 use Rattle.image.specs.Image.{accepted, imageTable, loadCall}
 use Rattle.image.proofs.Laws.{accepted-sound, accepted-plan}
-use Rattle.history.specs.History.{First, fresh, load, Call, run, tableAfter, heardBy, planAfter, drawnBy, firstRefusal, planFirstRefusal, firstTable, firstPlan}
+use Rattle.history.specs.History.{First, fresh, load, Call, run, withTold, tableAfter, heardBy, planAfter, drawnBy, firstRefusal, planFirstRefusal, firstTable, firstPlan}
 use Rattle.history.specs.Demands.{Demand3}
 use Rattle.history.proofs.Agree.{call-agrees}
 
@@ -92,18 +92,18 @@ unfolding tableAfter
 after-sound t s [] = s
 after-sound t s (c ∷ cs) = after-sound (run t c .table) (call-agrees s c .sound) cs
 
-after-plan : (t : Table) → Sound t → (cs : List Call) → planOf (tableAfter t cs) ≡ planAfter (planOf t) cs
-unfolding tableAfter planAfter
+after-plan : (t : Table) → Sound t → (cs : List Call) → planOf (tableAfter t cs) ≡ planAfter (planOf t) (withTold t cs)
+unfolding tableAfter planAfter withTold
 after-plan t s [] = refl
 after-plan t s (c ∷ cs) =
-    after-plan (run t c .table) (call-agrees s c .sound) cs ∙ ap (λ (p : Plan). planAfter p cs) (call-agrees s c .plan)
+    after-plan (run t c .table) (call-agrees s c .sound) cs ∙ ap (λ (p : Plan). planAfter p (withTold (run t c .table) cs)) (call-agrees s c .plan)
 
-after-heard : (t : Table) → Sound t → (cs : List Call) → heardBy t cs ≡ drawnBy (planOf t) cs
-unfolding heardBy drawnBy
+after-heard : (t : Table) → Sound t → (cs : List Call) → heardBy t cs ≡ drawnBy (planOf t) (withTold t cs)
+unfolding heardBy drawnBy withTold
 after-heard t s [] = refl
 after-heard t s (c ∷ cs) =
     ap₂ _∷_ (call-agrees s c .heard)
-    (after-heard (run t c .table) (call-agrees s c .sound) cs ∙ ap (λ (p : Plan). drawnBy p cs) (call-agrees s c .plan))
+    (after-heard (run t c .table) (call-agrees s c .sound) cs ∙ ap (λ (p : Plan). drawnBy p (withTold (run t c .table) cs)) (call-agrees s c .plan))
 
 pub demand-3 : (f : First) (cs : List Call) → Demand3 f cs
 demand-3 f cs =
@@ -113,9 +113,9 @@ demand-3 f cs =
       sound = s;
       short = strong-chain-short s;
       reached = λ i u d. s .reached i u;
-      plan = after-plan (firstTable f) (b .sound) cs ∙ ap (λ (p : Plan). planAfter p cs) (b .plan);
+      plan = after-plan (firstTable f) (b .sound) cs ∙ ap (λ (p : Plan). planAfter p (withTold (firstTable f) cs)) (b .plan);
       begun = b .refusal;
-      heard = after-heard (firstTable f) (b .sound) cs ∙ ap (λ (p : Plan). drawnBy p cs) (b .plan);
+      heard = after-heard (firstTable f) (b .sound) cs ∙ ap (λ (p : Plan). drawnBy p (withTold (firstTable f) cs)) (b .plan);
       counts = sound-formed s .exact;
     }
 
@@ -133,13 +133,13 @@ module _ (f : First) (cs : List Call) where
   pub history-reached : (i : ℕ) → inUse left i ≡ true → (i ≡ 0 → ⊥) → (n : ℕ) × StrongChain left 0 i n
   history-reached = demand-3 f cs .reached
 
-  pub history-plan : planOf left ≡ planAfter (firstPlan f) cs
+  pub history-plan : planOf left ≡ planAfter (firstPlan f) (withTold (firstTable f) cs)
   history-plan = demand-3 f cs .plan
 
   pub history-begun : firstRefusal f ≡ planFirstRefusal f
   history-begun = demand-3 f cs .begun
 
-  pub history-heard : heardBy (firstTable f) cs ≡ drawnBy (firstPlan f) cs
+  pub history-heard : heardBy (firstTable f) cs ≡ drawnBy (firstPlan f) (withTold (firstTable f) cs)
   history-heard = demand-3 f cs .heard
 
   pub history-counts : (i b : ℕ) → i < places → b < counters → counterOf left i b ≡ linksTo left i b

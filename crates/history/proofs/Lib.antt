@@ -2,5 +2,6 @@
 pub mod Demand1
 pub mod Agree
 pub mod Demand2
+pub mod Slips
 pub mod Demand3
 pub mod Accounts

@@ -18,8 +18,9 @@ use Rattle.table.specs.Trial.{trialConditions, trialCall}
 use Rattle.table.specs.Squeeze.{squeezeConditions, squeezeCall}
 use Rattle.image.specs.Image.{Edition, WriteOutcome, writeConditions, writeCall, loadConditions, loadCall}
 use Rattle.image.specs.Convert.{convertConditions, convertCall}
+use Rattle.image.specs.Slip.{clearSlipConditions, clearSlipCall, takeBackConditions, takeBackCall}
 use Rattle.keyline.specs.Keys.{keyConditions, keyCall}
-use Rattle.history.specs.History.{First, fresh, load, Call, add, link, clear, read, trial, write, keyLine, squeeze}
+use Rattle.history.specs.History.{First, fresh, load, Call, add, link, clear, read, trial, write, keyLine, squeeze, clearSlip, takeBack}
 
 pub data Act : Type 0 where
   begin : First → Act
@@ -63,6 +64,10 @@ callDone t (trial limit results trace) =
 callDone t (write buffer) = wrote t (writeCall t buffer)
 callDone t (keyLine bs) = told (keyCall t bs)
 callDone t (squeeze c quotas) = told (squeezeCall t c quotas)
+callDone t (clearSlip i e buffer) =
+    let o = clearSlipCall t i e buffer in
+    record { refusal = refusalOf (o .answer); numbers = firstOf (o .answer) ∷ secondOf (o .answer) ∷ []; lent = o .buffer; table = o .table }
+callDone t (takeBack bs) = told (takeBackCall t bs)
 
 unfoldable pub doneBy : Table → Act → Done
 doneBy t (begin (fresh c quotas)) = told (freshCall c quotas)
@@ -80,6 +85,8 @@ answerSize (trial limit results trace) = 3
 answerSize (write buffer) = 2
 answerSize (keyLine bs) = 2
 answerSize (squeeze c quotas) = 2
+answerSize (clearSlip i e buffer) = 2
+answerSize (takeBack bs) = 2
 
 unfoldable pub lentTo : Call → List ℕ
 lentTo (add holder e kind content cabin) = []
@@ -90,6 +97,8 @@ lentTo (trial limit results trace) = trace
 lentTo (write buffer) = buffer
 lentTo (keyLine bs) = []
 lentTo (squeeze c quotas) = []
+lentTo (clearSlip i e buffer) = buffer
+lentTo (takeBack bs) = []
 
 -- "A refusal answers its number with all other numbers zero, and changes no table or buffer. Refused fresh and load hand back a fresh table of
 -- capacity 1."
@@ -110,4 +119,6 @@ conditionsOf t (call (trial limit results trace)) = trialConditions t limit resu
 conditionsOf t (call (write buffer)) = writeConditions t (length buffer)
 conditionsOf t (call (keyLine bs)) = keyConditions t bs
 conditionsOf t (call (squeeze c quotas)) = squeezeConditions t c quotas
+conditionsOf t (call (clearSlip i e buffer)) = clearSlipConditions t i e (length buffer)
+conditionsOf t (call (takeBack bs)) = takeBackConditions t bs
 conditionsOf t (convert v bs buffer) = convertConditions v bs (length buffer)

@@ -5,6 +5,8 @@
 --   GuaranteeDemand ChargesDemand   of such a history: what a cabin below its guarantee may add, and what the cabins are charged (W5)
 --   AddDemand LinkDemand ClearDemand CountDemand   what an accepted call does on a sound table (demand 2)
 --   SqueezeDemand TwiceDemand   what an accepted squeeze does on a sound table, and a second one (W2)
+--   ToldDemand          what the plan is told of the calls (W7)
+--   SlipDemand TakeBackDemand   what a clearing with a slip does on a sound table, and its taking back (W7)
 --   WriteDemand SortedDemand   both ways of an image, over the calls (demand 2)
 --   EqualDemand SameTableDemand   one table, one image (W1)
 --   OldDemand           an image of edition 1 (W5)
@@ -13,23 +15,24 @@
 use mathlib.Core.Path.{_≡_}
 use mathlib.Core.Bool.{Bool, true, false}
 use mathlib.Core.Logic.{_⊎_, _↔_}
-use mathlib.Core.List.{List}
-use Prim.Native.Nat.{ℕ, _+_, _-_, _<_}
-use lib.ListN.{length, getD, drop}
+use mathlib.Core.List.{List, [], _∷_, _++_}
+use Prim.Native.Nat.{ℕ, _+_, _-_, _*_, _≤_, _<_}
+use lib.ListN.{length, getD, take, drop, replicate}
 use Rattle.finite.specs.Below.{count, total}
 use Rattle.finite.specs.Reach.{Chain}
 use Rattle.table.specs.declared.Answer.the-variants.{Given}
-use Rattle.table.specs.Answer.{Outcome, full, cabinAtLimit, stepsReserved, tooShort, notAccepted, needsEdition2, refusalOf}
+use Rattle.table.specs.Answer.{Outcome, full, cabinAtLimit, stepsReserved, tooShort, notAccepted, needsEdition2, slipNotAccepted, refusalOf, secondOf}
 use Rattle.table.specs.Table.{Table, places, counters, cabinCount, exitsOf, inUse, cabinOf, counterOf, strong, linked, linksTo, stepsInUse, StrongChain}
 use Rattle.table.specs.Cabins.{guaranteeOf, soleQuotas, charge}
 use Rattle.table.specs.Sound.{Sound}
 use Rattle.table.specs.Calls.{addCall}
-use Rattle.table.specs.Clear.{emptied}
+use Rattle.table.specs.Clear.{emptied, clearCall}
 use Rattle.table.specs.Squeeze.{newNumber, squeezeRefusal, squeezeCall, Renumbered}
 use Rattle.table.specs.Plan.{planOf, planCount, planNumber, planAdd, planLink, planClear, planSqueeze}
 use Rattle.keyline.specs.Keys.{keyCabin, keyCall}
-use Rattle.image.specs.Image.{Edition, edition1, image, editionIn, WriteOutcome, written, accepted, loadCall, Bytes, SameRecords, Ascending}
-use Rattle.history.specs.History.{First, Call, tableAfter, heardBy, planAfter, drawnBy, firstRefusal, planFirstRefusal, firstTable, firstPlan}
+use Rattle.image.specs.Image.{Edition, edition1, words, image, editionIn, WriteOutcome, written, accepted, loadCall, Bytes, SameRecords, Ascending}
+use Rattle.image.specs.Slip.{recordIn, changed, slip, slipLength, SlipOutcome, clearSlipCall, slipStep, slipExit, slipCount, takeBackCall, planTakenBack}
+use Rattle.history.specs.History.{First, Call, add, link, clear, read, trial, write, keyLine, squeeze, clearSlip, takeBack, run, withTold, tableAfter, heardBy, planAfter, drawnBy, firstRefusal, planFirstRefusal, firstTable, firstPlan}
 use Rattle.history.specs.Accounts.{account, tally}
 use Rattle.history.specs.Acts.{Act, doneBy, refusedBy, conditionsOf}
 
@@ -56,12 +59,33 @@ pub record Demand3 (f : First) (cs : List Call) : Type 0 where
   pub reached : (i : ℕ) → inUse (tableAfter (firstTable f) cs) i ≡ true → (i ≡ 0 → ⊥) → (n : ℕ) × StrongChain (tableAfter (firstTable f) cs) 0 i n
   -- "capacity, last number given, steps in use, their kinds, contents and targets equal those of the plain plan that the calls' arguments alone draw";
   -- W5: "the guarantees, the limits and each step's cabin, and demand 3 compares them too"
-  pub plan : planOf (tableAfter (firstTable f) cs) ≡ planAfter (firstPlan f) cs
-  -- "and so do all refusals, numbers given, freed counts and spoken counts"
+  -- W7: with each call it "is told one thing, whether a call got 11 or 18 of this request"
+  pub plan : planOf (tableAfter (firstTable f) cs) ≡ planAfter (firstPlan f) (withTold (firstTable f) cs)
+  -- "and so do all refusals, numbers given, freed counts and spoken counts", and the steps that a take-back brings back
   pub begun : firstRefusal f ≡ planFirstRefusal f
-  pub heard : heardBy (firstTable f) cs ≡ drawnBy (firstPlan f) cs
+  pub heard : heardBy (firstTable f) cs ≡ drawnBy (firstPlan f) (withTold (firstTable f) cs)
   -- "stored counters 0 and 1 of each step are the numbers of links to it with bit 0 and with bit 1"
   pub counts : (i b : ℕ) → i < places → b < counters → counterOf (tableAfter (firstTable f) cs) i b ≡ linksTo (tableAfter (firstTable f) cs) i b
+
+-- W7: what the plan is told of a call: that it is a clearing with a slip that got 11, or a take-back that got 18
+abbrev pub Told : Table → Call → Type 0
+Told t (clearSlip i e buffer) = refusalOf (clearSlipCall t i e buffer .answer) ≡ tooShort
+Told t (takeBack bs) = refusalOf (takeBackCall t bs .answer) ≡ slipNotAccepted
+Told t (add holder e kind content cabin) = ⊥
+Told t (link source e second f) = ⊥
+Told t (clear i e) = ⊥
+Told t (read i) = ⊥
+Told t (trial limit results trace) = ⊥
+Told t (write buffer) = ⊥
+Told t (keyLine bs) = ⊥
+Told t (squeeze c quotas) = ⊥
+
+-- what the plan gets of the calls: each call as it is, and a bool that is true exactly there
+abbrev pub ToldDemand : Table → List Call → List (Bool × Call) → Type 0
+ToldDemand t [] [] = Unit {0}
+ToldDemand t (c ∷ cs) (x ∷ xs) = (x .1 ≡ c) × ((x .0 ≡ true) ↔ Told t c) × ToldDemand (run t c .table) cs xs
+ToldDemand t [] (x ∷ xs) = ⊥
+ToldDemand t (c ∷ cs) [] = ⊥
 
 -- W5. "Hence a cabin below its guarantee is never told "full", whatever the others add or keep": nor is it refused for its limit or for a reserve
 abbrev pub NotFull : Outcome → Type 0
@@ -132,6 +156,48 @@ pub record SqueezeDemand (t : Table) (c : ℕ) (q : List ℕ) (o : Outcome) : Ty
 pub record TwiceDemand (t : Table) (d : ℕ) (l : List ℕ) (p : Outcome) : Type 0 where
   pub answer : p .answer ≡ squeezeCall t d l .answer
   pub table : squeezeRefusal t d l ≡ 0 → p .table ≡ squeezeCall t d l .table
+
+-- W7: a clearing with a slip that was not refused; o is what it did
+pub record SlipDemand (t : Table) (i e : ℕ) (buffer : List ℕ) (o : SlipOutcome) : Type 0 where
+  -- the clearing's outcome
+  pub answer : o .answer ≡ clearCall t i e .answer
+  pub table : o .table ≡ clearCall t i e .table
+  -- the slip at the start of the buffer, and the bytes past it as they were
+  pub written : take (slipLength t i e) (o .buffer) ≡ slip i e t (o .table)
+  -- "for each step whose edition 2 image record changed its old and its new record, by ascending step": behind those of the steps below it
+  pub only : (k : ℕ) → (changed t (o .table) k ≡ true) ↔ (recordIn t k ≡ recordIn (o .table) k → ⊥)
+  pub pair : (k : ℕ) → k < t .capacity → changed t (o .table) k ≡ true →
+      take 44 (drop (6 + 44 * count k (changed t (o .table))) (o .buffer)) ≡ recordIn t k ++ recordIn (o .table) k
+  pub past : drop (slipLength t i e) (o .buffer) ≡ drop (slipLength t i e) buffer
+  pub size : length (o .buffer) ≡ length buffer
+  -- "three two-byte fields, the step, the exit and the number of changed steps", and 44 bytes for each of these
+  pub step : slipStep (o .buffer) ≡ i
+  pub exit : slipExit (o .buffer) ≡ e
+  pub long : slipLength t i e ≡ 6 + 44 * slipCount (o .buffer)
+  -- "A free step's record has length 22, kind 4, its number and zeros"
+  pub zeros : (k : ℕ) → k < places → inUse (o .table) k ≡ false → recordIn (o .table) k ≡ words (22 ∷ 4 ∷ k ∷ replicate 8 0)
+  -- it has no step that was free before
+  pub used : (k : ℕ) → k < places → changed t (o .table) k ≡ true → inUse t k ≡ true
+  -- taking back "where no call changed the table since the clearing": the table "from before it", every bit and counter included
+  pub regret : (cs : List Call) → tableAfter (o .table) cs ≡ o .table →
+      takeBackCall (tableAfter (o .table) cs) (take (slipLength t i e) (o .buffer)) ≡ record { answer = Given (secondOf (o .answer)) 0; table = t }
+
+-- W7: an accepted take-back; o is what it did
+pub record TakeBackDemand (t : Table) (bs : List ℕ) (o : Outcome) : Type 0 where
+  pub sound : Sound (o .table)
+  pub plan : planOf (o .table) ≡ planTakenBack (planOf t) bs
+  -- "clearing the named exit there gives the present table with this same slip", in a buffer with the room
+  pub again : (buffer : List ℕ) → length bs ≤ length buffer →
+      clearSlipCall (o .table) (slipStep bs) (slipExit bs) buffer .table ≡ t
+  pub slip : (buffer : List ℕ) → length bs ≤ length buffer →
+      take (length bs) (clearSlipCall (o .table) (slipStep bs) (slipExit bs) buffer .buffer) ≡ bs
+  -- no step is taken out of the plan, and the answer is the number of those brought back
+  pub kept : (k : ℕ) → inUse t k ≡ true → inUse (o .table) k ≡ true
+  pub back : ℕ
+  pub answer : o .answer ≡ Given back 0
+  pub rise : stepsInUse t + back ≡ stepsInUse (o .table)
+  -- the last number given stays
+  pub last : o .table .last ≡ t .last
 
 -- "the spoken counts are of those steps and of the free rest"
 pub record CountDemand (t : Table) (o : Outcome) : Type 0 where

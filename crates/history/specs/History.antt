@@ -1,12 +1,13 @@
--- Histories (traces): a list of calls, run on the table and drawn on the plain plan (document 01, "A history"; document 02, W2, W3, W5). Assumes
+-- Histories (traces): a list of calls, run on the table and drawn on the plain plan (document 01, "A history"; document 02, W2, W3, W5, W7). Assumes
 -- nothing.
 --   First, Call        what a history begins with, and a call with its arguments
---   Heard              what demand 3 compares of a call: refusal, number given, freed count, spoken counts
+--   Heard              what demand 3 compares of a call: refusal, number given, freed count, spoken counts, steps brought back
 --   run, draw          one call, on the table and on the plan
+--   isTold, withTold   what the plan is told of a call, and of each call of a list
 --   firstTable firstPlan  what a history begins with
 --   tableAfter heardBy    the table that a list of calls leaves, and what is heard along it
 --   planAfter drawnBy     the same on the plan
-use mathlib.Core.Bool.{_&&_, cond, not}
+use mathlib.Core.Bool.{Bool, false, _&&_, cond, not}
 use mathlib.Core.List.{List, [], _∷_}
 use Prim.Native.Nat.{ℕ, _-_}
 use lib.ListN.{length}
@@ -14,14 +15,15 @@ use lib.Dec.{eqb, ltb}
 use Rattle.table.specs.Table.{Table}
 use Rattle.table.specs.declared.Answer.{Answer}
 use Rattle.table.specs.Cabins.{listFits, soleQuotas}
-use Rattle.table.specs.Answer.{Outcome, badCapacity, tooShort, notKeyLine, notAccepted, badCabins, first, refusalOf, firstOf, secondOf, triedRefusal}
+use Rattle.table.specs.Answer.{Outcome, badCapacity, tooShort, notKeyLine, notAccepted, badCabins, slipNotAccepted, first, refusalOf, firstOf, secondOf, triedRefusal}
 use Rattle.table.specs.Sound.{capacityFits}
 use Rattle.table.specs.Calls.{freshCall, addCall, linkCall, readCall}
 use Rattle.table.specs.Clear.{clearCall}
 use Rattle.table.specs.Trial.{trialCall}
 use Rattle.table.specs.Squeeze.{squeezeCall}
-use Rattle.table.specs.Plan.{Plan, planCount, planNumber, freshPlan, planAdd, planLink, planClear, planSqueeze, planAddRefusal, planLinkRefusal, planClearRefusal, planReadRefusal, planTrialRefusal, planSqueezeRefusal}
+use Rattle.table.specs.Plan.{Plan, planCount, planNumber, freshPlan, planAdd, planLink, planClear, planSqueeze, planAddRefusal, planLinkRefusal, planClearRefusal, planClearSlipRefusal, planReadRefusal, planTrialRefusal, planSqueezeRefusal}
 use Rattle.image.specs.Image.{writtenEdition, imageSize, writeCall, loadCall, accepted, imagePlan}
+use Rattle.image.specs.Slip.{clearSlipCall, takeBackCall, planTakenBack}
 use Rattle.keyline.specs.declared.Command.{Command}
 use Rattle.keyline.specs.declared.Decoded.{Decoded}
 use Rattle.keyline.specs.declared.Decoded.the-variants.{Line, Nothing}
@@ -35,7 +37,7 @@ pub data First : Type 0 where
 
 -- "a list, of any length or empty, of add, link, clear, read, trial, write image and key line, with any arguments; line results and key bytes
 -- stand in it by value", and so do the lent trace and buffer. "A history may now hold a squeeze" (W2); a trial is given a limit (W3), an add a cabin and
--- a squeeze a list of quotas (W5)
+-- a squeeze a list of quotas (W5); "a history may now hold take-backs", and clearings that write a slip (W7)
 pub data Call : Type 0 where
   add : ℕ → ℕ → ℕ → ℕ → ℕ → Call
   link : ℕ → ℕ → ℕ → ℕ → Call
@@ -44,6 +46,8 @@ pub data Call : Type 0 where
   trial : ℕ → List ℕ → List ℕ → Call
   write keyLine : List ℕ → Call
   squeeze : ℕ → List ℕ → Call
+  clearSlip : ℕ → ℕ → List ℕ → Call
+  takeBack : List ℕ → Call
 
 -- what demand 3 compares along the list; a number that a call does not give is zero
 pub record Heard : Type 0 where
@@ -52,12 +56,14 @@ pub record Heard : Type 0 where
   pub freed : ℕ
   pub spokenUsed : ℕ
   pub spokenFree : ℕ
+  pub back : ℕ
 
 -- of a call that gives no number, the refusal or 0
 unfoldable pub onlyRefusal : ℕ → Heard
-onlyRefusal n = record { refusal = n; given = 0; freed = 0; spokenUsed = 0; spokenFree = 0 }
+onlyRefusal n = record { refusal = n; given = 0; freed = 0; spokenUsed = 0; spokenFree = 0; back = 0 }
 
--- the answer of a call of the keys' number: 1 add, 2 link, 3 clear, 4 counts; of any other number, the refusal alone
+-- the answer of a call of the keys' number: 1 add, 2 link, 3 clear, 4 counts; 5 is taking back, which no key makes; of any other number, the refusal
+-- alone
 unfoldable pub heardAs : ℕ → Answer → Heard
 heardAs call a =
     record {
@@ -66,6 +72,7 @@ heardAs call a =
       freed = cond (eqb call 3) (secondOf a) 0;
       spokenUsed = cond (eqb call 4) (firstOf a) 0;
       spokenFree = cond (eqb call 4) (secondOf a) 0;
+      back = cond (eqb call 5) (firstOf a) 0;
     }
 
 -- the call's number of a key line, or 0
@@ -90,6 +97,10 @@ run t (trial limit results trace) = record { heard = onlyRefusal (triedRefusal (
 run t (write buffer) = record { heard = onlyRefusal (refusalOf (writeCall t buffer .answer)); table = t }
 run t (keyLine bs) = ran (callOf (decode bs)) (keyCall t bs)
 run t (squeeze c quotas) = ran 0 (squeezeCall t c quotas)
+run t (clearSlip i e buffer) =
+    let o = clearSlipCall t i e buffer in
+    record { heard = heardAs 3 (o .answer); table = o .table }
+run t (takeBack bs) = ran 5 (takeBackCall t bs)
 
 -- one call on the plan
 pub record Drawn : Type 0 where
@@ -104,7 +115,7 @@ unfoldable pub drawAdd : Plan → ℕ → ℕ → ℕ → ℕ → ℕ → Drawn
 drawAdd p holder e kind content cabin =
     drawUnless (planAddRefusal p holder e kind content cabin) p
     (record {
-      heard = record { refusal = 0; given = planNumber p; freed = 0; spokenUsed = 0; spokenFree = 0 };
+      heard = record { refusal = 0; given = planNumber p; freed = 0; spokenUsed = 0; spokenFree = 0; back = 0 };
       plan = planAdd p holder e kind content cabin;
     })
 
@@ -113,10 +124,9 @@ drawLink p source e second f =
     drawUnless (planLinkRefusal p source e second f) p (record { heard = onlyRefusal 0; plan = planLink p source e second f })
 
 -- "these are the freed ones": the fall in the number of steps
-unfoldable pub drawClear : Plan → ℕ → ℕ → Drawn
-drawClear p i e =
-    drawUnless (planClearRefusal p i e) p
-    (record {
+abbrev pub drawnCleared : Plan → ℕ → ℕ → Drawn
+drawnCleared p i e =
+    record {
       heard =
           record {
             refusal = 0;
@@ -124,8 +134,33 @@ drawClear p i e =
             freed = planCount p - planCount (planClear p i e);
             spokenUsed = 0;
             spokenFree = 0;
+            back = 0;
           };
       plan = planClear p i e;
+    }
+
+unfoldable pub drawClear : Plan → ℕ → ℕ → Drawn
+drawClear p i e = drawUnless (planClearRefusal p i e) p (drawnCleared p i e)
+
+-- W7: the same with a slip, which changes nothing but the refusal
+unfoldable pub drawClearSlip : Plan → Bool → ℕ → ℕ → Drawn
+drawClearSlip p short i e = drawUnless (planClearSlipRefusal p short i e) p (drawnCleared p i e)
+
+-- W7: "an accepted one puts the slip's old records, without bits, into the plain plan"; the steps brought back are the rise in the number of steps
+unfoldable pub drawTakeBack : Plan → Bool → List ℕ → Drawn
+drawTakeBack p refused bs =
+    drawUnless (first ((refused, slipNotAccepted) ∷ [])) p
+    (record {
+      heard =
+          record {
+            refusal = 0;
+            given = 0;
+            freed = 0;
+            spokenUsed = 0;
+            spokenFree = 0;
+            back = planCount (planTakenBack p bs) - planCount p;
+          };
+      plan = planTakenBack p bs;
     })
 
 -- "The spoken counts are its steps, and its capacity less those."
@@ -133,7 +168,7 @@ unfoldable pub drawCount : Plan → Drawn
 drawCount p =
     record {
       heard =
-          record { refusal = 0; given = 0; freed = 0; spokenUsed = planCount p; spokenFree = p .capacity - planCount p };
+          record { refusal = 0; given = 0; freed = 0; spokenUsed = planCount p; spokenFree = p .capacity - planCount p; back = 0 };
       plan = p;
     }
 
@@ -160,15 +195,31 @@ unfoldable pub drawLine : Plan → Decoded → Drawn
 drawLine p Nothing = unchanged notKeyLine p
 drawLine p (Line c) = drawCommand p c
 
-unfoldable pub draw : Plan → Call → Drawn
-draw p (add holder e kind content cabin) = drawAdd p holder e kind content cabin
-draw p (link source e second f) = drawLink p source e second f
-draw p (clear i e) = drawClear p i e
-draw p (read i) = unchanged (planReadRefusal p i) p
-draw p (trial limit results trace) = unchanged (planTrialRefusal limit results (length trace)) p
-draw p (write buffer) = unchanged (planWriteRefusal p (length buffer)) p
-draw p (keyLine bs) = drawLine p (decode bs)
-draw p (squeeze c quotas) = drawSqueeze p c quotas
+-- W7. "Beyond the arguments the plan is told one thing, whether a call got 11 or 18 of this request, since it has no strengths to find them by."
+unfoldable pub isTold : Table → Call → Bool
+isTold t (add holder e kind content cabin) = false
+isTold t (link source e second f) = false
+isTold t (clear i e) = false
+isTold t (read i) = false
+isTold t (trial limit results trace) = false
+isTold t (write buffer) = false
+isTold t (keyLine bs) = false
+isTold t (squeeze c quotas) = false
+isTold t (clearSlip i e buffer) = eqb (refusalOf (clearSlipCall t i e buffer .answer)) tooShort
+isTold t (takeBack bs) = eqb (refusalOf (takeBackCall t bs .answer)) slipNotAccepted
+
+-- a call drawn from what is told of it and its arguments
+unfoldable pub draw : Plan → Bool → Call → Drawn
+draw p b (add holder e kind content cabin) = drawAdd p holder e kind content cabin
+draw p b (link source e second f) = drawLink p source e second f
+draw p b (clear i e) = drawClear p i e
+draw p b (read i) = unchanged (planReadRefusal p i) p
+draw p b (trial limit results trace) = unchanged (planTrialRefusal limit results (length trace)) p
+draw p b (write buffer) = unchanged (planWriteRefusal p (length buffer)) p
+draw p b (keyLine bs) = drawLine p (decode bs)
+draw p b (squeeze c quotas) = drawSqueeze p c quotas
+draw p b (clearSlip i e buffer) = drawClearSlip p b i e
+draw p b (takeBack bs) = drawTakeBack p b bs
 
 -- "each later one the table as the call before left it, refused or not"
 unfoldable pub tableAfter : Table → List Call → Table
@@ -179,13 +230,18 @@ unfoldable pub heardBy : Table → List Call → List Heard
 heardBy t [] = []
 heardBy t (c ∷ cs) = run t c .heard ∷ heardBy (run t c .table) cs
 
-unfoldable pub planAfter : Plan → List Call → Plan
-planAfter p [] = p
-planAfter p (c ∷ cs) = planAfter (draw p c .plan) cs
+-- the calls, each with what the plan is told of it
+unfoldable pub withTold : Table → List Call → List (Bool × Call)
+withTold t [] = []
+withTold t (c ∷ cs) = (isTold t c, c) ∷ withTold (run t c .table) cs
 
-unfoldable pub drawnBy : Plan → List Call → List Heard
+unfoldable pub planAfter : Plan → List (Bool × Call) → Plan
+planAfter p [] = p
+planAfter p (c ∷ cs) = planAfter (draw p (c .0) (c .1) .plan) cs
+
+unfoldable pub drawnBy : Plan → List (Bool × Call) → List Heard
 drawnBy p [] = []
-drawnBy p (c ∷ cs) = draw p c .heard ∷ drawnBy (draw p c .plan) cs
+drawnBy p (c ∷ cs) = draw p (c .0) (c .1) .heard ∷ drawnBy (draw p (c .0) (c .1) .plan) cs
 
 -- the refusal of the first call, on the table and on the plan
 unfoldable pub firstRefusal : First → ℕ

@@ -8,3 +8,6 @@ pub mod Rewritten
 pub mod Order
 pub mod Laws
 pub mod Converted
+pub mod Slips
+pub mod Placed
+pub mod TakenBack

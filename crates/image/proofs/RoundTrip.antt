@@ -125,10 +125,10 @@ module _ (v : Edition) (t : Table) (s : Sound t) where
   target-image i e h l =
       said-image i h _ _ (λ u. image-field v t i (below i u) u (4 + e) (omega (arith, old-fields v)) ∙ record-target v t i e l) (λ b. b .targets e l)
 
-  bit-small : (i : ℕ) → inUse t i ≡ true → (e : ℕ) → e < 5 → bitAt t i e < 2
+  pub bit-small : (i : ℕ) → inUse t i ≡ true → (e : ℕ) → e < 5 → bitAt t i e < 2
   bit-small i u e h = bit-cases (λ n. n < 2) t i e (s .bits i e u) (λ l. s .own i u)
 
-  bit-blank : (i : ℕ) → Blank t i → (e : ℕ) → bitAt t i e ≡ 0
+  pub bit-blank : (i : ℕ) → Blank t i → (e : ℕ) → bitAt t i e ≡ 0
   bit-blank i b e = bit-cases (λ n. n ≡ 0) t i e (b .bits e) (λ l. b .own)
 
   bits-image : (i : ℕ) → i < t .capacity → inUse t i ≡ true → bitsIn (image v t) (count i (inUse t)) ≡ fiveBits (bitAt t i)
@@ -150,7 +150,7 @@ module _ (v : Edition) (t : Table) (s : Sound t) where
       (λ b. b .cabin)
 
   -- every array as it was
-  used-one : (i : ℕ) → inUse t i ≡ true → getD (t .used) i 0 ≡ 1
+  pub used-one : (i : ℕ) → inUse t i ≡ true → getD (t .used) i 0 ≡ 1
   unfolding inUse
   used-one i u = eqb-true (getD (t .used) i 0) 1 u
 
@@ -200,7 +200,7 @@ module _ (v : Edition) (t : Table) (s : Sound t) where
       exit-entries (bitIn (image v t)) (t .bits) (s .shape .bits)
       (λ i e h l. let x = lt-ltb e exits l in bit-image i e h (omega arith) ∙ rw x)
 
-  counts-entries : (u : Table) → u .capacity ≡ t .capacity → u .targets ≡ t .targets → u .bits ≡ t .bits →
+  pub counts-entries : (u : Table) → u .capacity ≡ t .capacity → u .targets ≡ t .targets → u .bits ≡ t .bits →
       tabulate (places * counters) (λ q. linksTo u (q / counters) (q % counters)) ≡ t .counts
   unfolding counterOf
   counts-entries u c g h =

@@ -14,6 +14,7 @@
 --   numberIn kindIn contentIn bitsIn targetIn cabinIn   the fields of the k-th step record of an image
 --   recordOf bs i, recordField   the record of step i, and one of its fields
 --   framed bs, accepted bs      the bytes are such records; the image is accepted
+--   withRecord t fields         the table with the fields of a step record; counted t, with its counters worked out
 --   imageTable bs, imagePlan bs   the table and the plain plan that its records say
 --   loadCall bs                 the call
 --   SameRecords bs cs           two images differ at most in the order of their step records
@@ -23,12 +24,13 @@ use mathlib.Core.Bool.{Bool, _&&_, not, cond}
 use mathlib.Core.List.{List, [], _∷_, _++_}
 use mathlib.Core.Option.{none, some}
 use Prim.Native.Nat.{ℕ, zero, suc, _+_, _*_, _/_, _%_, _^_, _<_}
-use lib.ListN.{length, getD, take, drop}
+use lib.ListN.{length, getD, set, take, drop}
+use lib.Seq.{sets}
 use lib.Dec.{eqb, leb, ltb}
 use Rattle.finite.specs.Below.{all, one, lowest, tabulate, passes}
 use Rattle.table.specs.declared.Answer.{Answer}
 use Rattle.table.specs.declared.Answer.the-variants.{Refused, Given}
-use Rattle.table.specs.Table.{Table, places, exits, counters, quotaNumbers, inUse, kindOf, contentOf, ownBit, cabinOf, targetOf, linkBit, linksTo, stepsInUse, withLinks}
+use Rattle.table.specs.Table.{Table, places, exits, counters, quotaNumbers, inUse, kindOf, contentOf, ownBit, cabinOf, targetOf, linkBit, linksTo, stepsInUse, withLinks, withSteps}
 use Rattle.table.specs.Cabins.{soleQuotas}
 use Rattle.table.specs.Sound.{sound}
 use Rattle.table.specs.Answer.{Outcome, tooShort, notAccepted, first, firstOf, unless}
@@ -222,6 +224,18 @@ hasRecord bs i = ltb (recordOf bs i) (countIn bs)
 -- a field of step i's record, or 0 where it has none
 unfoldable pub recordField : List ℕ → ℕ → (ℕ → ℕ) → ℕ
 recordField bs i field = cond (hasRecord bs i) (field (recordOf bs i)) 0
+
+-- a table in which the step of a record is in use, with the record's fields, those of edition 2 in their order; no counter changes
+unfoldable pub withRecord : Table → List ℕ → Table
+withRecord t fields =
+    let i = getD fields 0 0 in
+    let s = getD fields 3 0 in
+    withLinks
+    (withSteps t (t .last) (set (t .used) i 1) (set (t .kinds) i (getD fields 1 0)) (set (t .contents) i (getD fields 2 0)) (set (t .own) i (s / 16 % 2))
+    (set (t .cabins) i (getD fields 8 0)))
+    (sets (t .targets) (i * exits) (getD fields 4 0 ∷ getD fields 5 0 ∷ getD fields 6 0 ∷ getD fields 7 0 ∷ []))
+    (sets (t .bits) (i * exits) (s % 2 ∷ s / 2 % 2 ∷ s / 4 % 2 ∷ s / 8 % 2 ∷ []))
+    (t .counts)
 
 -- "Counters are worked out on loading."
 unfoldable pub counted : Table → Table

@@ -1,3 +1,4 @@
--- Document 01, "Image", and document 02, W1, W5 and W6, as definitions.
+-- Document 01, "Image", and document 02, W1, W5, W6 and W7, as definitions.
 pub mod Convert
 pub mod Image
+pub mod Slip

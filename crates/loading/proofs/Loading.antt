@@ -25,12 +25,11 @@ use Rattle.table.specs.Sound.{sound}
 use Rattle.table.specs.Answer.{first, unless}
 use Rattle.table.specs.Calls.{refusedTable}
 use Rattle.words.specs.Words.{blankTable}
-use Rattle.image.specs.Image.{Edition, edition1, edition2, headerFieldCount, stepFieldCount, recordSize, imageSize, editionIn, stepPlace, capacityIn, lastIn, countIn, quotasBy, quotasIn, numberIn, kindIn, contentIn, bitsIn, targetIn, cabinBy, cabinIn, bitIn, recordOf, hasRecord, recordField, counted, imageTable, accepted, loadCall}
+use Rattle.image.specs.Image.{Edition, edition1, edition2, headerFieldCount, stepFieldCount, recordSize, imageSize, editionIn, stepPlace, capacityIn, lastIn, countIn, quotasBy, quotasIn, numberIn, kindIn, contentIn, bitsIn, targetIn, cabinBy, cabinIn, bitIn, recordOf, hasRecord, recordField, withRecord, counted, imageTable, accepted, loadCall}
 use Rattle.image.proofs.Words.{image-next}
 use Rattle.image.proofs.Loaded.{test-accepted, accepted-test, accepted-capacity, record-below, record-number, said-record, said-none, has-record-any}
 use Rattle.records.specs.declared.StepRecord.{StepRecord}
-use Rattle.records.specs.Parts.{editionOf, cabinAt, stepRead}
-use Rattle.loading.specs.Parts.{withRecord}
+use Rattle.records.specs.Parts.{editionOf, added, recordFields, cabinAt, stepRead}
 use Rattle.loading.proofs.Counting.{zeros}
 use Rattle.loading.proofs.Stored.{latest, exitsTo, latest-keeps, latest-none, latest-at, mark-none, mark-some, stored-one, stored-four}
 use Rattle.records.proofs.Reading.{HeaderFits, HeaderSays, StepFits, StepSays, header-room, header-edition}
@@ -136,8 +135,8 @@ module _ (bs : List ℕ) where
       ap (set (tabulate 128 (latest (numberIn bs) k (cabinIn bs))) (numberIn bs k)) (cabin-read (editionIn bs) bs k)
       ∙ stored-one (numberIn bs) 128 k (cabinIn bs) low
 
-  filled-step : (k : ℕ) → numberIn bs k < 128 → withRecord (filledTable bs k) (stepRead (editionIn bs) bs (stepPlace bs k)) ≡ filledTable bs (suc k)
-  unfolding withRecord withLinks withSteps filledTable stepRead numberIn kindIn contentIn bitsIn targetIn bitIn
+  filled-step : (k : ℕ) → numberIn bs k < 128 → withRecord (filledTable bs k) (recordFields edition2 (stepRead (editionIn bs) bs (stepPlace bs k))) ≡ filledTable bs (suc k)
+  unfolding withRecord recordFields added withLinks withSteps filledTable stepRead numberIn kindIn contentIn bitsIn targetIn bitIn
   filled-step k low =
       λ n.
       record {
@@ -182,7 +181,7 @@ module _ (bs : List ℕ) where
     pub next-twice : (getD (t .used) (r .number) 0 ≡ 0 → ⊥) → (j : ℕ) × (j < f .done) × (numberIn bs j ≡ numberIn bs (f .done))
     next-twice z = mark-some (numberIn bs) (f .done) (numberIn bs (f .done)) (λ y. z (next-mark ∙ y))
 
-    pub filled-more : (v : Table) (size : ℕ) → v ≡ withRecord t r → getD (t .used) (r .number) 0 ≡ 0 →
+    pub filled-more : (v : Table) (size : ℕ) → v ≡ withRecord t (recordFields edition2 r) → getD (t .used) (r .number) 0 ≡ 0 →
         size ≡ recordSize (stepFieldCount (editionIn bs)) → Filled bs v (at + size)
     unfolding stepPlace
     filled-more v size h z n =
@@ -194,8 +193,8 @@ module _ (bs : List ℕ) where
           distinct = λ j k l m. ⊎-elim (λ (x : k ≡ f .done). rw x (next-free z j (rw x at l))) (λ g. f .distinct j k l g) (below-suc m);
           table =
               h ∙
-              ap (λ (t : Table). withRecord t r) (f .table) ∙
-              ap (withRecord (filledTable bs (f .done))) next-read ∙
+              ap (λ (t : Table). withRecord t (recordFields edition2 r)) (f .table) ∙
+              ap (λ (r : StepRecord). withRecord (filledTable bs (f .done)) (recordFields edition2 r)) next-read ∙
               filled-step (f .done) next-low;
         }
 

@@ -4,42 +4,19 @@
 --   stored-one stored-four   what the stores of one more record leave
 use mathlib.Core.Path.{_≡_, refl, sym, _∙_, ap}
 use mathlib.Core.Bool.{true, false, cond}
-use mathlib.Core.Logic.{_⊎_, inl, inr, ⊎-elim}
+use mathlib.Core.Logic.{inl, inr, ⊎-elim}
 use mathlib.Core.List.{List, [], _∷_}
 use Prim.Native.Nat.{ℕ, zero, suc, _+_, _*_, _/_, _%_, _≤_, _<_}
-use native.Mathlib.Nat.{not-suc-le-zero, le-of-suc-le-suc}
+use native.Mathlib.Nat.{not-suc-le-zero}
 use native.Mathlib.Omega.{arith}
-use lib.ListN.{length, getD, set, length-set}
-use lib.Seq.{sets, length-sets, ext-getD, getD-set-same, getD-set-other}
+use lib.ListN.{length, getD, set}
+use lib.Seq.{sets, length-sets, ext-getD}
 use lib.Dec.{eqb}
 use borrow.Author.Tests.{eqb-true, eqb-false, eq-eqb, ne-eqb}
 use Rattle.finite.specs.Below.{tabulate}
 use Rattle.finite.proofs.Bools.{test}
 use Rattle.finite.proofs.Below.{le-or-lt, below-suc, length-tabulate, getD-tabulate, tabulate-set}
-
--- a run of stores, read inside and outside of it
-sets-outside : (vs l : List ℕ) (q p : ℕ) → (p < q) ⊎ (q + length vs ≤ p) → getD (sets l q vs) p 0 ≡ getD l p 0
-sets-outside [] l q p h = refl
-sets-outside (v ∷ vs) l q p h =
-    sets-outside vs (set l q v) (suc q) p (⊎-elim (λ a. inl (omega arith)) (λ a. inr (omega arith)) h)
-    ∙ getD-set-other l q p v 0 (λ e. ⊎-elim (λ a. omega arith) (λ a. omega arith) h)
-
-sets-inside : (vs l : List ℕ) (q e : ℕ) → e < length vs → q + length vs ≤ length l → getD (sets l q vs) (q + e) 0 ≡ getD vs e 0
-sets-inside [] l q e h n = absurd (not-suc-le-zero h)
-sets-inside (v ∷ vs) l q zero h n =
-    let z : q + 0 ≡ q = omega arith in
-    rw z (sets-outside vs (set l q v) (suc q) q (inl (omega arith)) ∙ getD-set-same l q v 0 (omega arith))
-sets-inside (v ∷ vs) l q (suc e) h n =
-    let z : q + suc e ≡ suc q + e = omega arith in
-    let m = length-set l q v in
-    rw z (sets-inside vs (set l q v) (suc q) e (le-of-suc-le-suc h) (omega arith))
-
-four-at : (g : ℕ → ℕ) (e : ℕ) → e < 4 → getD (g 0 ∷ g 1 ∷ g 2 ∷ g 3 ∷ []) e 0 ≡ g e
-four-at g zero h = refl
-four-at g (suc zero) h = refl
-four-at g (suc (suc zero)) h = refl
-four-at g (suc (suc (suc zero))) h = refl
-four-at g (suc (suc (suc (suc e)))) h = absurd (omega arith)
+use Rattle.finite.proofs.Stores.{sets-outside, sets-inside, four-at}
 
 module _ (num : ℕ → ℕ) where
   unfoldable pub latest : ℕ → (ℕ → ℕ) → ℕ → ℕ

@@ -1,14 +1,13 @@
-// The call load image (document 01, "Image"; document 02, W5: two editions). What is said of it is in the crate image, and of the functions inside in
-// specs/. An edition is a bool, true for edition 2; that of an image is its header's.
+// The call load image (document 01, "Image"; document 02, W5: two editions). What is said of it is in the crate image. An edition is a bool, true for
+// edition 2; that of an image is its header's. `put_record` and `recount` also serve take-backs (W7).
 ghost use mathlib.Core.Path.{_≡_};
 ghost use mathlib.Core.Bool.{true};
 ghost use Prim.Native.Nat.{ℕ, _*_, _<_, _≤_};
 ghost use lib.ListN.{length, getD, replicate};
 ghost use Rattle.table.specs.Table.{places, counters, withNumbers};
-ghost use Rattle.image.specs.Image.{loadCall, capacityIn, quotasBy, counted, imageTable, accepted};
+ghost use Rattle.image.specs.Image.{edition2, loadCall, capacityIn, quotasBy, withRecord, counted, imageTable, accepted};
 ghost use Rattle.words.specs.Words.{words, tableOf, wordsOf, blankTable, Becomes};
-ghost use Rattle.records.specs.Parts.{editionOf};
-ghost use Rattle.loading.specs.Parts.{withRecord};
+ghost use Rattle.records.specs.Parts.{editionOf, recordFields};
 use records::Header;
 use records::Read;
 use records::StepRecord;
@@ -16,9 +15,9 @@ use table::Answer;
 use words::WORDS;
 
 // The step of a record is in use, with the record's fields; no counter changes.
-fn put_record(t: &mut [u16; WORDS], r: StepRecord)
+pub fn put_record(t: &mut [u16; WORDS], r: StepRecord)
     requires { ⌜ r .number < places ⌝ }
-    ensures { λ _. ⌜ Becomes (now (t .entry)) (now (t .exit)) (withRecord (tableOf (now (t .entry))) r) ⌝ }
+    ensures { λ _. ⌜ Becomes (now (t .entry)) (now (t .exit)) (withRecord (tableOf (now (t .entry))) (recordFields edition2 r)) ⌝ }
 {
     let i = words::wide(r.number);
     let bits = r.bits;
@@ -46,6 +45,15 @@ fn count_links(t: &mut [u16; WORDS])
         }
         p += 1;
     }
+}
+
+// Works out the counters of every step anew, whatever they are.
+pub fn recount(t: &mut [u16; WORDS])
+    requires { ⌜ (tableOf (now t) .capacity ≤ places) × ((p : ℕ) → getD (tableOf (now t) .bits) p 0 < counters) ⌝ }
+    ensures { λ _. ⌜ Becomes (now (t .entry)) (now (t .exit)) (counted (tableOf (now (t .entry)))) ⌝ }
+{
+    words::zero_counts(t);
+    count_links(t);
 }
 
 // An empty table, with the capacity, the last number given and the quotas that the header says.

@@ -204,6 +204,10 @@ module _ (bs : List ℕ) (at : ℕ) (within : at ≤ length bs) where
         cabin = part-cabin e k;
       }
 
+  -- the fields of the record there
+  pub part-fields : (e : Edition) → stepRead e (take (length bs - at) (drop at bs)) 0 ≡ stepRead e bs at
+  part-fields e = ap (λ (l : List ℕ). stepRead e l 0) part-drop ∙ part-read e
+
   pub step-known : (e : Edition) (r : StepRecord) → Step r ≡ readStep e (take (length bs - at) (drop at bs)) → StepSays e bs at r
   unfolding readStep
   step-known e r h =

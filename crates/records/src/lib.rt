@@ -71,7 +71,7 @@ pub fn image_size(second: bool, steps: u16) -> usize
 }
 
 // Puts a number as two bytes at a place, little-endian.
-fn put_word(part: &mut [u8], at: usize, value: u16)
+pub fn put_word(part: &mut [u8], at: usize, value: u16)
     requires { ⌜ at + 2 ≤ length (now part) ⌝ }
     ensures { λ _. ⌜ now (part .exit) ≡ putWords (now (part .entry)) at (value ∷ []) ⌝ }
 {
@@ -157,7 +157,7 @@ fn wide(x: u8) -> u16
 }
 
 // The number that two bytes at a place make, little-endian.
-fn word_at(part: &[u8], at: usize) -> u16
+pub fn word_at(part: &[u8], at: usize) -> u16
     requires { ⌜ at + 2 ≤ length (now part) ⌝ }
     ensures { λ r. ⌜ r ≡ wordAt (now (part .entry)) at ⌝ }
 {
@@ -247,7 +247,7 @@ fn cabin_in(part: &[u8], second: bool) -> u16
 }
 
 // The fields of the step record that the part begins with.
-fn step_fields(part: &[u8], second: bool) -> StepRecord
+pub fn step_fields(part: &[u8], second: bool) -> StepRecord
     requires { ⌜ (20 ≤ length (now part)) × (second ≡ true → 22 ≤ length (now part)) ⌝ }
     ensures { λ r. ⌜ r ≡ stepRead (editionOf second) (now (part .entry)) 0 ⌝ }
 {

@@ -19,3 +19,4 @@ pub mod Trials
 pub mod Squeeze
 pub mod Squeezed
 pub mod SqueezeClear
+pub mod Same

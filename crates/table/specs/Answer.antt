@@ -72,6 +72,10 @@ badCabins = 16
 abbrev pub needsEdition2 : ℕ
 needsEdition2 = 17
 
+-- document 02, W7
+abbrev pub slipNotAccepted : ℕ
+slipNotAccepted = 18
+
 unfoldable pub first : List (Bool × ℕ) → ℕ
 first [] = 0
 first (x ∷ xs) = cond (x .0) (x .1) (first xs)

@@ -178,13 +178,19 @@ planLinkRefusal p source e second f =
     (planHolds p second f, exitFilled) ∷
     [])
 
-unfoldable pub planClearRefusal : Plan → ℕ → ℕ → ℕ
-planClearRefusal p i e =
-    first
-    ((not (planInUse p i), notInUse) ∷
+abbrev pub planClearConditions : Plan → ℕ → ℕ → List (Bool × ℕ)
+planClearConditions p i e =
+    (not (planInUse p i), notInUse) ∷
     (leb exits e, badExit) ∷
     (not (planHolds p i e), exitEmpty) ∷
-    [])
+    []
+
+unfoldable pub planClearRefusal : Plan → ℕ → ℕ → ℕ
+planClearRefusal p i e = first (planClearConditions p i e)
+
+-- W7: the plan "has no strengths to find" the length of a slip by, so it is told whether the call got 11
+unfoldable pub planClearSlipRefusal : Plan → Bool → ℕ → ℕ → ℕ
+planClearSlipRefusal p short i e = first (planClearConditions p i e ++ ((short, tooShort) ∷ []))
 
 unfoldable pub planReadRefusal : Plan → ℕ → ℕ
 planReadRefusal p i = first ((not (planInUse p i), notInUse) ∷ [])

@@ -13,15 +13,16 @@
 --   linksTo t j b       the number of links with bit b to j
 --   stepsInUse t        the number of steps in use
 --   StrongChain t a b n   a strong chain (path) of n links from a to b
+--   sameTable t u       two tables are the same in all fields
 --   withNumbers withLinks withSteps   a table with another capacity, last number and quotas, with other links and counters, or with another last
 --                       number and other steps
 use mathlib.Core.Path.{_≡_}
 use mathlib.Core.Bool.{Bool, true, _&&_, not}
-use mathlib.Core.List.{List}
+use mathlib.Core.List.{List, [], _∷_}
 use Prim.Native.Nat.{ℕ, _+_, _*_}
 use lib.ListN.{getD}
 use lib.Dec.{eqb}
-use Rattle.finite.specs.Below.{any, count}
+use Rattle.finite.specs.Below.{any, count, passes, same}
 use Rattle.finite.specs.Reach.{Chain}
 
 -- a table has places for 128 steps; a step has four exits and two counters
@@ -132,6 +133,24 @@ stepsInUse t = count (t .capacity) (inUse t)
 pub record StrongChain (t : Table) (a b n : ℕ) : Type 0 where
   pub begins : inUse t a ≡ true
   pub row : Chain (stronglyLinked t) a b n
+
+unfoldable pub sameFields : Table → Table → List Bool
+sameFields t u =
+    eqb (t .capacity) (u .capacity) ∷
+    eqb (t .last) (u .last) ∷
+    same (t .used) (u .used) ∷
+    same (t .kinds) (u .kinds) ∷
+    same (t .contents) (u .contents) ∷
+    same (t .own) (u .own) ∷
+    same (t .targets) (u .targets) ∷
+    same (t .bits) (u .bits) ∷
+    same (t .counts) (u .counts) ∷
+    same (t .cabins) (u .cabins) ∷
+    same (t .quotas) (u .quotas) ∷
+    []
+
+unfoldable pub sameTable : Table → Table → Bool
+sameTable t u = passes (sameFields t u)
 
 -- Three ways to write a table; what is not named is as it was.
 unfoldable pub withNumbers : Table → ℕ → ℕ → List ℕ → Table

@@ -13,6 +13,7 @@ ghost use Rattle.table.specs.Trial.{trialCall};
 ghost use Rattle.words.specs.Words.{tableOf, wordsOf};
 ghost use Rattle.image.specs.Image.{edition1, edition2, lengthCall, writeCall, loadCall};
 ghost use Rattle.image.specs.Convert.{convertCall};
+ghost use Rattle.image.specs.Slip.{clearSlipCall, takeBackCall};
 ghost use Rattle.keyline.specs.Keys.{countsCall, keyCall};
 ghost use Rattle.telephone.specs.Replies.{edition, replyOf, readReply, trialReply, writeReply};
 use table::Answer;
@@ -214,6 +215,30 @@ pub extern "C" fn plan_clear(t: &mut [u16; WORDS], step: u16, exit: u16) -> Repl
     ensures table { λ r. ⌜ now (t .exit) ≡ wordsOf (clearCall (tableOf (now (t .entry))) step exit .table) ⌝ }
 {
     reply_of(clearing::clear(t, step, exit))
+}
+
+// Clear with slip: the same, and the slip of the clearing at the start of the buffer; no other byte is written. Refusals: 1, 3, 4, 6, 11.
+#[no_mangle]
+pub extern "C" fn plan_clear_with_slip(
+    t: &mut [u16; WORDS],
+    step: u16,
+    exit: u16,
+    buffer: &mut [u8],
+) -> Reply
+    ensures answer { λ r. ⌜ r ≡ replyOf (clearSlipCall (tableOf (now (t .entry))) step exit (now (buffer .entry)) .answer) ⌝ }
+    ensures table { λ r. ⌜ now (t .exit) ≡ wordsOf (clearSlipCall (tableOf (now (t .entry))) step exit (now (buffer .entry)) .table) ⌝ }
+    ensures written { λ r. ⌜ now (buffer .exit) ≡ clearSlipCall (tableOf (now (t .entry))) step exit (now (buffer .entry)) .buffer ⌝ }
+{
+    reply_of(slips::clear_with_slip(t, step, exit, buffer))
+}
+
+// Take back: a clearing is taken back by its slip. First is the steps that are back in use. Refusals: 1, 18.
+#[no_mangle]
+pub extern "C" fn plan_take_back(t: &mut [u16; WORDS], bytes: &[u8]) -> Reply
+    ensures answer { λ r. ⌜ r ≡ replyOf (takeBackCall (tableOf (now (t .entry))) (now (bytes .entry)) .answer) ⌝ }
+    ensures table { λ r. ⌜ now (t .exit) ≡ wordsOf (takeBackCall (tableOf (now (t .entry))) (now (bytes .entry)) .table) ⌝ }
+{
+    reply_of(slips::take_back(t, bytes))
 }
 
 // Squeeze: the steps in use get the lowest numbers, in their old order, and the table the capacity and the quotas given. Refusals: 1, 2, 16, 13.

@@ -2,7 +2,7 @@
 // writing of single fields. The one place that changes a link, with its counters, is `relink`.
 ghost use mathlib.Core.Path.{_≡_};
 ghost use Prim.Native.Nat.{_*_, _<_};
-ghost use lib.ListN.{length, getD, set};
+ghost use lib.ListN.{length, getD, set, replicate};
 ghost use lib.Seq.{sets};
 ghost use Rattle.table.specs.Table.{places, exits, counters, quotaNumbers, exitPlace, inUse, kindOf, contentOf, ownBit, cabinOf, targetOf, linkBit, counterOf, withLinks, withSteps, withNumbers};
 ghost use Rattle.table.specs.Calls.{lowered, raised, relink, withStep};
@@ -83,6 +83,8 @@ pub const STEPS_RESERVED: u16 = 15;
 pub const BAD_CABINS: u16 = 16;
 // An image needs edition 2: edition 1 cannot say its cabins, guarantees or limits (W6).
 pub const NEEDS_EDITION_2: u16 = 17;
+// A slip is not accepted (W7).
+pub const SLIP_NOT_ACCEPTED: u16 = 18;
 
 // The same number, as an index.
 pub fn wide(x: u16) -> usize
@@ -353,6 +355,20 @@ pub fn put_fields(t: &mut [u16; WORDS], i: usize, used: u16, f: Fields)
     put_step(t, i, used, f.kind, f.content, f.own, f.cabin);
     put_links(t, i, targets, bits);
     put_counts(t, i, counts);
+}
+
+// All counters are set to 0.
+pub fn zero_counts(t: &mut [u16; WORDS])
+    ensures { λ _. ⌜ Becomes (now (t .entry)) (now (t .exit)) (withLinks (tableOf (now (t .entry)))
+        (tableOf (now (t .entry)) .targets) (tableOf (now (t .entry)) .bits) (replicate (places * counters) 0)) ⌝ }
+{
+    sized(t);
+    let mut q: usize = 0;
+    // The counters below q are 0.
+    while q < COUNTS {
+        t[COUNTS_FROM + q] = 0;
+        q += 1;
+    }
 }
 
 // Counter b of step j falls by one; step 0 stands for no step.

@@ -66,7 +66,7 @@ unfolding stepsBelow
 steps-miss v t i u = rw (add-one i, u) (append-nil (stepsBelow v t i))
 
 -- bytes lent from a place on come back behind those before it
-part-back : (bytes front back new : List ℕ) (at n : ℕ) → bytes ≡ front ++ back → length front ≡ at → n ≤ length back →
+pub part-back : (bytes front back new : List ℕ) (at n : ℕ) → bytes ≡ front ++ back → length front ≡ at → n ≤ length back →
     take at bytes ++ ((new ++ drop n (take (length bytes - at) (drop at bytes))) ++ drop (length bytes - at) (drop at bytes))
     ≡ (front ++ new) ++ drop n back
 part-back bytes front back new at n e l h =

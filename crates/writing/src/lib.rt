@@ -5,7 +5,7 @@ ghost use mathlib.Core.Bool.{true};
 ghost use mathlib.Core.List.{_++_};
 ghost use Prim.Native.Nat.{_+_, _*_, _<_, _≤_};
 ghost use lib.ListN.{length, drop};
-ghost use Rattle.table.specs.Table.{places, inUse, stepsInUse};
+ghost use Rattle.table.specs.Table.{places, stepsInUse};
 ghost use Rattle.table.specs.Sound.{sound};
 ghost use Rattle.table.specs.Answer.{first};
 ghost use Rattle.image.specs.Image.{edition2, stepFieldsOf, image, imageLength, put, roomTests, lengthCall, writeCall};
@@ -23,9 +23,9 @@ fn pack(first: u16, second: u16, third: u16, fourth: u16, own: u16) -> u16
     first + 2 * second + 4 * third + 8 * fourth + 16 * own
 }
 
-// The record of step i, which is in use, of a sound table.
-fn step_record(t: &[u16; WORDS], i: usize) -> StepRecord
-    requires { ⌜ (i < places) × (sound (tableOf (now t)) ≡ true) × (inUse (tableOf (now t)) i ≡ true) ⌝ }
+// The record of step i of a sound table, in use or free.
+pub fn step_record(t: &[u16; WORDS], i: usize) -> StepRecord
+    requires { ⌜ (i < places) × (sound (tableOf (now t)) ≡ true) ⌝ }
     ensures { λ r. ⌜ recordFields edition2 r ≡ stepFieldsOf edition2 (tableOf (now (t .entry))) i ⌝ }
 {
     let sum = pack(

@@ -60,8 +60,24 @@ pub fn checked(before: &View, after: &View, answer: (u16, u16)) -> Result<Change
         Change::Cleared(clearing) => (clearing.doubtful().len(), clearing.freed.len()),
         Change::Nothing => (after.steps.len(), after.free()),
     };
+    agreed(change, shown, answer)
+}
+
+/// The clearing that a take-back took back, where the two numbers of its answer are those that the tables show; else what differs.
+pub fn taken_back(before: &View, after: &View, answer: (u16, u16)) -> Result<Clearing, String> {
+    match change(after, before) {
+        Change::Cleared(clearing) => {
+            let shown = (clearing.freed.len(), 0);
+            agreed(clearing, shown, answer)
+        }
+        _ => Err("no clearing was taken back".to_string()),
+    }
+}
+
+/// What the tables show, where its two numbers are those of the call's answer.
+fn agreed<T>(seen: T, shown: (usize, usize), answer: (u16, u16)) -> Result<T, String> {
     if shown == (answer.0.into(), answer.1.into()) {
-        return Ok(change);
+        return Ok(seen);
     }
     Err(format!("the tables show the numbers {shown:?}, and the call answered {answer:?}"))
 }

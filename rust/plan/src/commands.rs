@@ -1,11 +1,11 @@
 //! The commands. Each reads what it is given, asks the library, and only then writes.
 
 use crate::files::{
-    broken_rule, give, give_image, give_table, goes_nowhere, image_bytes, input, input_failed,
-    load, print, refused_image, say, shown,
+    broken_rule, give, give_cleared, give_image, give_table, goes_nowhere, image_bytes, input,
+    input_failed, load, print, refused_image, say, shown, slip_bytes,
 };
 use crate::{number, Failure, Request};
-use plan::change::{checked, Change};
+use plan::change::{checked, taken_back, Change};
 use plan::check::edition;
 use plan::diff::{diff, Verdict};
 use plan::draw::{as_dot, as_svg};
@@ -16,7 +16,8 @@ use std::ffi::{OsStr, OsString};
 use std::io::{self, BufRead, BufReader, IsTerminal, Read};
 use std::path::Path;
 use telephone::{
-    convert_down, convert_up, raw, sole_quotas, Quota, Quotas, Refusal, Table, CABINS, IMAGE_MAX,
+    convert_down, convert_up, raw, slip_length, sole_quotas, Quota, Quotas, Refusal, Table, CABINS,
+    IMAGE_MAX, SLIP_MAX,
 };
 
 /// A command of the program.
@@ -53,7 +54,7 @@ const STORE: &str = "-o FILE";
 /// Guarantees and limits.
 const LIST: &str = "[G/L ..]";
 
-pub const COMMANDS: [Command; 12] = [
+pub const COMMANDS: [Command; 13] = [
     Command {
         name: "fresh",
         words: &["CAPACITY", LIST],
@@ -105,10 +106,18 @@ pub const COMMANDS: [Command; 12] = [
     Command {
         name: "clear",
         words: &["IMAGE", "STEP", "EXIT"],
-        options: &[STORE],
+        options: &["--slip SLIP", STORE],
         gist: "what clearing an exit does",
         help: CLEAR,
         run: clear,
+    },
+    Command {
+        name: "take-back",
+        words: &["IMAGE", "SLIP"],
+        options: &[STORE],
+        gist: "a clearing taken back by its slip",
+        help: TAKE_BACK,
+        run: take_back,
     },
     Command {
         name: "trial",
@@ -181,8 +190,17 @@ const CLEAR: &str = "\
 Says on standard error what clearing the exit does: which steps become
 doubtful, which of them stay and what holds each then, and which go. The new
 image goes to FILE, which may be IMAGE itself, or to standard output; at a
-terminal it goes nowhere, so that one can look before clearing.
-Exits: 0 answered, 1 engaged, 2 no reply, 3 line fault.
+terminal it goes nowhere, so that one can look before clearing. With --slip, a
+slip of the clearing is stored in the file SLIP, by which plan take-back takes
+it back. Exits: 0 answered, 1 engaged, 2 no reply, 3 line fault.
+";
+
+const TAKE_BACK: &str = "\
+Takes back the clearing of which SLIP is the slip, and says on standard error
+which steps are back in use and which are held as before. The new image goes to
+FILE, which may be IMAGE itself, or to standard output. Where a step of the slip
+is no longer as the clearing left it, or would not fit in again, it is refused
+by 18; other steps may have changed.
 ";
 
 const TRIAL: &str = "\
@@ -359,12 +377,35 @@ fn clear(request: &Request) -> Result<u8, Failure> {
     let (table, before) = viewed(&request.words[0])?;
     let step = number("the step", &request.words[1])?;
     let exit = number("the exit", &request.words[2])?;
-    let (table, answer) = call(&table, |table| raw::clear(table, step, exit)).map_err(refused)?;
-    let after = View::of(&table);
-    let Change::Cleared(clearing) = checked(&before, &after, answer)? else {
+    let mut slip = [0; SLIP_MAX];
+    let cleared = call(&table, |table| match request.slip {
+        Some(_) => raw::clear_with_slip(table, step, exit, &mut slip),
+        None => raw::clear(table, step, exit),
+    });
+    let (cleared, (doubtful, freed)) = cleared.map_err(refused)?;
+    let slip = &slip[..slip_length(&slip).unwrap_or(0)];
+    let after = View::of(&cleared);
+    let Change::Cleared(clearing) = checked(&before, &after, (doubtful, freed))? else {
         return Err("no exit was cleared".to_string());
     };
+    let back = || call(&cleared, |cleared| raw::take_back(cleared, slip));
+    if request.slip.is_some() && back() != Ok((table, (freed, 0))) {
+        return Err("the slip does not take the clearing back".to_string());
+    }
     say(&pages::cleared(&before, &after, &clearing))?;
+    give_cleared(request, &cleared, slip)?;
+    Ok(0)
+}
+
+fn take_back(request: &Request) -> Result<u8, Failure> {
+    let (table, before) = viewed(&request.words[0])?;
+    let name = &request.words[1];
+    let slip = slip_bytes(Path::new(name))?;
+    let taken = call(&table, |table| raw::take_back(table, &slip));
+    let (table, answer) =
+        taken.map_err(|refusal| format!("{}: {}", shown(name), refused(refusal)))?;
+    let after = View::of(&table);
+    say(&pages::taken_back(&after, &taken_back(&before, &after, answer)?))?;
     give_table(request, &table)?;
     Ok(0)
 }

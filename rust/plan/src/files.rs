@@ -9,7 +9,7 @@ use std::io::{self, IsTerminal, Read, Write};
 use std::os::fd::AsFd;
 use std::os::unix::fs::{fchown, MetadataExt};
 use std::path::{Path, PathBuf};
-use telephone::{Refusal, Table, IMAGE_MAX};
+use telephone::{Refusal, Table, IMAGE_MAX, SLIP_MAX};
 
 /// A word of the command line as it can be shown in one line.
 pub fn shown(word: &OsStr) -> String {
@@ -24,11 +24,21 @@ fn failed(path: &Path, error: io::Error) -> Failure {
     format!("{}: {error}", shown(path.as_os_str()))
 }
 
-/// The bytes of an image file. Of a file that is longer than any image, no more is read than shows it.
+/// The bytes of an image file.
 pub fn image_bytes(path: &Path) -> Result<Vec<u8>, Failure> {
+    bytes(path, LONGEST)
+}
+
+/// The bytes of a file with a slip.
+pub fn slip_bytes(path: &Path) -> Result<Vec<u8>, Failure> {
+    bytes(path, SLIP_MAX)
+}
+
+/// The bytes of a file. Of one that is too long, no more is read than shows it.
+fn bytes(path: &Path, longest: usize) -> Result<Vec<u8>, Failure> {
     let mut bytes = Vec::new();
     let file = File::open(path).map_err(|error| failed(path, error))?;
-    file.take(LONGEST as u64 + 1).read_to_end(&mut bytes).map_err(|error| failed(path, error))?;
+    file.take(longest as u64 + 1).read_to_end(&mut bytes).map_err(|error| failed(path, error))?;
     Ok(bytes)
 }
 
@@ -96,21 +106,42 @@ pub fn give(request: &Request, text: &str) -> Result<(), Failure> {
 
 /// Gives the image of a table.
 pub fn give_table(request: &Request, table: &Table) -> Result<(), Failure> {
-    let mut image = [0; IMAGE_MAX];
-    let length = table.write_image(&mut image).map_err(refused)?;
-    give_image(request, &image[..length])
+    give_cleared(request, table, &[])
 }
 
-/// Gives an image to standard output, or stores it where the command line says. A terminal gets no image.
+/// Gives the image of a table after a clearing, and stores its slip where the command line asks for it.
+pub fn give_cleared(request: &Request, table: &Table, slip: &[u8]) -> Result<(), Failure> {
+    let mut image = [0; IMAGE_MAX];
+    let length = table.write_image(&mut image).map_err(refused)?;
+    give_both(request, &image[..length], slip)
+}
+
+/// Gives an image.
 pub fn give_image(request: &Request, image: &[u8]) -> Result<(), Failure> {
-    match &request.output {
-        Some(path) => {
-            store(path, image)?;
-            say(&format!("stored in {}\n", shown(path.as_os_str())))
-        }
-        None if goes_nowhere(request) => say("not stored: -o FILE stores the new image\n"),
-        None => write(image),
+    give_both(request, image, &[])
+}
+
+/// Gives an image to standard output, or stores it where the command line says, and a slip with it. A terminal gets no image, and then no slip is
+/// stored.
+fn give_both(request: &Request, image: &[u8], slip: &[u8]) -> Result<(), Failure> {
+    let Request { output, slip: slip_path, .. } = request;
+    if goes_nowhere(request) {
+        let both = if slip_path.is_some() { " and the slip" } else { "" };
+        return say(&format!("not stored: -o FILE stores the new image{both}\n"));
     }
+    // the slip is put in its place last, when nothing else can fail
+    let begun = slip_path.as_ref().map(|path| begin(path, SLIP, slip)).transpose()?;
+    match output {
+        Some(path) => store(path, image)?,
+        None => write(image)?,
+    }
+    begun.map_or(Ok(()), end)?;
+    for (what, path) in [("", output), ("slip ", slip_path)] {
+        if let Some(path) = path {
+            say(&format!("{what}stored in {}\n", shown(path.as_os_str())))?;
+        }
+    }
+    Ok(())
 }
 
 /// Whether the image of a command goes nowhere: it is not stored, and a terminal gets none.
@@ -118,14 +149,33 @@ pub fn goes_nowhere(request: &Request) -> bool {
     request.output.is_none() && io::stdout().is_terminal()
 }
 
-/// Whether something can be stored where the command line says. It is asked before any work is done, so that no work is lost.
+/// Whether what a command gives can be stored where the command line says. It is asked before any work is done, so that no work is lost.
 pub fn can_store(request: &Request) -> Result<(), Failure> {
-    let Some(path) = &request.output else { return Ok(()) };
-    let tried = place(path).and_then(|place| match place {
-        Place::Device => Ok(()),
-        Place::Plain(path) => begun(&path).and_then(|_| fs::remove_file(beside(&path))),
-    });
-    tried.map_err(|error| failed(path, error))
+    for (path, ending) in [(&request.output, IMAGE), (&request.slip, SLIP)] {
+        let Some(path) = path else { continue };
+        let tried = place(path).and_then(|place| match place {
+            Place::Device => Ok(()),
+            Place::Plain(path) => Part::begun(path, ending).map(drop),
+        });
+        tried.map_err(|error| failed(path, error))?;
+    }
+    let others = [request.output.as_deref(), request.words.first().map(Path::new)];
+    match &request.slip {
+        Some(slip) if others.into_iter().flatten().any(|other| full(other) == full(slip)) => {
+            Err(format!("{}: a slip has to go to a file of its own", shown(slip.as_os_str())))
+        }
+        _ => Ok(()),
+    }
+}
+
+/// A path past all links; where nothing stands there, its folder's with its name.
+fn full(path: &Path) -> PathBuf {
+    let folder = path.parent().filter(|folder| !folder.as_os_str().is_empty());
+    let named = || {
+        let folder = fs::canonicalize(folder.unwrap_or(Path::new("."))).ok()?;
+        Some(folder.join(path.file_name()?))
+    };
+    fs::canonicalize(path).ok().or_else(named).unwrap_or_else(|| path.into())
 }
 
 /// What stands, or may stand, at a path.
@@ -152,39 +202,68 @@ fn place(path: &Path) -> io::Result<Place> {
 
 /// Puts bytes into a file, in place of what stood there.
 fn store(path: &Path, bytes: &[u8]) -> Result<(), Failure> {
-    let written = place(path).and_then(|place| match place {
-        Place::Device => File::options().write(true).open(path)?.write_all(bytes),
-        Place::Plain(path) => replace(&path, bytes),
-    });
-    written.map_err(|error| failed(path, error))
+    end(begin(path, IMAGE, bytes)?)
 }
 
-/// Writes the bytes beside a file first and then puts them in its place, with the permissions that it had and, where the system allows it, its owner.
-fn replace(path: &Path, bytes: &[u8]) -> io::Result<()> {
-    let written = || {
-        let mut file = begun(path)?;
-        file.write_all(bytes)?;
-        if let Ok(there) = fs::metadata(path) {
-            let _ = fchown(&file, Some(there.uid()), Some(there.gid()));
-            file.set_permissions(there.permissions())?;
+/// Bytes that are being stored, by the path that the command line has: a device has them already, of a plain file a part has them.
+type Begun<'a> = (&'a Path, Option<Part>);
+
+fn begin<'a>(path: &'a Path, ending: &str, bytes: &[u8]) -> Result<Begun<'a>, Failure> {
+    let part = place(path).and_then(|place| match place {
+        Place::Device => {
+            File::options().write(true).open(path)?.write_all(bytes)?;
+            Ok(None)
         }
-        file.sync_all()?;
-        fs::rename(beside(path), path)
-    };
-    written().inspect_err(|_| {
-        // the first error is the one to tell
-        let _ = fs::remove_file(beside(path));
-    })
+        Place::Plain(path) => {
+            let mut part = Part::begun(path, ending)?;
+            part.take(bytes)?;
+            Ok(Some(part))
+        }
+    });
+    part.map(|part| (path, part)).map_err(|error| failed(path, error))
 }
 
-/// A file begun beside a path, for this run alone.
-fn begun(path: &Path) -> io::Result<File> {
-    // what an earlier run of the same number left behind is nobody's
-    let _ = fs::remove_file(beside(path));
-    File::create_new(beside(path))
+fn end((path, part): Begun) -> Result<(), Failure> {
+    part.map_or(Ok(()), Part::put).map_err(|error| failed(path, error))
 }
 
-/// A name in the same folder that no other run uses.
-fn beside(path: &Path) -> PathBuf {
-    path.with_file_name(format!(".plan-{}.part", std::process::id()))
+/// How the names of parts end: of an image or a picture, and of a slip.
+const IMAGE: &str = "part";
+const SLIP: &str = "slip";
+
+/// A file beside another, with a name that no other run uses. It goes with this value, unless it was put in the other's place.
+struct Part {
+    file: File,
+    name: PathBuf,
+    place: PathBuf,
+}
+
+impl Part {
+    fn begun(place: PathBuf, ending: &str) -> io::Result<Part> {
+        let name = place.with_file_name(format!(".plan-{}.{ending}", std::process::id()));
+        // what an earlier run of the same number left behind is nobody's
+        let _ = fs::remove_file(&name);
+        Ok(Part { file: File::create_new(&name)?, name, place })
+    }
+
+    /// Takes all bytes, and the permissions of the other file and, where the system allows it, its owner.
+    fn take(&mut self, bytes: &[u8]) -> io::Result<()> {
+        self.file.write_all(bytes)?;
+        if let Ok(there) = fs::metadata(&self.place) {
+            let _ = fchown(&self.file, Some(there.uid()), Some(there.gid()));
+            self.file.set_permissions(there.permissions())?;
+        }
+        self.file.sync_all()
+    }
+
+    fn put(self) -> io::Result<()> {
+        fs::rename(&self.name, &self.place)
+    }
+}
+
+impl Drop for Part {
+    fn drop(&mut self) {
+        // there is none by this name where it was put in its place
+        let _ = fs::remove_file(&self.name);
+    }
 }

@@ -20,6 +20,8 @@ pub struct Request {
     pub words: Vec<OsString>,
     /// Where the result is stored; standard output where nothing is said.
     pub output: Option<PathBuf>,
+    /// Where the slip of a clearing is stored.
+    pub slip: Option<PathBuf>,
     pub limit: Option<u16>,
     pub dot: bool,
     pub skip_refused: bool,
@@ -94,6 +96,7 @@ fn request(command: &Command, words: &[OsString]) -> Result<Request, Failure> {
             match text {
                 "--dot" => request.dot = true,
                 "--skip-refused" => request.skip_refused = true,
+                "--slip" => request.slip = Some(next(text, words.next())?.into()),
                 "--limit" => request.limit = Some(number("the limit", next(text, words.next())?)?),
                 _ => request.output = Some(next(text, words.next())?.into()),
             }

@@ -55,12 +55,8 @@ pub fn show(view: &View) -> String {
         let cabin = if number == 0 { String::new() } else { format!(", cabin {}", step.cabin) };
         page.push(format!("{}{cabin}{}", named(view, number), bits_and_links(view, number)));
         for exit in Exit::ALL {
-            let held = match view.link(number, exit) {
-                Some(held) => {
-                    format!("{} link to {}", strength(&held), named(view, held.link.target))
-                }
-                None => "empty".to_string(),
-            };
+            let held = view.link(number, exit);
+            let held = held.map_or("empty".to_string(), |held| link(view, &held));
             page.push(format!("    {} {exit:<10}  {held}", exit.number()));
         }
     }
@@ -83,6 +79,11 @@ fn bits_and_links(view: &View, number: u16) -> String {
         words += if words.is_empty() { ": own bit 1" } else { "; own bit 1" };
     }
     words
+}
+
+/// A link by its strength and its target, as `weak link to step 2 (contact 7)`.
+fn link(view: &View, held: &Held) -> String {
+    format!("{} link to {}", strength(held), named(view, held.link.target))
 }
 
 fn weak(number: usize) -> String {
@@ -131,26 +132,52 @@ fn leading(view: &View, held: &Held) -> String {
 
 /// What a clearing does, line by line: the steps that become doubtful, which of them stay and what holds each then, and which go.
 pub fn cleared(before: &View, after: &View, clearing: &Clearing) -> String {
-    let mut page = Vec::new();
-    let link = &clearing.link;
-    let target = link.link.target;
-    let was = format!("a {} link to {}", strength(link), named(before, target));
-    page.push(format!("clearing {} ({}): {was}", place(link), link.exit));
+    let held = &clearing.link;
+    let mut page = vec![format!("clearing {}: a {}", exit(held), link(before, held))];
     let doubtful = clearing.doubtful();
     if doubtful.is_empty() {
-        page.push(format!("no step becomes doubtful: {}", held_by(after, target, " is held")));
+        let held = held_by(after, held.link.target, " is held");
+        page.push(format!("no step becomes doubtful: {held}"));
         return text(&page);
     }
     page.push(format!("doubtful: {}", steps(&doubtful)));
     page.push(format!("of these stay: {}", some(clearing.stayed.len())));
-    for &step in &clearing.stayed {
-        page.push(format!("    {} is held by {}", named(after, step), holders(after, step)));
-    }
+    page.extend(held_steps(after, &clearing.stayed));
     page.push(format!("of these go: {}", some(clearing.freed.len())));
     for &step in &clearing.freed {
         page.push(format!("    {}", named(before, step)));
     }
     text(&page)
+}
+
+/// What taking back a clearing does, line by line, given the table after it: the link that is back, the steps that are back in use, and those that are
+/// held as they were before the clearing.
+pub fn taken_back(after: &View, clearing: &Clearing) -> String {
+    let held = &clearing.link;
+    let mut page = vec![format!("{} is filled again: a {}", exit(held), link(after, held))];
+    if clearing.doubtful().is_empty() {
+        page.push("no other step changes".to_string());
+        return text(&page);
+    }
+    for (words, numbers) in
+        [("steps back in use", &clearing.freed), ("steps held as before", &clearing.stayed)]
+    {
+        page.push(format!("{words}: {}", some(numbers.len())));
+        page.extend(held_steps(after, numbers));
+    }
+    text(&page)
+}
+
+/// An exit with its name, as `exit 2 of step 1 (no reply)`.
+fn exit(held: &Held) -> String {
+    format!("{} ({})", place(held), held.exit)
+}
+
+/// A line for each step, which says what holds it.
+fn held_steps<'a>(view: &'a View, numbers: &'a [u16]) -> impl Iterator<Item = String> + 'a {
+    let line =
+        |&step: &u16| format!("    {} is held by {}", named(view, step), holders(view, step));
+    numbers.iter().map(line)
 }
 
 /// A number, or `none`.

@@ -7,14 +7,17 @@ use std::process::{Command, Output, Stdio};
 use telephone::{Table, IMAGE_MAX};
 
 /// Each command line, by the name of its output. The images stand in tests/images; those with a file .keys beside them were keyed. They are of edition 1
-/// but for ring-2, which is ring in edition 2, and those of several cabins.
-const CASES: [(&str, &str); 75] = [
+/// but for ring-2, which is ring in edition 2, and those of several cabins. The slips are those of clearing exit 0 of step 0 in ring and in cabins;
+/// cleared and cabins-cleared are the images after it.
+const CASES: [(&str, &str); 89] = [
     ("help", "--help"),
     ("help-key", "key --help"),
     ("help-add", "add --help"),
     ("help-fresh", "fresh --help"),
     ("help-trial", "trial ring.img --help"),
     ("help-convert", "convert --help"),
+    ("help-clear", "clear --help"),
+    ("help-take-back", "take-back --help"),
     ("no-command", ""),
     ("wrong-command", "shew ring.img"),
     ("wrong-option", "show --dot ring.img"),
@@ -56,6 +59,18 @@ const CASES: [(&str, &str); 75] = [
     ("clear-step-first", "clear ring.img 4 4"),
     ("clear-bad-exit", "clear ring.img 0 4"),
     ("clear-empty-exit", "clear ring.img 0 3"),
+    ("clear-with-slip", "clear cabins.img 0 0 --slip /dev/null"),
+    ("clear-slip-refused", "clear ring.img 0 3 --slip /dev/null"),
+    ("clear-slip-over-image", "clear ring.img 0 0 --slip ./ring.img"),
+    ("clear-slip-folder", "clear ring.img 0 0 --slip ."),
+    ("clear-slip-no-value", "clear ring.img 0 0 --slip"),
+    ("take-back-freed", "take-back cabins-cleared.img cabins.slip"),
+    ("take-back-held", "take-back cleared.img ring.slip"),
+    ("take-back-twice", "take-back ring.img ring.slip"),
+    ("take-back-other-plan", "take-back cleared.img cabins.slip"),
+    ("take-back-no-slip", "take-back cleared.img ring.img"),
+    ("take-back-damaged", "take-back target.img ring.slip"),
+    ("take-back-missing", "take-back cleared.img missing.slip"),
     ("trial", "trial ring.img 212"),
     ("trial-open-at-once", "trial cleared.img"),
     ("trial-stopped", "trial ring.img 1111 --limit 3"),
@@ -314,6 +329,94 @@ fn needs_edition_2() {
     }
 }
 
+/// A clearing with a slip gives the image and the slip, and is taken back by it: on standard output, and over the image itself.
+#[test]
+fn slips() {
+    let (image_path, slip_path) = (scratch("slips.img"), scratch("slips.slip"));
+    let (file, slip) = (image_path.to_str().unwrap(), slip_path.to_str().unwrap());
+    for (name, cleared) in [("ring", "cleared"), ("cabins", "cabins-cleared")] {
+        let name = format!("{name}.img");
+        let given = output(&mut plan(&["clear", &name, "0", "0", "--slip", slip]));
+        assert_eq!(given.stdout, written(&format!("{cleared}.img")), "{}", text(&given.stderr));
+        assert!(text(&given.stderr).ends_with(&format!("slip stored in {slip}\n")));
+        assert_eq!(fs::read(&slip_path).unwrap(), image(&name.replace("img", "slip")));
+        fs::write(&image_path, &given.stdout).unwrap();
+        let given = output(&mut plan(&["take-back", file, slip]));
+        assert_eq!(given.stdout, written(&name), "{}", text(&given.stderr));
+        assert!(output(&mut plan(&["take-back", file, slip, "-o", file])).status.success());
+        assert_eq!(fs::read(&image_path).unwrap(), written(&name));
+        let twice = output(&mut plan(&["take-back", file, slip, "-o", file]));
+        let words = format!("plan: {slip}: refused by 18: slip not accepted\n");
+        assert!(is_failure(&twice) && text(&twice.stderr) == words, "{}", text(&twice.stderr));
+        assert_eq!(fs::read(&image_path).unwrap(), written(&name));
+    }
+}
+
+/// Every exit of an image, cleared and taken back.
+#[test]
+fn every_clearing_taken_back() {
+    let (image_path, slip_path) = (scratch("every.img"), scratch("every.slip"));
+    let (file, slip) = (image_path.to_str().unwrap(), slip_path.to_str().unwrap());
+    let mut counts = [0; 2];
+    for (step, exit) in (0..5).flat_map(|step| (0..4).map(move |exit| (step, exit))) {
+        let (step, exit) = (step.to_string(), exit.to_string());
+        let _ = fs::remove_file(&slip_path);
+        let given =
+            output(plan(&["clear", "cabins.img", &step, &exit]).args(["--slip", slip, "-o", file]));
+        counts[usize::from(given.status.success())] += 1;
+        if !given.status.success() {
+            assert!(is_failure(&given) && !slip_path.exists(), "exit {exit} of step {step}");
+            continue;
+        }
+        let back = output(&mut plan(&["take-back", file, slip]));
+        assert_eq!(back.stdout, image("cabins.img"), "exit {exit} of step {step}");
+    }
+    assert_eq!(counts, [15, 5]);
+}
+
+/// A slip and an image are stored both or not at all, and nothing is left beside them.
+#[test]
+fn stored_slips() {
+    let folder = scratch("stored_slips");
+    let _ = fs::remove_dir_all(&folder);
+    fs::create_dir(&folder).unwrap();
+    let (image_path, slip_path) = (folder.join("plan.img"), folder.join("plan.slip"));
+    let (file, slip) = (image_path.to_str().unwrap(), slip_path.to_str().unwrap());
+    let other = folder.join("./plan.slip");
+    let full = || File::options().write(true).open("/dev/full").unwrap();
+    let clear = |exit, options: &[&str]| {
+        let mut command = plan(&["clear", "ring.img", "0", exit]);
+        command.args(options);
+        command
+    };
+    let failures = [
+        output(&mut clear("3", &["--slip", slip, "-o", file])),
+        output(&mut clear("0", &["--slip", slip, "-o", other.to_str().unwrap()])),
+        output(&mut clear("0", &["--slip", slip, "-o", "/proc/plan.img"])),
+        output(&mut clear("0", &["--slip", "/proc/plan.slip", "-o", file])),
+        output(&mut clear("0", &["--slip", slip, "-o", "/dev/full"])),
+        output(&mut clear("0", &["--slip", "/dev/full", "-o", file])),
+        output(clear("0", &["--slip", slip]).stdout(full())),
+        output(clear("0", &["--slip", slip, "-o", file]).stderr(full())),
+    ];
+    for given in failures {
+        assert_eq!(given.status.code(), Some(2), "{}", text(&given.stderr));
+        assert_eq!(fs::read_dir(&folder).unwrap().count(), 0, "{}", text(&given.stderr));
+    }
+    fs::write(&slip_path, b"other").unwrap();
+    fs::set_permissions(&slip_path, fs::Permissions::from_mode(0o640)).unwrap();
+    assert!(is_failure(&output(&mut clear("3", &["--slip", slip]))));
+    assert_eq!(fs::read(&slip_path).unwrap(), b"other");
+    let given = output(&mut clear("0", &["--slip", slip, "-o", file]));
+    let said = format!("of these go: none\nstored in {file}\nslip stored in {slip}\n");
+    assert!(given.status.success() && text(&given.stderr).ends_with(&said));
+    assert_eq!(fs::read(&slip_path).unwrap(), image("ring.slip"));
+    assert_eq!(fs::metadata(&slip_path).unwrap().permissions().mode() & 0o777, 0o640);
+    assert_eq!(fs::read(&image_path).unwrap(), written("cleared.img"));
+    assert_eq!(fs::read_dir(&folder).unwrap().count(), 2, "something was left beside the files");
+    fs::remove_dir_all(&folder).unwrap();
+}
+
 /// -o stores what standard output would get, also over the image itself; a command that fails leaves the file as it was, and nothing beside it.
 #[test]
 fn stored_files() {
@@ -365,6 +468,7 @@ fn reading_and_writing_fail() {
         "fresh 4",
         "squeeze ring.img 9",
         "convert ring.img 2",
+        "take-back cleared.img ring.slip",
         "key ring.img",
     ] {
         let words: Vec<&str> = line.split(' ').collect();
@@ -404,6 +508,7 @@ fn odd_words() {
             &["add", "ring.img", "0", "3", "1", "7", word],
             &["convert", "ring.img", word],
             &["convert", word, "2"],
+            &["take-back", "cleared.img", word],
         ] {
             let given = output(&mut plan(line));
             assert!(is_failure(&given), "{line:?}: {}", text(&given.stderr));
@@ -446,6 +551,13 @@ fn long_files() {
             assert_eq!(output(&mut plan(&["check", file])).status.code(), Some(1), "{length}");
         }
     }
+    for length in [0, 5, 6, 50, 181, 183, 5638, 5639, 65_536, 65_718, 3_000_000] {
+        let mut bytes = image("ring.slip");
+        bytes.resize(length, 0);
+        fs::write(&path, &bytes).unwrap();
+        assert!(is_failure(&output(&mut plan(&["take-back", "cleared.img", file]))), "{length}");
+    }
+    assert!(is_failure(&output(&mut plan(&["take-back", "cleared.img", "/dev/zero"]))));
     assert!(is_failure(&output(&mut plan(&["show", "/dev/zero"]))));
     let line = [&vec![b'9'; 1 << 20][..], b"\nH*4A\n"].concat();
     let given = output(fed(&mut plan(&["key", "ring.img", "--skip-refused"]), &line));
@@ -468,6 +580,11 @@ fn at_a_terminal() {
         let nowhere = format!("{end}\nnot stored: -o FILE stores the new image\n");
         assert!(said.ends_with(&nowhere), "{said}");
     }
+    let slip = scratch("at_a_terminal.slip");
+    let _ = fs::remove_file(&slip);
+    let said = at_terminal(&format!("clear ring.img 0 0 --slip {}", slip.display()), b"");
+    let nowhere = "not stored: -o FILE stores the new image and the slip\n";
+    assert!(said.ends_with(nowhere) && !slip.exists(), "{said}");
     let path = scratch("at_a_terminal.img");
     let line = format!("key ring.img -o {}", path.display());
     let said = at_terminal(&line, b"H*30003A\nH*30000A\n");

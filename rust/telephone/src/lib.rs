@@ -5,6 +5,8 @@
 //!
 //! Eight cabins share a plan: each step is charged to the cabin that added it, within the guarantees and limits of [`Quotas`].
 //!
+//! A clearing can be taken back by its slip: [`Table::clear_with_slip`], [`Table::take_back`].
+//!
 //! Images are written in edition 2 of the format and loaded in both; [`convert_up`] and [`convert_down`] turn an image of one edition into the other.
 //!
 //! ```
@@ -43,6 +45,8 @@ pub const EXITS: usize = 4;
 pub const CABINS: usize = 8;
 /// Bytes of the largest image that is written, by a table or by a conversion. The largest of edition 1 has 2,570.
 pub const IMAGE_MAX: usize = 2858;
+/// Bytes of the largest slip of a clearing.
+pub const SLIP_MAX: usize = 5638;
 /// Bytes of stack for any call of the library, with the caller's table.
 pub const STACK_MAX: usize = 16 * 1024;
 
@@ -107,6 +111,8 @@ pub enum Refusal {
     BadCabins,
     /// 17: image needs edition 2: a cabin, guarantee or limit that edition 1 cannot say.
     NeedsEdition2,
+    /// 18: slip not accepted.
+    SlipNotAccepted,
     /// A number that this crate does not know. The library of this edition gives none.
     Unknown(u16),
 }
@@ -132,6 +138,7 @@ impl Refusal {
             Refusal::StepsReserved => 15,
             Refusal::BadCabins => 16,
             Refusal::NeedsEdition2 => 17,
+            Refusal::SlipNotAccepted => 18,
             Refusal::Unknown(number) => number,
         }
     }
@@ -157,6 +164,7 @@ impl Refusal {
             15 => Refusal::StepsReserved,
             16 => Refusal::BadCabins,
             17 => Refusal::NeedsEdition2,
+            18 => Refusal::SlipNotAccepted,
             _ => Refusal::Unknown(number),
         })
     }
@@ -186,6 +194,7 @@ impl fmt::Display for Refusal {
             Refusal::NeedsEdition2 => {
                 "image needs edition 2: a cabin, guarantee or limit that edition 1 cannot say"
             }
+            Refusal::SlipNotAccepted => "slip not accepted",
             Refusal::Unknown(number) => return write!(f, "unknown refusal {number}"),
         })
     }
@@ -295,6 +304,13 @@ pub struct Cleared {
     pub doubtful: u16,
     /// Steps that were freed.
     pub freed: u16,
+}
+
+/// Bytes of the slip that a buffer begins with, as its third word says: the number of steps that changed. None where the buffer has no three words.
+pub fn slip_length(buffer: &[u8]) -> Option<usize> {
+    // three words, and the old and the new record of each changed step
+    let third = buffer.get(4..6)?;
+    Some(6 + 44 * usize::from(u16::from_le_bytes([third[0], third[1]])))
 }
 
 /// The spoken counts of a table. Together they are its capacity.
@@ -501,6 +517,40 @@ impl Table {
     pub fn clear(&mut self, step: u16, exit: Exit) -> Result<Cleared, Refusal> {
         let (doubtful, freed) = two(raw::clear(&mut self.0, step, exit.number()))?;
         Ok(Cleared { doubtful, freed })
+    }
+
+    /// Empties an exit as [`Table::clear`] does, and writes a slip of it to the start of a lent buffer, by which [`Table::take_back`] takes it back. Gives
+    /// the length of the slip as well, at most [`SLIP_MAX`]. A buffer that is shorter than this slip is refused, and nothing is cleared.
+    ///
+    /// ```
+    /// use telephone::{sole_quotas, Exit, Kind, Table, SLIP_MAX};
+    ///
+    /// let mut table = Table::fresh(4, &sole_quotas(4))?;
+    /// table.add(0, Exit::Answered, Kind::Contact(7), 0)?;
+    /// let (before, mut slip) = (table.clone(), [0; SLIP_MAX]);
+    /// let (cleared, length) = table.clear_with_slip(0, Exit::Answered, &mut slip)?;
+    /// assert_eq!((cleared.doubtful, cleared.freed, length), (1, 1, 94));
+    /// assert_eq!(table.take_back(&slip[..length])?, 1); // that was the wrong exit
+    /// assert_eq!(table, before);
+    /// # Ok::<(), telephone::Refusal>(())
+    /// ```
+    pub fn clear_with_slip(
+        &mut self,
+        step: u16,
+        exit: Exit,
+        buffer: &mut [u8],
+    ) -> Result<(Cleared, usize), Refusal> {
+        let reply = raw::clear_with_slip(&mut self.0, step, exit.number(), buffer);
+        let (doubtful, freed) = two(reply)?;
+        Ok((Cleared { doubtful, freed }, slip_length(buffer).unwrap_or(0)))
+    }
+
+    /// Takes back the clearing of a slip, which is exactly these bytes; gives the number of steps brought back into use. The last number given stays.
+    ///
+    /// It is refused where a step of the slip is no longer as the clearing left it, or where the table would not be sound with its steps of before, as
+    /// when a cabin has reached its limit meanwhile. Other steps may have changed. Right after it was taken back the slip is refused.
+    pub fn take_back(&mut self, slip: &[u8]) -> Result<u16, Refusal> {
+        two(raw::take_back(&mut self.0, slip)).map(|(back, _)| back)
     }
 
     /// Squeezes the table into that capacity, which may also be larger, and gives it these guarantees and limits. The steps in use are renumbered from

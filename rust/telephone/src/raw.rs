@@ -153,6 +153,14 @@ unsafe extern "C" {
     pub safe fn counts(t: &Table) -> Reply;
     #[link_name = "plan_image_length"]
     pub safe fn image_length(t: &Table) -> WriteReply;
+    fn plan_clear_with_slip(
+        t: &mut Table,
+        step: u16,
+        exit: u16,
+        buffer: *mut u8,
+        length: usize,
+    ) -> Reply;
+    fn plan_take_back(t: &mut Table, slip: *const u8, length: usize) -> Reply;
     fn plan_trial(
         t: &Table,
         limit: u16,
@@ -172,6 +180,18 @@ unsafe extern "C" {
         room: usize,
     ) -> WriteReply;
     fn plan_key_line(t: &mut Table, line: *const u8, length: usize) -> Reply;
+}
+
+/// Empties an exit as `clear` does, and writes a slip of it to the start of a buffer.
+pub fn clear_with_slip(t: &mut Table, step: u16, exit: u16, buffer: &mut [u8]) -> Reply {
+    // SAFETY: the slice is valid for its length and does not overlap the table, and the call does not keep it.
+    unsafe { plan_clear_with_slip(t, step, exit, buffer.as_mut_ptr(), buffer.len()) }
+}
+
+/// Takes back the clearing of a slip.
+pub fn take_back(t: &mut Table, slip: &[u8]) -> Reply {
+    // SAFETY: as above.
+    unsafe { plan_take_back(t, slip.as_ptr(), slip.len()) }
 }
 
 /// Goes through the plan from step 0, where each contact uses up a line result, for at most so many moves; writes the steps entered to the start of

@@ -2,7 +2,7 @@
 
 use telephone::{
     check_edition, convert_down, convert_up, raw, sole_quotas, Cleared, Counts, Ending, Exit, Kind,
-    Link, Quota, Quotas, Refusal, Table, CABINS, IMAGE_MAX,
+    Link, Quota, Quotas, Refusal, Table, CABINS, IMAGE_MAX, SLIP_MAX,
 };
 
 #[test]
@@ -226,14 +226,16 @@ fn trials_refused() {
     refused(table.as_raw(), 65535, &[], 0, 11);
 }
 
+/// Bytes as words of two bytes, the low one first.
+fn words(bytes: &[u8]) -> Vec<u16> {
+    bytes.chunks(2).map(|two| u16::from_le_bytes([two[0], two[1]])).collect()
+}
+
 /// The image of such a table, its header and its record of step 2 by their fields.
 fn images_of(table: &Table, bits: [u16; 4]) -> Vec<u8> {
     let mut image = vec![0; 42 + 8 * 22];
     let length = image.len();
     assert_eq!((table.image_length(), table.write_image(&mut image)), (Ok(length), Ok(length)));
-    let words = |bytes: &[u8]| -> Vec<u16> {
-        bytes.chunks(2).map(|two| u16::from_le_bytes([two[0], two[1]])).collect()
-    };
     let (header, steps) = image.split_at(42);
     assert_eq!(words(&header[..10]), [42, 3, 11, 9, 8]);
     let quotas = listed(11).map(|quota| [quota.guarantee, quota.limit]);
@@ -261,6 +263,183 @@ fn counts_of_a_clearing() {
     assert_eq!(table.key_line(b"H*100222015A"), Ok((4, 0)));
     assert_eq!(table.read(4).unwrap().kind, Kind::Message(15));
     assert_eq!(table.read(2).unwrap().exit(Exit::NoReply), Some(Link { target: 4, bit: 0 }));
+}
+
+/// Clears an exit with a slip: gives the table after it, the counts and the slip. It has to be what `clear` gives, and leave the bytes past the slip.
+/// The room is just enough, and then more; one byte less, or none, is refused.
+#[track_caller]
+fn cleared(table: &Table, step: u16, exit: Exit) -> (Table, Cleared, Vec<u8>) {
+    let mut after = table.clone();
+    let counts = after.clear(step, exit).unwrap();
+    let mut slip = vec![0; 50 + 44 * usize::from(counts.doubtful)];
+    let length = slip.len();
+    assert_eq!(table.clone().clear_with_slip(step, exit, &mut slip), Ok((counts, length)));
+    // the last room is one byte short in 16 bits
+    for more in [0, 1, 65_535] {
+        let (mut other, mut buffer) = (table.clone(), vec![99; length + more]);
+        assert_eq!(other.clear_with_slip(step, exit, &mut buffer), Ok((counts, length)));
+        let (written, past) = buffer.split_at(length);
+        assert!(other == after && written == slip && past.iter().all(|&byte| byte == 99));
+    }
+    for room in [0, length - 1] {
+        not_cleared(table.as_raw(), (step, exit.number()), room, Refusal::TooShort);
+    }
+    (after, counts, slip)
+}
+
+/// A clearing with a slip has to be refused so, with no other number, and change nothing.
+#[track_caller]
+fn not_cleared(table: &raw::Table, (step, exit): (u16, u16), room: usize, refusal: Refusal) {
+    let (mut lent, mut buffer) = (table.clone(), vec![99; room]);
+    let reply = raw::clear_with_slip(&mut lent, step, exit, &mut buffer);
+    assert_eq!(reply, raw::Reply { refusal: refusal.number(), first: 0, second: 0 });
+    assert!(lent == *table && buffer.iter().all(|&byte| byte == 99));
+}
+
+/// A slip has to be refused, and nothing changes.
+#[track_caller]
+fn not_taken_back(table: &Table, slip: &[u8]) {
+    let mut after = table.clone();
+    assert_eq!((after.take_back(slip), &after), (Err(Refusal::SlipNotAccepted), table));
+}
+
+/// Every exit of several tables, cleared and taken back, once. A slip cut short, or with a byte more, is refused.
+#[test]
+fn clearings_taken_back() {
+    let different = |bits| Table::from_raw(different(bits)).unwrap();
+    for table in [ring(), different([0, 1, 0, 1]), different([0, 0, 1, 1]), different([1, 0, 0, 1])]
+    {
+        let exits = (0..11).flat_map(|step| Exit::ALL.map(|exit| (step, exit)));
+        for (step, exit) in exits {
+            if let Err(refusal) = table.clone().clear(step, exit) {
+                not_cleared(table.as_raw(), (step, exit.number()), 50, refusal);
+                continue;
+            }
+            let (mut after, counts, slip) = cleared(&table, step, exit);
+            for length in 0..slip.len() {
+                not_taken_back(&after, &slip[..length]);
+            }
+            not_taken_back(&after, &[&slip[..], &[0]].concat());
+            assert_eq!((after.take_back(&slip), &after), (Ok(counts.freed), &table));
+            not_taken_back(&after, &slip);
+        }
+    }
+    let mut full = fresh(128);
+    for step in 0..127 {
+        full.add(step, Exit::Answered, Kind::Contact(0), 0).unwrap();
+    }
+    let (mut after, _, slip) = cleared(&full, 0, Exit::Answered);
+    assert_eq!(slip.len(), SLIP_MAX);
+    not_taken_back(&after, &[&slip[..], &[0; 65_536]].concat());
+    assert_eq!((after.take_back(&slip), after), (Ok(127), full));
+}
+
+/// A table of three cabins: step 2 stays where exit 0 of step 0 is cleared, and step 1 goes. One free step is kept for cabin 0.
+fn three_cabins() -> Table {
+    let mut table = Table::fresh(5, &list(&[(1, 1), (0, 2), (0, 0), (0, 2)])).unwrap();
+    table.add(0, Exit::Answered, Kind::Contact(7), 3).unwrap();
+    table.add(1, Exit::NoReply, Kind::Wait(600), 1).unwrap();
+    table.link(1, Exit::NoReply, 0, Exit::LineFault).unwrap();
+    table
+}
+
+/// The slip by its words: step, exit and the number of changed steps, then the old and the new record of each.
+#[test]
+fn slips() {
+    let (_, counts, slip) = cleared(&three_cabins(), 0, Exit::Answered);
+    assert_eq!(counts, Cleared { doubtful: 2, freed: 1 });
+    let head = [0, 0, 3];
+    let steps = [
+        [22, 4, 0, 0, 0, 8, 1, 0, 0, 2, 0, 22, 4, 0, 0, 0, 8, 0, 0, 0, 2, 0],
+        [22, 4, 1, 1, 7, 0, 0, 0, 2, 0, 3, 22, 4, 1, 0, 0, 0, 0, 0, 0, 0, 0],
+        [22, 4, 2, 3, 600, 0, 0, 0, 0, 0, 1, 22, 4, 2, 3, 600, 16, 0, 0, 0, 0, 1],
+    ];
+    assert_eq!(words(&slip), [&head[..], &steps.concat()].concat());
+    let (_, _, slip) = cleared(&three_cabins(), 0, Exit::LineFault);
+    assert_eq!(words(&slip[..6]), [0, 3, 1]);
+}
+
+/// 1 before 3 before 4 before 6 before 11, and 1 before 18. A safe table is sound, so 1 is for the calls on any table.
+#[test]
+fn slips_refused() {
+    let table = three_cabins();
+    let unsound = raw::Table { last: 5, ..table.as_raw().clone() };
+    for room in [0, SLIP_MAX] {
+        for place in [(0, 0), (9, 9)] {
+            not_cleared(&unsound, place, room, Refusal::NotSound);
+        }
+        for (place, refusal) in [
+            ((3, 4), Refusal::NotInUse),
+            ((65535, 0), Refusal::NotInUse),
+            ((0, 4), Refusal::BadExit),
+            ((1, 256), Refusal::BadExit),
+            ((0, 1), Refusal::ExitEmpty),
+        ] {
+            not_cleared(table.as_raw(), place, room, refusal);
+        }
+    }
+    let (after, _, slip) = cleared(&table, 0, Exit::Answered);
+    let unsound = raw::Table { last: 5, ..after.as_raw().clone() };
+    for slip in [&slip[..], &[]] {
+        let mut lent = unsound.clone();
+        let reply = raw::take_back(&mut lent, slip);
+        assert_eq!((reply, &lent), (raw::Reply { refusal: 1, first: 0, second: 0 }, &unsound));
+    }
+    // what no clearing of this table left
+    not_taken_back(&table, &slip);
+    for other in [vec![], vec![0; 6], vec![0; 138], vec![255; 138]] {
+        not_taken_back(&after, &other);
+    }
+    // the step, the exit, the number of steps; lengths, kinds, numbers and fields of records
+    for at in [0, 2, 3, 4, 5, 6, 8, 10, 16, 18, 28, 50, 54, 72, 76, 98, 103, 120, 137] {
+        let mut damaged = slip.clone();
+        damaged[at] ^= 64;
+        not_taken_back(&after, &damaged);
+    }
+    let (head, steps) = slip.split_at(6);
+    let [first, second, third] = [&steps[..44], &steps[44..88], &steps[88..]];
+    not_taken_back(&after, &[head, first, third, second].concat());
+    not_taken_back(&after, &[&[0, 0, 2, 0, 0, 0], first, second].concat());
+    not_taken_back(&after, &[&[0, 0, 0, 0, 4, 0], first, second, third, third].concat());
+}
+
+/// What may happen between a clearing and its take-back. The last number given stays.
+#[test]
+fn changes_before_a_take_back() {
+    let before = three_cabins();
+    let (after, _, slip) = cleared(&before, 0, Exit::Answered);
+    let add = |table: &mut Table, step, exit, cabin| table.add(step, exit, Kind::Wait(1), cabin);
+    // calls that change nothing
+    let mut table = after.clone();
+    assert_eq!(add(&mut table, 9, Exit::Answered, 0), Err(Refusal::NotInUse));
+    assert_eq!(table.counts(), Ok(Counts { in_use: 2, free: 3 }));
+    assert_eq!((table.take_back(&slip), &table), (Ok(1), &before));
+    // a step at the cleared exit, which goes again
+    let mut table = after.clone();
+    assert_eq!(add(&mut table, 0, Exit::Answered, 0), Ok(3));
+    not_taken_back(&table, &slip);
+    assert_eq!(table.clear(0, Exit::Answered), Ok(Cleared { doubtful: 1, freed: 1 }));
+    assert_eq!(table.take_back(&slip), Ok(1));
+    assert_eq!(*table.as_raw(), raw::Table { last: 3, ..before.as_raw().clone() });
+    // a step elsewhere, which stays; where cabin 0 did not add it, no step would be left for cabin 0
+    let mut before = before;
+    before.add(0, Exit::Engaged, Kind::Message(3), 3).unwrap();
+    let (after, _, slip) = cleared(&before, 0, Exit::Answered);
+    let mut table = after.clone();
+    assert_eq!(add(&mut table, 3, Exit::Answered, 0), Ok(4));
+    assert_eq!(add(&mut before, 3, Exit::Answered, 0), Ok(4));
+    assert_eq!((table.take_back(&slip), &table), (Ok(1), &before));
+    for cabin in [1, 3] {
+        let mut table = after.clone();
+        assert_eq!(add(&mut table, 3, Exit::Answered, cabin), Ok(4));
+        not_taken_back(&table, &slip);
+    }
+    // a number given again
+    let mut table = after.clone();
+    assert_eq!(add(&mut table, 3, Exit::Answered, 0), Ok(4));
+    table.clear(3, Exit::Answered).unwrap();
+    assert_eq!(add(&mut table, 3, Exit::Answered, 0), Ok(1));
+    not_taken_back(&table, &slip);
 }
 
 /// The most moves, by a wait and by a contact, and lengths that 16 bits do not hold.
@@ -679,7 +858,7 @@ fn numbers_go_there_and_back() {
     for number in 1..=65535 {
         let refusal = Refusal::check(number).unwrap_err();
         assert_eq!(refusal.number(), number);
-        assert_eq!(matches!(refusal, Refusal::Unknown(_)), number > 17);
+        assert_eq!(matches!(refusal, Refusal::Unknown(_)), number > 18);
     }
     assert_eq!(Refusal::Full.to_string(), "steps in use equal the capacity");
     for (number, words) in [
@@ -688,7 +867,8 @@ fn numbers_go_there_and_back() {
         (15, "only steps reserved for other cabins are free"),
         (16, "cabin above 7, or bad list of guarantees and limits"),
         (17, "image needs edition 2: a cabin, guarantee or limit that edition 1 cannot say"),
-        (18, "unknown refusal 18"),
+        (18, "slip not accepted"),
+        (19, "unknown refusal 19"),
     ] {
         assert_eq!(Refusal::check(number).unwrap_err().to_string(), words);
     }
@@ -702,15 +882,18 @@ fn numbers_go_there_and_back() {
     }
 }
 
-/// The deepest call, on a thread with 64 kB for everything, the table among it. Built without optimisation, this is what a caller's debug build
-/// takes. An overflow ends the test program.
+/// The deepest calls, on a thread with 64 kB for everything, the table and a slip among it. Built without optimisation, this is what a caller's debug
+/// build takes. An overflow ends the test program.
 #[test]
-fn key_line_in_a_small_thread() {
+fn deepest_calls_in_a_small_thread() {
     let visit = || {
         let mut table = Table::fresh(128, &sole_quotas(128))?;
         for step in 0..127 {
             table.add(step, Exit::Answered, Kind::Contact(0), 0)?;
         }
+        let mut slip = [0; SLIP_MAX];
+        let (_, length) = table.clear_with_slip(0, Exit::Answered, &mut slip)?;
+        table.take_back(&slip[..length])?;
         table.key_line(b"H*200000001A")?;
         table.key_line(b"H*30000A")
     };

@@ -5,12 +5,13 @@ use Prim.Native.Nat.{_*_, _/_, _%_}
 use lib.Seq.{sets}
 use borrow.Author.Needs.{needs}
 use Rattle.table.specs.Table.{Table, exits, withLinks, withSteps}
-use Rattle.loading.specs.Parts.{withRecord}
+use Rattle.image.specs.Image.{withRecord}
+use Rattle.records.specs.Parts.{added, recordFields}
 use Rattle.loading.proofs.put_record.Statement.{statement}
 use Rattle.loading.proofs.put_record.Tie as tie
 
 returns : tie.Need-returns
-unfolding withLinks withSteps withRecord
+unfolding withLinks withSteps withRecord recordFields added
 returns c =
     let step = c .before .before in
     let wide = step .before .before in

@@ -87,7 +87,7 @@ loop-holds c =
 
 step-record-requires : tie.Need-step-record-requires Inv-loop μ-loop
 step-record-requires c κs =
-    (low (c .before .before), c .before .before .before .loop .inv .2, sym (c .before .in-use .ensures) ∙ c .if1 .taken)
+    (low (c .before .before), c .before .before .before .loop .inv .2)
 
 sub-put-step : tie.Need-sub-put-step Inv-loop μ-loop
 sub-put-step c = omega (arith, room (c .before))

@@ -1,8 +1,11 @@
--- `writing::step_record` meets its contract: the bits of a step in use are 0 or 1. Assumes nothing.
+-- `writing::step_record` meets its contract: the bits of a step are 0 or 1. Assumes nothing.
+use mathlib.Core.Logic.{⊎-elim}
 use Prim.Native.Nat.{ℕ, _<_}
 use native.Mathlib.Omega.{arith}
 use borrow.Author.Needs.{needs}
-use Rattle.table.specs.Table.{linkBit}
+use Rattle.finite.proofs.Bools.{test}
+use Rattle.table.specs.Table.{Table, places, inUse, ownBit, linkBit}
+use Rattle.table.specs.Sound.{Sound}
 use Rattle.table.proofs.Sound.{test-sound}
 use Rattle.words.specs.Words.{tableOf}
 use Rattle.image.specs.Image.{bitsOf, stepAdds, stepFieldsOf}
@@ -10,16 +13,24 @@ use Rattle.records.specs.Parts.{added, recordFields}
 use Rattle.writing.proofs.step_record.Statement.{statement}
 use Rattle.writing.proofs.step_record.Tie as tie
 
+-- of a step in use, and of a free one
+module _ {t : Table} (s : Sound t) (i : ℕ) (l : i < places) where
+  bit-low : (e : ℕ) → e < 4 → linkBit t i e < 2
+  bit-low e h = ⊎-elim (λ u. s .bits i e u h) (λ u. let z = s .free i l u .bits e h in omega arith) (test (inUse t i))
+
+  own-low : ownBit t i < 2
+  own-low = ⊎-elim (λ u. s .own i u) (λ u. let z = s .free i l u .own in omega arith) (test (inUse t i))
+
 pack-requires : tie.Need-pack-requires
 pack-requires c κs =
     let s = c .before .before .before .before .before in
     let t = test-sound (tableOf (s .args .t .now)) (s .pre .1) in
-    let b : (e : ℕ) → e < 4 → linkBit (tableOf (s .args .t .now)) (s .args .i) e < 2 = λ e l. t .bits (s .args .i) e (s .pre .2) l in (
+    let b : (e : ℕ) → e < 4 → linkBit (tableOf (s .args .t .now)) (s .args .i) e < 2 = bit-low t (s .args .i) (s .pre .0) in (
       rw (c .before .before .before .before .bit-at .ensures) (b 0 (omega arith)),
       rw (c .before .before .before .bit-at2 .ensures) (b 1 (omega arith)),
       rw (c .before .before .bit-at3 .ensures) (b 2 (omega arith)),
       rw (c .before .bit-at4 .ensures) (b 3 (omega arith)),
-      rw (c .own-at .ensures) (t .own (s .args .i) (s .pre .2)),
+      rw (c .own-at .ensures) (own-low t (s .args .i) (s .pre .0)),
     )
 
 returns : tie.Need-returns

@@ -1,2 +1,0 @@
--- What the contracts inside this crate cite.
-pub mod Parts
