@@ -402,6 +402,13 @@ fn test_row(name: &str, table: &Table) -> Times {
     times[0].clone()
 }
 
+/// A call on a copy that is made first.
+#[inline(always)]
+fn on_copy<T: Clone>(copy: &mut T, from: &T, mut call: impl FnMut(&mut T) -> Answer) {
+    copy.clone_from(black_box(from));
+    black_box(call(copy)).unwrap();
+}
+
 /// A call on one table by all four, each on a copy that is made first. Gives the times of (a).
 fn call_row(
     name: &str,
@@ -416,22 +423,10 @@ fn call_row(
     let times = passes(
         500,
         [
-            &mut || {
-                a.clone_from(black_box(table));
-                black_box(a_call(&mut a)).unwrap();
-            },
-            &mut || {
-                b.clone_from(black_box(table));
-                black_box(b_call(&mut b)).unwrap();
-            },
-            &mut || {
-                c.clone_from(black_box(&plan));
-                black_box(c_call(&mut c)).unwrap();
-            },
-            &mut || {
-                d.clone_from(black_box(table));
-                black_box(d_call(&mut d)).unwrap();
-            },
+            &mut || on_copy(&mut a, table, &a_call),
+            &mut || on_copy(&mut b, table, &b_call),
+            &mut || on_copy(&mut c, &plan, &c_call),
+            &mut || on_copy(&mut d, table, &d_call),
         ],
     );
     assert!(a == b && a == d && c.agrees(&marked::Plan::of(&a)), "{name}");
@@ -542,16 +537,7 @@ fn copy_row(
     let (mut a, mut d) = (table.clone(), table.clone());
     let times = passes(
         500,
-        [
-            &mut || {
-                a.clone_from(black_box(table));
-                black_box(a_call(&mut a)).unwrap();
-            },
-            &mut || {
-                d.clone_from(black_box(table));
-                black_box(d_call(&mut d)).unwrap();
-            },
-        ],
+        [&mut || on_copy(&mut a, table, &mut a_call), &mut || on_copy(&mut d, table, &mut d_call)],
     );
     row(name, &times);
     times[0].clone()

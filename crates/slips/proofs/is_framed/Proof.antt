@@ -64,7 +64,7 @@ returns c =
 returns-2 : tie.Need-returns-2 Inv-loop μ-loop
 returns-2 c =
     let bs = c .before .before .before .before .before .args .bytes .now in
-    (unsized bs (λ e. c .if2 .taken (e ∙ sym (worked (c .before)))), bytes (c .before .before .before .before))
+    (unsized bs (λ e. omega (arith, c .if2 .taken, worked (c .before))), bytes (c .before .before .before .before))
 
 loop-holds : tie.Need-loop-holds Inv-loop μ-loop
 loop-holds c =
@@ -74,7 +74,7 @@ loop-holds c =
 long : (c : tie.At-loop Inv-loop μ-loop) →
     let bs = c .before .before .before .before .before .before .args .bytes .now in
     length bs ≡ place (slipCount bs)
-long c = c .before .if2 .left ∙ worked (c .before .before)
+long c = omega (arith, c .before .if2 .left, worked (c .before .before))
 
 -- and an old record begins at a place before their end
 inside : (c : tie.In-loop Inv-loop μ-loop) →
