@@ -34,14 +34,15 @@
  *     plan_edition, plan_sole_quotas, plan_fresh                                   88 bytes
  *     plan_is_sound, plan_counts, plan_image_length, plan_read                  7,280
  *     plan_add, plan_link                                                       7,360
- *     plan_clear                                                                7,552
- *     plan_clear_with_slip                                                     11,456
- *     plan_take_back                                                           11,536
+ *     plan_clear                                                                7,312
+ *     plan_clear_with_slip                                                     11,216
+ *     plan_take_back                                                           11,296
+ *     plan_preview_clear                                                        8,288
  *     plan_squeeze                                                              7,568
  *     plan_trial, plan_write_image                                              7,280
  *     plan_load_image                                                           7,312
  *     plan_convert_up, plan_convert_down                                       11,280
- *     plan_key_line                                                             7,600
+ *     plan_key_line                                                             7,392
  *
  * `cargo test --release --test stack -- --nocapture` in compare/ prints them.
  */
@@ -61,6 +62,7 @@ extern "C" {
 #define PLAN_CABINS 8         /* cabins that share a plan */
 #define PLAN_IMAGE_MAX 2858   /* bytes of the largest image that is written; the largest of edition 1 has 2,570 */
 #define PLAN_SLIP_MAX 5638    /* bytes of the largest slip of a clearing */
+#define PLAN_PREVIEW_ROOM 127 /* bytes that the buffer of a preview must have: as many as there are steps that can go */
 #define PLAN_STACK_MAX 16384  /* bytes of stack for any call, with the caller's table */
 
 /* Kinds of step, and the content of each. */
@@ -230,6 +232,12 @@ plan_reply plan_clear_with_slip(plan_table *t, uint16_t step, uint16_t exit, uin
  * exit there gives the present table and this slip. So other steps may have changed meanwhile; right after it was taken back the slip is refused.
  * first: steps brought back into use; second: 0. Refusals, in order: 1, 18. */
 plan_reply plan_take_back(plan_table *t, const uint8_t *slip, size_t length);
+
+/* Tells what plan_clear would do: writes the numbers of the steps that it would free to the start of the buffer, ascending, a byte each. Bytes past
+ * them are not touched. The same plan_clear, made next, frees just these steps and gives these two counts. The buffer must have at least
+ * PLAN_PREVIEW_ROOM bytes, whatever the table, even where nothing would go.
+ * first: steps that would be made doubtful; second: steps that would be freed, and so bytes written. Refusals, in order: 1, 3, 4, 6, 11. */
+plan_reply plan_preview_clear(const plan_table *t, uint16_t step, uint16_t exit, uint8_t *buffer, size_t length);
 
 /* Squeezes the table into that capacity, which may also be larger, and gives it these guarantees and limits. The steps in use are renumbered from 0
  * upward in their order, every target follows, bits, counters and cabins travel with their steps, and the last number given becomes the highest of

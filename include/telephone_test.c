@@ -1,7 +1,8 @@
 /* Links libtelephone.a and tries each call from C, or from C++: edition, names and words, the worked examples P1 to P10, every refusal of every call,
- * cabins with their guarantees and limits, images of both editions and their conversions, squeezes, trials, clearings taken back, the case of `keys`,
- * fields that all differ, lengths past 16 bits, damaged images and slips, and bytes that are no sound table. A table is lent with bytes around it,
- * which have to stay; a refused call has to leave every byte. Prints a line for each case that fails, and 'N passed, M failed' last. */
+ * cabins with their guarantees and limits, images of both editions and their conversions, squeezes, trials, clearings taken back, previews of
+ * clearings, the case of `keys`, fields that all differ, lengths past 16 bits, damaged images and slips, and bytes that are no sound table. A table is
+ * lent with bytes around it, which have to stay; a refused call has to leave every byte. Prints a line for each case that fails, and
+ * 'N passed, M failed' last. */
 #include "telephone.h"
 #include <stdio.h>
 #include <string.h>
@@ -93,7 +94,7 @@ static void names(void) {
     expect(PLAN_ANSWERED == 0 && PLAN_ENGAGED == 1 && PLAN_NO_REPLY == 2 && PLAN_LINE_FAULT == 3, "exits");
     expect(PLAN_OPEN == 0 && PLAN_SPENT == 1 && PLAN_STOPPED == 2, "endings");
     expect(PLAN_PLACES == 128 && PLAN_EXITS == 4 && PLAN_CABINS == 8, "numbers of places, exits and cabins");
-    expect(PLAN_IMAGE_MAX == 42 + 22 * PLAN_PLACES && PLAN_SLIP_MAX == 6 + 44 * PLAN_PLACES, "sizes");
+    expect(PLAN_IMAGE_MAX == 42 + 22 * PLAN_PLACES && PLAN_SLIP_MAX == 6 + 44 * PLAN_PLACES && PLAN_PREVIEW_ROOM == PLAN_PLACES - 1, "sizes");
 }
 
 static void edits(void) {
@@ -581,6 +582,8 @@ static int leaves_every_byte(lent *m, const uint16_t a[4], const uint8_t *line) 
     if (plan_take_back(t, lent_bytes, a[3] < room ? a[3] : room).refusal) all = all && memcmp(m, &was, sizeof was) == 0;
     *m = was;
     memset(lent_bytes, UNTOUCHED, room);
+    if (plan_preview_clear(t, a[0], a[1], lent_bytes, a[2] < room ? a[2] : room).refusal) all = all && all_untouched(lent_bytes, room);
+    memset(lent_bytes, UNTOUCHED, room);
     if (plan_trial(t, a[3], results, 2, lent_bytes, a[2] < room ? a[2] : room).refusal) all = all && all_untouched(lent_bytes, room);
     memset(lent_bytes, UNTOUCHED, room);
     if (plan_write_image(t, lent_bytes, a[3] < room ? a[3] : room).refusal) all = all && all_untouched(lent_bytes, room);
@@ -1066,13 +1069,27 @@ static size_t slip_of(const plan_table *before, const plan_table *after, uint16_
     return 6 + 44 * (size_t)head[2];
 }
 
-/* Whether a clearing with a slip is refused so, and changes no byte. */
-static int not_cleared(lent *m, uint16_t step, uint16_t exit, size_t room, int refusal) {
+/* A clearing with a slip, or its preview. */
+typedef plan_reply clearing(plan_table *t, uint16_t step, uint16_t exit, uint8_t *buffer, size_t length);
+
+static plan_reply preview(plan_table *t, uint16_t step, uint16_t exit, uint8_t *buffer, size_t length) {
+    return plan_preview_clear(t, step, exit, buffer, length);
+}
+
+/* Whether such a call is refused so, and changes no byte. */
+static int not_made(clearing *call, lent *m, uint16_t step, uint16_t exit, size_t room, int refusal) {
     static uint8_t buffer[PLAN_SLIP_MAX + EDGE];
     const lent was = *m;
     memset(buffer, UNTOUCHED, sizeof buffer);
-    return gave(plan_clear_with_slip(&m->table, step, exit, buffer, room), refusal, 0, 0) && all_untouched(buffer, sizeof buffer) &&
-           memcmp(m, &was, sizeof was) == 0;
+    return gave(call(&m->table, step, exit, buffer, room), refusal, 0, 0) && all_untouched(buffer, sizeof buffer) && memcmp(m, &was, sizeof was) == 0;
+}
+
+static int not_cleared(lent *m, uint16_t step, uint16_t exit, size_t room, int refusal) {
+    return not_made(plan_clear_with_slip, m, step, exit, room, refusal);
+}
+
+static int not_previewed(lent *m, uint16_t step, uint16_t exit, size_t room, int refusal) {
+    return not_made(preview, m, step, exit, room, refusal);
 }
 
 /* Whether a take-back is refused so, and changes no byte. */
@@ -1105,7 +1122,7 @@ static int regretted(lent *m, uint16_t step, uint16_t exit, int doubtful, int fr
     return all && memcmp(written, slip, length) == 0 && not_taken_back(m, written, length, PLAN_SLIP_NOT_ACCEPTED);
 }
 
-/* A clearing taken back (W7): P1, P5, P6, P8 and P9, the shortest and the longest slips, every exit of tables in which the fields of step 2 differ. */
+/* A clearing taken back (W7): P1, P5, P6, P8 and P9, the shortest and the longest slips. */
 static void slips(void) {
     static const uint16_t p1_slip[47] = {0, 0, 2, /* step, exit, changed steps; then the old and the new record of steps 0 and 1 */
                                          22, 4, 0, 0, 0, 0, 1, 0, 0, 0, 0, 22, 4, 0, 0, 0, 0, 0, 0, 0, 0, 0,
@@ -1134,15 +1151,6 @@ static void slips(void) {
     expect(regretted(&m, 0, PLAN_ANSWERED, 2, 0), "P5, taken back");
     plan_clear(t, 0, PLAN_ANSWERED);
     expect(regretted(&m, 0, PLAN_ENGAGED, 2, 2), "P6, taken back");
-    for (int p = 0; p < 3; p++) {
-        m.table = different(patterns[p]);
-        for (uint16_t i = 0; i < 4 * 11; i++) {
-            plan_table u = *t;
-            const plan_reply r = plan_clear(&u, i / 4, i % 4);
-            if (r.refusal == 0) expect(regretted(&m, i / 4, i % 4, r.first, r.second), "all fields of step 2 different");
-            else expect(not_cleared(&m, i / 4, i % 4, r.refusal == 3 ? PLAN_SLIP_MAX : 0, r.refusal), "an exit that cannot be cleared");
-        }
-    }
     fresh(t, 128);
     for (uint16_t step = 0; step < 127; step++) plan_add(t, step, step % 4, PLAN_WAIT, 600, 0);
     expect(regretted(&m, 0, 0, 127, 127) && regretted(&m, 126, 2, 1, 1), "128 steps, the longest slip");
@@ -1194,6 +1202,7 @@ static void regrets(void) {
     expect(gave(plan_clear_with_slip(t, 0, 0, slip, LENGTH), 0, 2, 2) && word(slip + 4) == 3, "a clearing that frees two steps");
     const lent cleared = m;
     expect(plan_read(t, 3).refusal == 0 && plan_trial(t, 9, slip, 0, bytes, 9).refusal == 0 && gave(plan_counts(t), 0, 2, 6), "calls that read");
+    expect(gave(plan_preview_clear(t, 0, 3, bytes, PLAN_PREVIEW_ROOM), 0, 1, 1) && bytes[0] == 3, "a preview of another clearing");
     expect(plan_write_image(t, bytes, sizeof bytes).length == 42 + 2 * 22 && plan_key_line(t, (const uint8_t *)"H*4A", 4).refusal == 0, "and write");
     REFUSED(3, m, plan_add(t, 1, 0, PLAN_CONTACT, 0, 0));
     REFUSED(6, m, plan_clear(t, 0, 0));
@@ -1364,6 +1373,136 @@ static void slip_lengths(void) {
     expect(gave(plan_take_back(&m.table, bytes, LENGTH), 0, 1, 0) && memcmp(&m, &was, sizeof m) == 0, "the slip alone");
 }
 
+/* The steps that are in use in the first table and free in the second, ascending; gives their number. */
+static int gone(const plan_table *before, const plan_table *after, uint8_t *steps) {
+    int many = 0;
+    for (int i = 0; i < PLAN_PLACES; i++) {
+        if (before->used[i] && !after->used[i]) steps[many++] = (uint8_t)i;
+    }
+    return many;
+}
+
+/* Whether a preview answers so, writes these steps and no byte more, and leaves every byte of the table: into a buffer that is just long enough, and
+ * longer ones, of which one has 126 bytes in 16 bits; 126 bytes, or none, are refused. Then whether the clearing answers so and frees these steps. */
+static int foretold(lent *m, uint16_t step, uint16_t exit, int doubtful, int freed, const uint8_t *steps) {
+    static const size_t rooms[5] = {127, 128, 65535, 65536, 65536 + 126};
+    static uint8_t around[EDGE + 65536 + 126 + EDGE];
+    const lent was = *m;
+    lent cleared = *m;
+    uint8_t went[PLAN_PLACES], *written = around + EDGE;
+    const size_t many = (size_t)freed;
+    int all = not_previewed(m, step, exit, 126, PLAN_TOO_SHORT) && not_previewed(m, step, exit, 0, PLAN_TOO_SHORT);
+    for (int i = 0; i < 5; i++) {
+        memset(around, UNTOUCHED, sizeof around);
+        all = all && gave(plan_preview_clear(&m->table, step, exit, written, rooms[i]), 0, doubtful, freed) && memcmp(m, &was, sizeof was) == 0;
+        all = all && all_untouched(around, EDGE) && memcmp(written, steps, many) == 0 && all_untouched(written + many, sizeof around - EDGE - many);
+    }
+    all = all && gave(plan_clear(&cleared.table, step, exit), 0, doubtful, freed);
+    return all && gone(&was.table, &cleared.table, went) == freed && memcmp(went, steps, many) == 0;
+}
+
+/* What a clearing would free (W8): P1, P5, P6, P8 and P9, rings, steps that a weak link keeps, chains against the order of numbers, all steps. */
+static void previews(void) {
+    static const uint8_t none[1] = {0}, one[1] = {1}, two[1] = {2}, one_two[2] = {1, 2}, one_three[2] = {1, 3}, one_to_three[3] = {1, 2, 3};
+    uint8_t all_steps[127];
+    lent m = p1();
+    plan_table *t = &m.table;
+    expect(foretold(&m, 0, PLAN_ANSWERED, 1, 1, one), "P1, one step would go");
+    plan_link(t, 0, PLAN_ANSWERED, 0, PLAN_ENGAGED);
+    expect(foretold(&m, 0, PLAN_ENGAGED, 0, 0, none), "a weak exit");
+    expect(foretold(&m, 0, PLAN_ANSWERED, 1, 0, none), "P9, a weak link would keep the step");
+    m = p1();
+    plan_link(t, 0, PLAN_ANSWERED, 1, PLAN_ANSWERED);
+    expect(foretold(&m, 1, PLAN_ANSWERED, 0, 0, none) && foretold(&m, 0, PLAN_ANSWERED, 1, 1, one), "P8, a step linked to itself");
+    m = p1();
+    plan_add(t, 1, PLAN_NO_REPLY, PLAN_CONTACT, 1, 0);
+    plan_link(t, 0, PLAN_ANSWERED, 2, PLAN_NO_REPLY);
+    expect(foretold(&m, 0, PLAN_ANSWERED, 2, 2, one_two) && foretold(&m, 1, PLAN_NO_REPLY, 1, 1, two), "a ring would go, or its second step");
+    plan_link(t, 1, PLAN_NO_REPLY, 0, PLAN_ENGAGED);
+    expect(foretold(&m, 0, PLAN_ANSWERED, 2, 0, none) && foretold(&m, 2, PLAN_NO_REPLY, 0, 0, none), "P5, a ring that a weak link would keep");
+    plan_clear(t, 0, PLAN_ANSWERED);
+    expect(foretold(&m, 0, PLAN_ENGAGED, 2, 2, one_two), "P6, the ring held from its second step");
+    expect(foretold(&m, 2, PLAN_NO_REPLY, 1, 1, one) && foretold(&m, 1, PLAN_NO_REPLY, 0, 0, none), "P6, its links");
+
+    /* 0 to 1 to 2 to 3, and a weak link from 0 to 2 */
+    fresh(t, 9);
+    plan_add(t, 0, 0, PLAN_CONTACT, 0, 0);
+    plan_add(t, 1, 1, PLAN_CONTACT, 0, 0);
+    plan_add(t, 2, 3, PLAN_CONTACT, 0, 0);
+    plan_link(t, 1, 1, 0, 2);
+    expect(foretold(&m, 0, 0, 3, 1, one), "one of three doubtful steps");
+    plan_clear(t, 0, 2);
+    expect(foretold(&m, 0, 0, 3, 3, one_to_three) && foretold(&m, 1, 1, 2, 2, one_to_three + 1), "all of three, or two");
+    /* 0 to 3 to 1, and 0 to 2, which a weak link from 3 also leads to */
+    fresh(t, 4);
+    for (uint16_t exit = 0; exit < 3; exit++) plan_add(t, 0, exit, PLAN_WAIT, 1, 0);
+    plan_link(t, 0, 0, 3, 2);
+    plan_link(t, 0, 1, 3, 0);
+    plan_clear(t, 0, 0);
+    expect(foretold(&m, 0, 2, 2, 2, one_three), "3 leads to 1 and both would go, 2 stays");
+    expect(foretold(&m, 0, 1, 1, 0, none) && foretold(&m, 3, 2, 1, 1, one), "2 would stay, held by 3");
+    /* two strong links to one step */
+    fresh(t, 3);
+    plan_add(t, 0, 0, PLAN_CONTACT, 5, 0);
+    t->targets[1] = 1, t->counts[2] = 2;
+    expect(foretold(&m, 0, 0, 0, 0, none) && foretold(&m, 0, 1, 0, 0, none), "a target that still has a strong link");
+    m = shared();
+    expect(foretold(&m, 0, 0, 2, 2, one_two) && foretold(&m, 0, 3, 1, 1, one_three + 1) && foretold(&m, 1, 2, 1, 1, two), "steps of two cabins");
+    fresh(t, 128);
+    for (uint16_t step = 0; step < 127; step++) plan_add(t, step, step % 4, PLAN_WAIT, 600, 0), all_steps[step] = (uint8_t)(step + 1);
+    expect(foretold(&m, 0, 0, 127, 127, all_steps) && foretold(&m, 63, 3, 64, 64, all_steps + 63), "128 steps, all would go, or half of them");
+    expect(foretold(&m, 126, 2, 1, 1, all_steps + 126), "128 steps, the last would go");
+    plan_link(t, 126, 2, 0, 1);
+    plan_link(t, 0, 0, 127, 3);
+    expect(foretold(&m, 0, 0, 127, 0, all_steps), "128 steps that would stay");
+    expect(edges_stand(&m), "after the previews");
+}
+
+/* Every exit of tables in which the fields of step 2 differ: cleared and taken back, and told beforehand. */
+static void every_exit(void) {
+    lent m = f4();
+    for (uint16_t i = 0; i < 3 * 11 * 4; i++) {
+        const uint16_t step = i / 4 % 11, exit = i % 4;
+        uint8_t steps[PLAN_PLACES];
+        m.table = different(patterns[i / 44]);
+        plan_table u = m.table;
+        const plan_reply r = plan_clear(&u, step, exit);
+        if (r.refusal == 0) {
+            expect(regretted(&m, step, exit, r.first, r.second), "all fields of step 2 different, taken back");
+            expect(foretold(&m, step, exit, r.first, gone(&m.table, &u, steps), steps), "all fields of step 2 different, told beforehand");
+        } else {
+            expect(not_cleared(&m, step, exit, r.refusal == 3 ? PLAN_SLIP_MAX : 0, r.refusal), "an exit that cannot be cleared");
+            expect(not_previewed(&m, step, exit, r.refusal == 3 ? PLAN_PREVIEW_ROOM : 0, r.refusal), "nor its clearing be told");
+        }
+    }
+}
+
+/* Refusals of a preview, each before the next of its order. */
+static void previews_refused(void) {
+    static const size_t rooms[4] = {0, 1, 126, 127};
+    lent m = p1(), out = m;
+    out.table.last = 4;
+    plan_link(&m.table, 0, 0, 0, 1);
+    for (int i = 0; i < 4; i++) {
+        expect(not_previewed(&out, 9, 9, rooms[i], 1) && not_previewed(&out, 0, 0, rooms[i], 1), "a preview of a table that is not sound");
+        expect(not_previewed(&m, 2, 4, rooms[i], 3) && not_previewed(&m, 4, 0, rooms[i], 3), "at a step that is not in use");
+        expect(not_previewed(&m, 128, 9, rooms[i], 3) && not_previewed(&m, 256, 0, rooms[i], 3), "at a step past the table");
+        expect(not_previewed(&m, 65535, 65535, rooms[i], 3), "at step 65535");
+        expect(not_previewed(&m, 0, 4, rooms[i], 4) && not_previewed(&m, 1, 256, rooms[i], 4), "at an exit above 3");
+        expect(not_previewed(&m, 0, 65535, rooms[i], 4), "at exit 65535");
+        expect(not_previewed(&m, 0, 2, rooms[i], 6) && not_previewed(&m, 1, 0, rooms[i], 6), "at an empty exit");
+    }
+    for (int i = 0; i < 3; i++) {
+        expect(not_previewed(&m, 0, 0, rooms[i], PLAN_TOO_SHORT), "a short buffer, where a step would be doubtful");
+        expect(not_previewed(&m, 0, 1, rooms[i], PLAN_TOO_SHORT), "a short buffer, where nothing would go");
+    }
+    plan_clear(&m.table, 0, 1);
+    for (int i = 0; i < 3; i++) expect(not_previewed(&m, 0, 0, rooms[i], PLAN_TOO_SHORT), "a short buffer, where one step would go");
+    fresh(&m.table, 2);
+    plan_add(&m.table, 0, 3, PLAN_MESSAGE, 15, 0);
+    expect(not_previewed(&m, 0, 3, 126, PLAN_TOO_SHORT) && not_previewed(&m, 0, 3, 2, PLAN_TOO_SHORT), "a short buffer, for a table of two steps");
+}
+
 static void keys(void) {
     static const char *const lines[5] = {"H*100001000A", "H*200000012A", "H*30000A", "H*4A", "H*30000A"};
     static const int answers[5][3] = {{0, 1, 0}, {0, 0, 0}, {0, 1, 1}, {0, 1, 127}, {6, 0, 0}};
@@ -1417,6 +1556,9 @@ int main(void) {
     regrets();
     damaged_slips();
     slip_lengths();
+    previews();
+    every_exit();
+    previews_refused();
     keys();
     wild();
     printf("%d passed, %d failed\n", passed, failed);

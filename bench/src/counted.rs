@@ -171,24 +171,51 @@ pub fn clear(t: &mut Table, step: u16, exit: u16) -> Result<(u16, u16), u16> {
     if !sound(t) {
         return Err(1);
     }
+    let at = filled(t, step, exit)?;
+    let (doubts, freed) = unlink(t, at);
+    free(t, freed);
+    Ok((doubts, freed.count_ones() as u16))
+}
+
+/// The counts that a clearing would give; writes the numbers of the steps that it would free.
+#[inline(never)]
+pub fn preview(t: &Table, step: u16, exit: u16, buffer: &mut [u8]) -> Result<(u16, u16), u16> {
+    if !sound(t) {
+        return Err(1);
+    }
+    let at = filled(t, step, exit)?;
+    if buffer.len() < PLACES - 1 {
+        return Err(11);
+    }
+    let (doubts, freed) = unlink(&mut t.clone(), at);
+    buffer.iter_mut().zip(members(freed)).for_each(|(byte, step)| *byte = step as u8);
+    Ok((doubts, freed.count_ones() as u16))
+}
+
+/// The place of an exit that holds a link, or refusal 3, 4 or 6.
+fn filled(t: &Table, step: u16, exit: u16) -> Result<usize, u16> {
     let at = place(t, step, exit)?;
     if t.targets[at] == 0 {
         return Err(6);
     }
+    Ok(at)
+}
+
+/// Rules 1 to 3: empties an exit that holds a link and takes steps back; gives the number of steps made doubtful, and those that are still doubtful.
+#[inline(always)]
+fn unlink(t: &mut Table, at: usize) -> (u16, u128) {
     let target = usize::from(t.targets[at]);
     let bit = t.bits[at];
     let counter = target * 2 + usize::from(bit);
     (t.targets[at], t.bits[at]) = (0, 0);
     t.counts[counter] -= 1;
     if bit != t.own[target] || t.counts[counter] != 0 {
-        return Ok((0, 0));
+        return (0, 0);
     }
     let mut doubt = doubtful(t, target);
     let doubts = doubt.count_ones() as u16;
     take_back(t, &mut doubt);
-    let freed = doubt.count_ones() as u16;
-    free(t, doubt);
-    Ok((doubts, freed))
+    (doubts, doubt)
 }
 
 #[inline(never)]
@@ -286,6 +313,15 @@ fn take_back(t: &mut Table, doubt: &mut u128) {
     }
 }
 
+/// The steps of a set, ascending.
+fn members(mut set: u128) -> impl Iterator<Item = usize> {
+    std::iter::from_fn(move || {
+        let step = set.trailing_zeros() as usize;
+        set &= set.wrapping_sub(1);
+        (step < PLACES).then_some(step)
+    })
+}
+
 /// The steps that the links of a step lead to.
 fn leads_to(t: &Table, step: usize) -> u128 {
     t.targets[step * EXITS..][..EXITS].iter().fold(0, |set, &target| set | 1 << target) & !1
@@ -293,13 +329,6 @@ fn leads_to(t: &Table, step: usize) -> u128 {
 
 /// Rule 4: the links of the steps leave the counters, and their records become zero.
 fn free(t: &mut Table, steps: u128) {
-    let members = |mut set: u128| {
-        std::iter::from_fn(move || {
-            let step = set.trailing_zeros() as usize;
-            set &= set.wrapping_sub(1);
-            (step < PLACES).then_some(step)
-        })
-    };
     for step in members(steps) {
         for place in step * EXITS..(step + 1) * EXITS {
             let target = usize::from(t.targets[place]);

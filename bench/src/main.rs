@@ -1,7 +1,7 @@
 //! Prints the numbers: times as median and best of many passes, all measured in this process but those of the program `keys`, then stack and size.
 //! (a) is the proved library through its interface, (b) `counted`, (c) `marked`, (d) `tuned`, `convert` and `slip`. Before anything is timed, (b), (c) and
-//! (d) are held to (a) after every edit, the soundness tests of (b) and (d) on damaged tables, and the trials, conversions and slips of (d). With the
-//! word `edits`, it prints the edits that `versions` reads, and nothing else.
+//! (d) are held to (a) after every edit, the soundness tests of (b) and (d) on damaged tables, their previews, and the trials, conversions and slips of
+//! (d). With the word `edits`, it prints the edits that `versions` reads, and nothing else.
 
 mod clock;
 mod convert;
@@ -568,6 +568,40 @@ fn back_row(name: &str, table: &Table) {
     );
 }
 
+/// Asks by (a), (b) and (d) what clearing an exit would free, and holds the answer and the buffer to those of (a). Gives the answer.
+fn previewed(table: &Table, step: u16, exit: u16, room: usize) -> Answer {
+    let mut a = vec![0xEE; room];
+    let (mut b, mut d) = (a.clone(), a.clone());
+    let reply = answer(raw::preview_clear(table, step, exit, &mut a));
+    assert_eq!(counted::preview(table, step, exit, &mut b), reply, "(b) differs");
+    assert_eq!(tuned::preview(table, step, exit, &mut d), reply, "(d) differs");
+    assert!(a == b && a == d, "(b) or (d) has other bytes: {step} {exit}");
+    reply
+}
+
+/// Asking what clearing exit 0 of step 0 would free, by (a), (b) and (d). It has to give these counts. Gives the times of (a).
+fn preview_row(name: &str, table: &Table, counts: (u16, u16)) -> Times {
+    assert_eq!(previewed(table, 0, 0, telephone::PREVIEW_ROOM), Ok(counts), "{name}");
+    let mut a = [0; telephone::PREVIEW_ROOM];
+    let (mut b, mut d) = (a, a);
+    let times = passes(
+        500,
+        [
+            &mut || {
+                black_box(answer(raw::preview_clear(black_box(table), 0, 0, &mut a))).unwrap();
+            },
+            &mut || {
+                black_box(counted::preview(black_box(table), 0, 0, &mut b)).unwrap();
+            },
+            &mut || {
+                black_box(tuned::preview(black_box(table), 0, 0, &mut d)).unwrap();
+            },
+        ],
+    );
+    row(name, &times);
+    times[0].clone()
+}
+
 /// A conversion by (a).
 fn proved_conversion(way: Way, image: &[u8], buffer: &mut [u8]) -> Result<u16, u16> {
     let reply = match way {
@@ -800,6 +834,17 @@ fn print_numbers() {
         with_slip.median() / clearing.median()
     );
 
+    head("What clearing an exit would free", &["(a)", "(b)", "(d)"]);
+    let preview = preview_row("127 steps would be freed", &freed, (127, 127));
+    for (name, table) in &taken_back[..4] {
+        preview_row(&format!("127 would stay, {name}"), table, (127, 0));
+    }
+    preview_row("a weak link, no step doubtful", &weak, (0, 0));
+    println!(
+        "Telling that 127 steps would be freed takes (a) {:.2} times copying the table and clearing.",
+        preview.median() / clearing.median()
+    );
+
     head("Copying a table and squeezing it", &programs);
     squeeze_row("64 of 128 steps in use, spread", &chain((2..128).step_by(2), Chain::Dense));
     squeeze_row("128 in use, none moved", &taken_back[3].1);
@@ -940,26 +985,37 @@ mod tests {
         }
     }
 
+    /// Histories of 200 calls from generated tables: each call with the table before it, and the table at the end.
+    fn histories() -> impl Iterator<Item = (Vec<(Table, Call)>, reference::table::Table)> {
+        (0..120).map(|seed| {
+            let mut table = Random(seed).sound_table();
+            let mut generator = Generator::new(seed);
+            let mut next = || {
+                let call = generator.call(&table);
+                let before = lend(&table);
+                run(&mut table, &call, Fault::None);
+                (before, call)
+            };
+            let calls = (0..200).map(|_| next()).collect();
+            (calls, table)
+        })
+    }
+
     /// Slips of generated tables and histories and of the chains that are timed: into all sorts of buffers; taken back, damaged and made up.
     #[test]
     fn slips_agree() {
         let mut found = Refusals::default();
         let mut note = |reply: Answer| found[usize::from(reply.err().unwrap_or(0))] += 1;
         let mut random = Random(8);
-        for seed in 0..120 {
-            let mut table = Random(seed).sound_table();
-            let mut generator = Generator::new(seed);
-            for _ in 0..200 {
-                let call = generator.call(&table);
-                let lent = lend(&table);
-                match &call {
+        for (calls, mut table) in histories() {
+            for (lent, call) in &calls {
+                match call {
                     Call::ClearWithSlip { step, exit, buffer } => {
-                        note(cleared_with_slip(&lent, *step, *exit, *buffer).0);
+                        note(cleared_with_slip(lent, *step, *exit, *buffer).0);
                     }
-                    Call::TakeBack { slip } => note(taken_back(&lent, slip)),
+                    Call::TakeBack { slip } => note(taken_back(lent, slip)),
                     _ => {}
                 }
-                run(&mut table, &call, Fault::None);
             }
             let mut slip = random.made_up_slip(&table);
             for _ in 0..20 {
@@ -985,6 +1041,42 @@ mod tests {
         for refusal in [0, 1, 3, 4, 6, 11, 18] {
             assert!(found[refusal] > 20, "{found:?}");
         }
+    }
+
+    /// Previews of generated tables and histories, of damaged tables and of the chains that are timed, into all sorts of buffers.
+    #[test]
+    fn previews_agree() {
+        let mut found = Refusals::default();
+        let mut freed = [0; 2];
+        let mut note = |reply: Answer| {
+            found[usize::from(reply.err().unwrap_or(0))] += 1;
+            let (doubtful, lost) = reply.unwrap_or_default();
+            freed[0] += usize::from(lost > 0);
+            freed[1] += usize::from(doubtful > lost);
+        };
+        let mut random = Random(9);
+        for (calls, mut table) in histories() {
+            for (lent, call) in calls {
+                if let Call::PreviewClear { step, exit, buffer } = call {
+                    note(previewed(&lent, step, exit, buffer));
+                }
+            }
+            for place in 0..512 {
+                note(previewed(&lend(&table), place / 4, place % 4, 127 + usize::from(place)));
+            }
+            random.damage(&mut table);
+            note(previewed(&lend(&table), 0, 0, 127));
+        }
+        for how in [Chain::Free, Chain::Held, Chain::Dense] {
+            let table = chain(zigzag(), how);
+            for step in 0..128 {
+                note(previewed(&table, step, 0, 127));
+            }
+        }
+        for refusal in [0, 1, 3, 4, 6, 11] {
+            assert!(found[refusal] > 20, "{found:?}");
+        }
+        assert!(freed.into_iter().all(|number| number > 1000), "{freed:?}");
     }
 
     /// Every chain that is timed, cleared once by all four.

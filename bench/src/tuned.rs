@@ -1,5 +1,6 @@
 //! (d) The same job as (b) on the same table, and trials, in safe Rust written for speed. Ranges are tested over whole arrays with no branch, so that the
-//! compiler uses vectors; then one search withdraws every link from a copy of the counters. Sets of steps are the bits of a number.
+//! compiler uses vectors; then one search withdraws every link from a copy of the counters. Sets of steps are the bits of a number. What a clearing
+//! would free is found from the doubtful steps by reading alone.
 
 #![forbid(unsafe_code)]
 
@@ -255,6 +256,30 @@ pub fn clear(t: &mut Table, step: u16, exit: u16) -> Result<(u16, u16), u16> {
     Ok((doubtful.count_ones() as u16, lost.count_ones() as u16))
 }
 
+/// The counts that a clearing would give; writes the numbers of the steps that it would free.
+#[inline(never)]
+pub fn preview(t: &Table, step: u16, exit: u16, buffer: &mut [u8]) -> Result<(u16, u16), u16> {
+    if !sound(t) {
+        return Err(1);
+    }
+    let at = filled(t, step, exit)?;
+    let Some(room) = buffer.get_mut(..PLACES - 1) else {
+        return Err(11);
+    };
+    let (doubtful, held) = without(t, at);
+    let lost = unheld(t, doubtful, held);
+    let mut room = room.iter_mut();
+    for (half, first) in [(lost as u64, 0), ((lost >> 64) as u64, 64)] {
+        let mut rest = half;
+        while rest != 0 {
+            let Some(byte) = room.next() else { break };
+            *byte = first + rest.trailing_zeros() as u8;
+            rest &= rest - 1;
+        }
+    }
+    Ok((doubtful.count_ones() as u16, lost.count_ones() as u16))
+}
+
 /// The place of an exit that holds a link, or refusal 3, 4 or 6.
 #[inline(always)]
 pub fn filled(t: &Table, step: u16, exit: u16) -> Result<usize, u16> {
@@ -276,7 +301,20 @@ pub fn unlink(t: &mut Table, at: usize) -> (u128, u128) {
     if bit != t.own[target] || !last {
         return (0, 0);
     }
-    doubtful(t, target)
+    doubtful(t, target, t.counts)
+}
+
+/// The same two sets without the link at a place, which stays.
+#[inline(always)]
+fn without(t: &Table, at: usize) -> (u128, u128) {
+    let (target, bit) = (usize::from(t.targets[at]) % PLACES, t.bits[at]);
+    let counter = target * 2 + usize::from(bit & 1);
+    if bit != t.own[target] || t.counts[counter] != 1 {
+        return (0, 0);
+    }
+    let mut left = t.counts;
+    left[counter] = 0;
+    doubtful(t, target, left)
 }
 
 /// Takes steps back and frees the rest of the doubtful ones, which it gives.
@@ -388,11 +426,10 @@ pub fn lowest(set: u128) -> usize {
     lowest as usize % PLACES
 }
 
-/// Rule 2: the steps that lose their last strong link, from one that has. All their links are withdrawn, so that a link left to one of them comes
-/// from a step that is not doubtful; those are the second set.
+/// Rule 2: the steps that lose their last strong link, from one that has, given the counters without it. All their links are withdrawn, so that a link
+/// left to one of them comes from a step that is not doubtful; those are the second set.
 #[inline(never)]
-fn doubtful(t: &Table, first: usize) -> (u128, u128) {
-    let mut left = t.counts;
+fn doubtful(t: &Table, first: usize, mut left: [u16; COUNTERS]) -> (u128, u128) {
     let mut stack = [0u8; PLACES];
     let (mut next, mut height) = (first, 1);
     let (mut found, mut held) = (0, 0);
@@ -447,6 +484,34 @@ fn take_back(t: &mut Table, mut doubtful: u128, mut held: u128) -> u128 {
         held &= doubtful;
     }
     doubtful
+}
+
+/// What rule 3 leaves doubtful: the steps that no held one leads to. Their order does not matter, and no bit is turned.
+#[inline(never)]
+fn unheld(t: &Table, doubtful: u128, mut held: u128) -> u128 {
+    let (targets, _) = t.targets.as_chunks::<EXITS>();
+    let mut rest = doubtful & !held;
+    let mut stack = [0u8; PLACES];
+    while held != 0 {
+        let (mut next, mut height) = (lowest(held), 1);
+        held &= held - 1;
+        while next != 0 {
+            let step = next % PLACES;
+            height -= 1;
+            next = stack[height % PLACES].into();
+            for &target in &targets[step] {
+                let target = usize::from(target) % PLACES;
+                // step 0, which an empty exit leads to, is never doubtful
+                if rest & one(target) != 0 {
+                    rest &= !one(target);
+                    stack[height % PLACES] = next as u8;
+                    height += 1;
+                    next = target;
+                }
+            }
+        }
+    }
+    rest
 }
 
 /// Rule 4: the links of the steps leave the counters, and their records become zero.

@@ -9,12 +9,13 @@ use reference::cabins::{list, pairs};
 use reference::calls::{add, fresh_for_cabin_0, link, Command};
 use reference::convert::{self, Conversion, Way};
 use reference::faults::Fault;
-use reference::generate::{key_text, Generator};
+use reference::generate::{key_text, start, Generator, Random};
 use reference::history::{self, agrees, Call, Outcome, Start, UNTOUCHED};
 use reference::plan::plan_of;
 use reference::sound::{sound, CONTACT};
 use reference::table::{Quotas, Table};
 use std::fmt::{self, Debug};
+use std::ops::Range;
 use telephone::raw::{self, Quota};
 
 /// The words of a table.
@@ -22,6 +23,10 @@ pub const WORDS: usize = size_of::<raw::Table>() / 2;
 
 /// How often each refusal, 0 to the highest, came up.
 pub type Refusals = [usize; 19];
+
+/// Numbers at and past the ends of ranges, and numbers that would wrap.
+pub const NUMBERS: [u16; 22] =
+    [0, 1, 2, 3, 4, 5, 7, 8, 15, 16, 31, 32, 99, 100, 127, 128, 129, 255, 256, 600, 32_768, 65_535];
 
 /// The same table for the interface.
 pub fn lend(table: &Table) -> raw::Table {
@@ -156,6 +161,11 @@ pub fn call(table: &mut raw::Table, call: &Call) -> Outcome {
             Outcome { lent, ..two(reply) }
         }
         Call::TakeBack { slip } => two(with_bytes(slip, |slip| raw::take_back(table, slip))),
+        Call::PreviewClear { step, exit, buffer } => {
+            let (reply, lent) =
+                with_buffer(*buffer, |buffer| raw::preview_clear(table, *step, *exit, buffer));
+            Outcome { lent, ..two(reply) }
+        }
         Call::Squeeze { capacity, quotas } => {
             two(with_list(quotas, |quotas| raw::squeeze(table, *capacity, quotas)))
         }
@@ -269,7 +279,8 @@ impl Pair {
         second: &Outcome,
     ) -> Result<Outcome, Difference> {
         let mut found = differences(made, &proved, second);
-        let table = kept(&self.proved.lent);
+        // the table is looked at again, whatever the compiler knows of one that is only read
+        let table = kept(&std::hint::black_box(self).proved.lent);
         if table != self.second {
             found.push((Evidence::Table, difference(&table, &self.second)));
         }
@@ -346,6 +357,23 @@ pub fn as_said(table: &Table, call: &Call) -> Outcome {
     outcome
 }
 
+/// Calls with any step and exit and with each of these buffers, made by both programs and by the plan: some are accepted, 3, 4, 6 and 11 come up, and no
+/// other refusal does.
+pub fn any_exit(buffers: &[usize], call: impl Fn(u16, u16, usize) -> Call) {
+    let mut seen = Refusals::default();
+    for table in [fresh_for_cabin_0(1), ring(&[CONTACT; 5]), Random(5).sound_table()] {
+        for (step, exit) in NUMBERS.into_iter().flat_map(|step| NUMBERS.map(|exit| (step, exit))) {
+            for &buffer in buffers {
+                let outcome = as_said(&table, &call(step, exit, buffer));
+                seen[usize::from(outcome.refusal)] += 1;
+            }
+        }
+    }
+    for (refusal, &times) in seen.iter().enumerate() {
+        assert_eq!(times > 10, matches!(refusal, 0 | 3 | 4 | 6 | 11), "{seen:?}");
+    }
+}
+
 /// The first word in which two tables differ.
 pub fn difference(proved: &Table, second: &Table) -> String {
     let (mut proved, mut second) = (proved.clone(), second.clone());
@@ -356,12 +384,36 @@ pub fn difference(proved: &Table, second: &Table) -> String {
     }
 }
 
-/// The next line of a visit by key lines: most are edits that suit the table, the rest are malformed or odd.
+/// Makes so many calls of each history by both programs, and looks at the table after the first of every so many.
+pub fn tables_of_histories(
+    seeds: Range<u64>,
+    calls: usize,
+    every: usize,
+    mut look: impl FnMut(&Table),
+) {
+    for seed in seeds {
+        let (mut pair, begun) = Pair::begin(&start(seed), Fault::None);
+        begun.unwrap();
+        let mut generator = Generator::new(seed);
+        for number in 0..calls {
+            pair.call(&generator.call(&pair.second)).unwrap();
+            if number % every == 0 {
+                look(&pair.second);
+            }
+        }
+    }
+}
+
+/// The next line of a visit by key lines: most are edits that suit the table, the rest are malformed or odd. A trial is a made-up line, and other calls
+/// that no line makes are passed over, so that the table is filled now and then.
 pub fn next_line(generator: &mut Generator, table: &Table) -> Vec<u8> {
-    match generator.call(table) {
-        Call::Edit(command) => key_text(command),
-        Call::KeyLine(line) => line,
-        _ => generator.key_line(&plan_of(table)),
+    loop {
+        match generator.call(table) {
+            Call::Edit(command) => return key_text(command),
+            Call::KeyLine(line) => return line,
+            Call::Trial { .. } => return generator.key_line(&plan_of(table)),
+            _ => {}
+        }
     }
 }
 

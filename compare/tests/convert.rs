@@ -2,12 +2,12 @@
 //! extended and of mixed editions, with their records in any order, into buffers of all lengths; those of histories by cabin 0 alone and by several
 //! cabins; lists that differ from edition 1's in one number; and the laws of a conversion. Bytes beside the lent ones and the image have to stay.
 
-use compare::{both, converted, next_line, Pair, Refusals};
+use compare::{both, converted, next_line, tables_of_histories, Pair, Refusals};
 use reference::cabins::{for_cabin_0, list, one_cabin};
 use reference::calls::{add, fresh, fresh_for_cabin_0};
 use reference::convert::{Conversion, Way};
 use reference::faults::Fault;
-use reference::generate::{start, Generator, Random};
+use reference::generate::{Generator, Random};
 use reference::history::{Call, Outcome, Start, UNTOUCHED};
 use reference::image::{
     encode, in_edition_1, load, records, sizes, HEADER, OLD_HEADER, OLD_RECORD, RECORD,
@@ -284,17 +284,7 @@ fn images_of_histories() {
         }
     }
     seen.met(&[0, 12], &[0, 12], 400);
-    for seed in 300..354 {
-        let (mut pair, begun) = Pair::begin(&start(seed), Fault::None);
-        begun.unwrap();
-        let mut generator = Generator::new(seed);
-        for call in 0..150 {
-            pair.call(&generator.call(&pair.second)).unwrap();
-            if call % 12 == 0 {
-                convert_written(&pair.second, &mut seen);
-            }
-        }
-    }
+    tables_of_histories(300..354, 150, 12, |table| convert_written(table, &mut seen));
     seen.met(&[0, 12], &[0, 12, 17], 400);
 }
 

@@ -8,6 +8,7 @@ use reference::faults::{Fault, Length, Part, Sort};
 use reference::generate::{key_text, start, Generator, Random};
 use reference::history::{run, Call, Start};
 use reference::image::{encode, in_edition_1};
+use reference::preview::PREVIEW_ROOM;
 use reference::slip::{between, LARGEST_SLIP};
 use reference::sound::{ALARM, CONTACT, MESSAGE, WAIT};
 use reference::table::Table;
@@ -63,6 +64,7 @@ fn cases() -> Vec<(Table, Call)> {
         Call::Edit(Command::Count),
         Call::ClearWithSlip { step: 0, exit: 0, buffer: LARGEST_SLIP },
         Call::TakeBack { slip: slip.clone() },
+        Call::PreviewClear { step: 0, exit: 0, buffer: PREVIEW_ROOM },
         Call::Squeeze { capacity: 128, quotas: one_cabin(128) },
         Call::Read { step: 0 },
         Call::Trial { limit: 4, results: vec![0, 1], trace: 4 },
@@ -83,6 +85,9 @@ fn cases() -> Vec<(Table, Call)> {
     }
     cases.push((ring.clone(), Call::Write { buffer: 65_536 }));
     cases.push((ring.clone(), Call::ClearWithSlip { step: 0, exit: 0, buffer: 65_536 }));
+    for buffer in [65_536, 65_536 + PREVIEW_ROOM - 1] {
+        cases.push((ring.clone(), Call::PreviewClear { step: 0, exit: 0, buffer }));
+    }
     cases.push((cleared, Call::TakeBack { slip: [&slip[..], &vec![0; 65_536]].concat() }));
     let line = [&b"H*4A"[..], &vec![b'0'; 65_536]].concat();
     cases.push((ring, Call::KeyLine(line)));
@@ -139,13 +144,13 @@ fn named() -> Vec<(Fault, Found)> {
     use Evidence::*;
     use Fault::*;
     use Sort::{
-        Add, Clear, ClearWithSlip, ConvertDown, ConvertUp, Count, Fresh, KeyLine, Link, Load, Read,
-        Squeeze, TakeBack, Trial, Write,
+        Add, Clear, ClearWithSlip, ConvertDown, ConvertUp, Count, Fresh, KeyLine, Link, Load,
+        PreviewClear, Read, Squeeze, TakeBack, Trial, Write,
     };
     let added: &[Evidence] = &[Refusal, Number(0), Table];
     let written: &[Evidence] = &[Refusal, Number(0), Lent];
     let convert = &[ConvertUp, ConvertDown];
-    let lending = &[ConvertUp, ConvertDown, ClearWithSlip];
+    let lending = &[ConvertUp, ConvertDown, ClearWithSlip, PreviewClear];
     // a clearing with a slip made by one program and refused by the other, by what it freed or kept
     let none_doubtful: &[Evidence] = &[Refusal, Lent, Table];
     let all_kept: &[Evidence] = &[Refusal, Number(0), Lent, Table];
@@ -153,6 +158,9 @@ fn named() -> Vec<(Fault, Found)> {
     // the same of a take-back, by what it brings back
     let put_back: &[Evidence] = &[Refusal, Table];
     let brought_back: &[Evidence] = &[Refusal, Number(0), Table];
+    // the same of a preview, by what it tells of: nothing, doubtful steps that stay, steps that go
+    let told: [&[Evidence]; 3] =
+        [&[Refusal], &[Refusal, Number(0)], &[Refusal, Number(0), Number(1), Lent]];
     vec![
         (CopyKeepsStrength, ways(&[Link, KeyLine], &[&[Table]])),
         (CounterOffByOne, ways(&[Link, KeyLine], &[&[Table]])),
@@ -214,6 +222,26 @@ fn named() -> Vec<(Fault, Found)> {
         (BitsNotBack, ways(&[TakeBack], &[&[Table]])),
         (CabinsNotBack, ways(&[TakeBack], &[&[Table]])),
         (ListedSaidBack, ways(&[TakeBack], &[&[Number(0)]])),
+        (DoubtfulListed, ways(&[PreviewClear], &[&[Lent]])),
+        (PreviewDescending, ways(&[PreviewClear], &[&[Lent]])),
+        (NumbersInWords, ways(&[PreviewClear], &[&[Lent]])),
+        (PreviewPadded, ways(&[PreviewClear], &[&[Lent]])),
+        (DoubtfulSaidToGo, ways(&[PreviewClear], &[&[Number(1)]])),
+        (WeakUnmarked, ways(&[PreviewClear], &[&[Number(1), Lent]])),
+        (ExitLeftIn, ways(&[PreviewClear], &[&[Number(0)], &[Number(0), Number(1), Lent]])),
+        (
+            CopiesLeftOut,
+            ways(
+                &[PreviewClear],
+                &[&[Number(0)], &[Number(1), Lent], &[Number(0), Number(1), Lent]],
+            ),
+        ),
+        (PreviewRoomBeforeEmpty, ways(&[PreviewClear], &[&[Refusal]])),
+        (PreviewRoomFirst, ways(&[PreviewClear], &[&[Refusal]])),
+        (PreviewRoomForThese, ways(&[PreviewClear], &told)),
+        (PreviewRoomByCapacity, ways(&[PreviewClear], &told)),
+        (PreviewRoomForAlarm, ways(&[PreviewClear], &told)),
+        (PreviewClears, ways(&[PreviewClear], &[&[Table]])),
         (CabinsBeforeImage, ways(&[ConvertDown], &[&[Refusal]])),
         (BufferBeforeCabins, ways(&[ConvertDown], &[&[Refusal]])),
         (BufferBeforeEdition, ways(convert, &[&[Refusal]])),
@@ -309,7 +337,16 @@ fn cut_lengths_show() {
     for (length, sorts) in [
         (Length::Results, &[Sort::Trial][..]),
         (Length::Trace, &[Sort::Trial]),
-        (Length::Buffer, &[Sort::Write, Sort::ClearWithSlip, Sort::ConvertUp, Sort::ConvertDown]),
+        (
+            Length::Buffer,
+            &[
+                Sort::Write,
+                Sort::ClearWithSlip,
+                Sort::PreviewClear,
+                Sort::ConvertUp,
+                Sort::ConvertDown,
+            ],
+        ),
         (Length::Line, &[Sort::KeyLine]),
         (Length::Image, &[Sort::Load, Sort::ConvertUp, Sort::ConvertDown]),
         (Length::Slip, &[Sort::TakeBack]),

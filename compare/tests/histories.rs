@@ -37,6 +37,9 @@ struct Seen {
     taken_back: usize,
     brought_back: usize,
     not_taken_back: usize,
+    /// Previews: accepted, refused by 11, and of clearings that free some of the doubtful steps and take others back.
+    previews: [usize; 2],
+    part_goes: usize,
 }
 
 impl Seen {
@@ -74,6 +77,10 @@ impl Seen {
                 self.brought_back += usize::from(numbers[0] > 0);
             }
             Call::TakeBack { .. } => self.not_taken_back += usize::from(*refusal == 18),
+            Call::PreviewClear { .. } if matches!(refusal, 0 | 11) => {
+                self.previews[usize::from(*refusal) / 11] += 1;
+                self.part_goes += usize::from(numbers[1] > 0 && numbers[1] < numbers[0]);
+            }
             Call::KeyLine(_) if matches!(refusal, 14 | 15) => {
                 self.held_lines[usize::from(refusal - 14)] += 1;
             }
@@ -113,7 +120,7 @@ fn history(seed: u64, pair: Pair, calls: usize, seen: &mut Seen) {
 #[test]
 fn key_lines_agree() {
     let mut seen = Seen::default();
-    for seed in 1000..1012 {
+    for seed in 1000..1030 {
         visit(seed, 1500, &fresh_for_cabin_0(128), &mut seen);
     }
     assert!(
@@ -125,7 +132,7 @@ fn key_lines_agree() {
         assert!(seen.refusals[refusal] > 0, "refusal {refusal} came up");
     }
     assert_eq!(seen.held_lines, [0, 0], "with cabin 0 alone, 8 comes first");
-    for seed in 1012..1052 {
+    for seed in 1030..1070 {
         visit(seed, 150, &Random(seed).sound_table(), &mut seen);
     }
     assert!(seen.held_lines.iter().all(|&lines| lines > 100), "{:?}", seen.held_lines);
@@ -160,4 +167,5 @@ fn histories_agree() {
     assert!(seen.adds.iter().all(|&adds| adds > 300) && seen.no_cabin > 100);
     assert!(seen.slips.iter().all(|&slips| slips > 300), "slips {:?}", seen.slips);
     assert!(seen.taken_back > 300 && seen.brought_back > 100 && seen.not_taken_back > 300);
+    assert!(seen.previews.iter().all(|&made| made > 1000) && seen.part_goes > 30);
 }

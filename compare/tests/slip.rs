@@ -2,7 +2,7 @@
 //! strengths, damaged a byte at a time, cut, extended, put together wrongly and made up; old slips of histories; buffers of all lengths; tables that are
 //! not sound; and the laws. Bytes beside the lent ones and the slip have to stay.
 
-use compare::{as_said, both, ring, Refusals};
+use compare::{as_said, both, ring, Refusals, NUMBERS};
 use reference::calls::{add, clear, fresh_for_cabin_0, link, Command};
 use reference::generate::{start, Generator, Random};
 use reference::history::{Call, Outcome, Start, UNTOUCHED};
@@ -11,10 +11,6 @@ use reference::laws::{self, slip_length};
 use reference::slip::{between, listed, LARGEST_SLIP, SLIP_HEADER, SLIP_PAIR};
 use reference::sound::{sound, CONTACT};
 use reference::table::{members, Table, EXITS};
-
-/// Numbers at and past the ends of ranges, and numbers that would wrap.
-const NUMBERS: [u16; 22] =
-    [0, 1, 2, 3, 4, 5, 7, 8, 15, 16, 31, 32, 99, 100, 127, 128, 129, 255, 256, 600, 32_768, 65_535];
 
 /// A clearing: the table before it, the exit, the table after it and the slip.
 struct Cleared {
@@ -313,18 +309,11 @@ fn buffers() {
 /// Any step and exit, with any buffer: 3, 4 and 6 come before 11.
 #[test]
 fn any_exit() {
-    let mut seen = Refusals::default();
-    for table in [fresh_for_cabin_0(1), ring(&[CONTACT; 5]), Random(5).sound_table()] {
-        for (step, exit) in NUMBERS.into_iter().flat_map(|step| NUMBERS.map(|exit| (step, exit))) {
-            for buffer in [0, 49, 50, LARGEST_SLIP] {
-                let outcome = as_said(&table, &Call::ClearWithSlip { step, exit, buffer });
-                seen[usize::from(outcome.refusal)] += 1;
-            }
-        }
-    }
-    for (refusal, &times) in seen.iter().enumerate() {
-        assert_eq!(times > 10, matches!(refusal, 0 | 3 | 4 | 6 | 11), "{seen:?}");
-    }
+    compare::any_exit(&[0, 49, 50, LARGEST_SLIP], |step, exit, buffer| Call::ClearWithSlip {
+        step,
+        exit,
+        buffer,
+    });
 }
 
 /// Damaged tables, most of which are not sound: 1, whatever the exit, the buffer and the slip.

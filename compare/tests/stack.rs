@@ -170,6 +170,24 @@ fn calls(exit: u16) -> Vec<Taken> {
         taken("take back, a byte more", &empty, 18, |t| raw::take_back(t, &over).refusal),
         taken("take back, no bytes", &empty, 18, |t| raw::take_back(t, &[]).refusal),
         taken("take back, table unsound", &unsound, 1, |t| raw::take_back(t, &freed).refusal),
+        taken("preview clear, 127 to go", &chain, 127, |t| {
+            raw::preview_clear(t, 0, exit, &mut trace).second
+        }),
+        taken("preview clear, 127 taken back", &held, 127, |t| {
+            raw::preview_clear(t, 0, exit, &mut trace).first
+        }),
+        taken("preview clear, a weak link", &held, 0, |t| {
+            raw::preview_clear(t, 0, (exit + 1) % 4, &mut trace).refusal
+        }),
+        taken("preview clear, no room", &chain, 11, |t| {
+            raw::preview_clear(t, 0, exit, &mut trace[1..]).refusal
+        }),
+        taken("preview clear, no link", &chain, 6, |t| {
+            raw::preview_clear(t, 127, exit, &mut trace).refusal
+        }),
+        taken("preview clear, table unsound", &unsound, 1, |t| {
+            raw::preview_clear(t, 0, exit, &mut trace).refusal
+        }),
         taken("squeeze, 126 moved", &gap, 0, |t| raw::squeeze(t, 127, &least).refusal),
         taken("squeeze, none moved", &chain, 0, |t| raw::squeeze(t, 128, &most).refusal),
         taken("squeeze of eight cabins", &shared, 0, |t| raw::squeeze(t, 128, &own).refusal),
@@ -261,6 +279,7 @@ fn deepest_calls_in_a_small_thread() {
         let mut slip = vec![0; telephone::SLIP_MAX];
         let (_, length) = table.clear_with_slip(0, Exit::Answered, &mut slip)?;
         table.take_back(&slip[..length])?;
+        table.preview_clear(0, Exit::Answered, &mut slip)?;
         table.key_line(b"H*30000A")
     };
     let thread = std::thread::Builder::new().stack_size(2 * LIMIT).spawn(visit);

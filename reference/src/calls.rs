@@ -272,7 +272,7 @@ pub fn first_refusal(order: &[(u16, bool)]) -> u16 {
 }
 
 /// The refusal of a command, by its order. Every condition can be read on any table.
-fn edit_refusal(table: &Table, command: Command, fault: Fault) -> u16 {
+pub fn edit_refusal(table: &Table, command: Command, fault: Fault) -> u16 {
     let no_step = |step| (3, !table.has(step));
     let no_exit = |exit| (4, usize::from(exit) >= EXITS);
     let filled = |step, exit| (5, table.target(step, exit) != 0);

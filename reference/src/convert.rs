@@ -5,7 +5,7 @@
 use crate::cabins::{one_cabin, pairs};
 use crate::calls::{bare, first_refusal, Answer};
 use crate::faults::{cut, put, spoil, Fault, Length, Sort};
-use crate::history::{plain, Outcome, UNTOUCHED};
+use crate::history::{with_buffer, Outcome};
 use crate::image::{
     fields, in_edition_1, in_edition_2, is_old, load, sizes, sorted, HEADER, RECORD,
 };
@@ -29,9 +29,8 @@ pub struct Conversion {
 pub fn run(conversion: &Conversion, fault: Fault) -> Outcome {
     let Conversion { way, image, buffer } = conversion;
     let image = &image[..cut(fault, Length::Image, image.len())];
-    let mut lent = vec![UNTOUCHED; *buffer];
-    let answer = convert_with(*way, image, &mut lent[..cut(fault, Length::Buffer, *buffer)], fault);
-    let mut outcome = plain(answer, lent);
+    let mut outcome =
+        with_buffer(*buffer, fault, |buffer| convert_with(*way, image, buffer, fault));
     spoil(fault, Sort::of_way(*way), None, &mut outcome);
     outcome
 }

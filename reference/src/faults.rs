@@ -1,9 +1,10 @@
 //! Deliberate errors, so that wrong variants can be run against the right one.
 //! The first fifteen are other ways to edit and stand in `calls`, `cabins` and `clearing`, the next
 //! two are of lists, two of images, eleven are other ways to squeeze, eight other ways to make a
-//! trial, twelve other ways to clear with a slip, twelve other ways to take it back, and seventeen
-//! other ways to convert an image, of which two are of slips too. Each of the rest spoils what a
-//! right call gives, in one part of it.
+//! trial, twelve other ways to clear with a slip, twelve other ways to take it back, fourteen other
+//! ways to tell what a clearing would free, and seventeen other ways to convert an image, of which
+//! two are of slips and previews too. Each of the rest spoils what a right call gives, in one part
+//! of it.
 
 use crate::calls::{Command, Ending};
 use crate::convert::Way;
@@ -142,6 +143,34 @@ pub enum Fault {
     CabinsNotBack,
     /// Taking back answers the number of steps in the slip.
     ListedSaidBack,
+    /// A preview lists the doubtful steps.
+    DoubtfulListed,
+    /// A preview has the numbers in descending order.
+    PreviewDescending,
+    /// A preview has each number in two bytes.
+    NumbersInWords,
+    /// A preview writes 127 bytes, with zeros behind the numbers.
+    PreviewPadded,
+    /// A preview says that all doubtful steps would be freed.
+    DoubtfulSaidToGo,
+    /// A preview marks along strong links alone.
+    WeakUnmarked,
+    /// A preview marks along the exit asked about too.
+    ExitLeftIn,
+    /// A preview marks along none of the step's exits that lead to the same step.
+    CopiesLeftOut,
+    /// A preview looks at the buffer before it looks at the exit.
+    PreviewRoomBeforeEmpty,
+    /// A preview looks at the buffer before anything else.
+    PreviewRoomFirst,
+    /// The buffer of a preview must hold the steps that would be freed, and no more.
+    PreviewRoomForThese,
+    /// The buffer of a preview must hold as many bytes as the table has places, less step 0's.
+    PreviewRoomByCapacity,
+    /// The buffer of a preview must hold a byte for step 0 too.
+    PreviewRoomForAlarm,
+    /// A preview makes the clearing.
+    PreviewClears,
     /// A conversion down looks at cabins and list before it asks whether the image is accepted.
     CabinsBeforeImage,
     /// A conversion down looks at the buffer before cabins and list.
@@ -170,9 +199,10 @@ pub enum Fault {
     OrderKept,
     /// The buffer of a conversion must have room for either image.
     RoomForEither,
-    /// A conversion or a clearing with too short a buffer writes what fits into it.
+    /// A conversion, a clearing or a preview with too short a buffer writes what fits into it.
     WrittenAsFits,
-    /// A conversion or a clearing puts a zero behind what it writes, where the buffer has room.
+    /// A conversion, a clearing or a preview puts a zero behind what it writes, where the buffer has
+    /// room.
     ZeroBehind,
     /// A conversion answers the length of the image given to it.
     LengthOfGiven,
@@ -219,6 +249,7 @@ pub enum Sort {
     Clear,
     ClearWithSlip,
     TakeBack,
+    PreviewClear,
     Squeeze,
     Count,
     Read,
@@ -243,7 +274,7 @@ pub enum Part {
 }
 
 impl Sort {
-    pub const ALL: [Sort; 16] = [
+    pub const ALL: [Sort; 17] = [
         Sort::Fresh,
         Sort::Load,
         Sort::Add,
@@ -251,6 +282,7 @@ impl Sort {
         Sort::Clear,
         Sort::ClearWithSlip,
         Sort::TakeBack,
+        Sort::PreviewClear,
         Sort::Squeeze,
         Sort::Count,
         Sort::Read,
@@ -270,6 +302,7 @@ impl Sort {
             Call::Edit(Command::Count) => Sort::Count,
             Call::ClearWithSlip { .. } => Sort::ClearWithSlip,
             Call::TakeBack { .. } => Sort::TakeBack,
+            Call::PreviewClear { .. } => Sort::PreviewClear,
             Call::Squeeze { .. } => Sort::Squeeze,
             Call::Read { .. } => Sort::Read,
             Call::Trial { .. } => Sort::Trial,
@@ -312,7 +345,8 @@ impl Sort {
         let mut parts = vec![Part::Refusal];
         parts.extend((!self.converts()).then_some(Part::Table));
         parts.extend((0..self.numbers()).map(Part::Number));
-        if self.converts() || matches!(self, Sort::ClearWithSlip | Sort::Trial | Sort::Write) {
+        let lent = [Sort::ClearWithSlip, Sort::PreviewClear, Sort::Trial, Sort::Write];
+        if self.converts() || lent.contains(&self) {
             parts.push(Part::Unwritten);
             parts.extend((!refused).then_some(Part::Written));
         }
@@ -347,9 +381,10 @@ pub fn cut(fault: Fault, which: Length, length: usize) -> usize {
 pub fn put(refusal: u16, written: &[u8], buffer: &mut [u8], fault: Fault) {
     let room = match refusal {
         0 => written.len(),
-        11 if fault == Fault::WrittenAsFits => buffer.len(),
+        11 if fault == Fault::WrittenAsFits => written.len(),
         _ => 0,
-    };
+    }
+    .min(buffer.len());
     buffer[..room].copy_from_slice(&written[..room]);
     if let (0, Fault::ZeroBehind, Some(behind)) = (refusal, fault, buffer.get_mut(room)) {
         *behind = 0;
@@ -383,6 +418,7 @@ pub fn spoil(fault: Fault, sort: Sort, table: Option<&mut Table>, outcome: &mut 
                 _ if refused => 0,
                 Sort::Trial => outcome.numbers[2],
                 Sort::ClearWithSlip => SLIP_HEADER + SLIP_PAIR * (1 + outcome.numbers[0]),
+                Sort::PreviewClear => outcome.numbers[1],
                 _ => outcome.numbers[0],
             };
             match part {

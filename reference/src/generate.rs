@@ -1,20 +1,21 @@
 //! Made-up calls, key lines, lists, images, conversions, slips, sound tables and unsound ones, the
 //! same for the same seed. Most calls suit the table at hand; the rest have odd numbers, wrong keys,
 //! short buffers, lists that are bad or do not fit, or slips that are old, damaged or of no
-//! clearing. Serves the tests of "A history is a list" of document 01, and of W6 and W7 of document
-//! 02.
+//! clearing. Serves the tests of "A history is a list" of document 01, and of W6, W7 and W8 of
+//! document 02.
 
 use std::array::from_fn;
 use std::ops::Range;
 
 use crate::cabins::{for_cabin_0, one_cabin};
-use crate::calls::{clear, Command};
+use crate::calls::{clear, fresh_for_cabin_0, Command};
 use crate::convert::{Conversion, Way};
 use crate::history::{Call, Start};
 use crate::image::{encode, in_edition_1, in_edition_2, record, records, HEADER, RECORD};
 use crate::plan::{plan_of, Plan, PlanStep};
+use crate::preview::PREVIEW_ROOM;
 use crate::slip::{between, LARGEST_SLIP, SLIP_HEADER, SLIP_PAIR};
-use crate::sound::{CONTACT, MESSAGE, WAIT};
+use crate::sound::{sound, CONTACT, MESSAGE, WAIT};
 use crate::table::{members, place, Charges, Quotas, Table, CABINS, EXITS, PLACES};
 
 /// Numbers at and beyond the ends of ranges, and numbers that would wrap to small ones.
@@ -22,18 +23,21 @@ const ODD: [u16; 21] =
     [0, 1, 2, 3, 4, 5, 7, 8, 15, 16, 99, 100, 127, 128, 255, 256, 257, 600, 601, 32768, 65535];
 
 /// Phases of a history: fill, make rings, clear, mix. Each lists add, link, clear, clear with a
-/// slip, take back, squeeze, trial and other calls by a letter, as often as it has them.
+/// slip, take back, preview, squeeze, trial and other calls by a letter, as often as it has them.
 const PHASES: [&[u8]; 4] = [
-    b"aaaaaaaaaaaalllckkbsstttoo",
-    b"aalllllllllckkbsttoo",
-    b"allccccccckkkbsttoo",
-    b"aaalllcckkbbstttoooo",
+    b"aaaaaaaaaaaalllckkbppsstttoo",
+    b"aalllllllllckkbppsttoo",
+    b"allccccccckkkbppsttoo",
+    b"aaalllcckkbbppstttoooo",
 ];
 
 /// What may come right after a clearing with a slip: taking back at once, or after an add at the
-/// cleared exit or elsewhere, a link, a clearing, a squeeze, a trial, another call, or several.
-const SEQUELS: [&[u8]; 12] =
-    [b"b", b"b", b"b", b"eb", b"ab", b"lb", b"cb", b"sb", b"tb", b"ob", b"aaaab", b"ocalb"];
+/// cleared exit or elsewhere, a link, a clearing, a preview, a squeeze, a trial, another call, or
+/// several.
+const SEQUELS: [&[u8]; 14] = [
+    b"b", b"b", b"b", b"eb", b"ab", b"lb", b"cb", b"pb", b"sb", b"tb", b"ob", b"aaaab", b"aaaab",
+    b"ocalb",
+];
 
 /// Splitmix64.
 pub struct Random(pub u64);
@@ -215,6 +219,21 @@ impl Random {
         (step, exit)
     }
 
+    /// An exit of the plan such that another one of its step leads to the same target, if there is
+    /// one.
+    fn copied_place(&mut self, plan: &Plan) -> Option<(u16, u16)> {
+        let mut places = Vec::new();
+        for (&number, PlanStep { targets, .. }) in &plan.steps {
+            for (exit, target) in (0..).zip(targets) {
+                let links = targets.iter().filter(|&other| other == target).count();
+                if *target != 0 && links > 1 {
+                    places.push((number, exit));
+                }
+            }
+        }
+        (!places.is_empty()).then(|| self.pick(&places))
+    }
+
     /// So many line results, and the moves that a trial makes with them if nothing stops it, or
     /// some number if it goes on for ever. A contact mostly gets the number of an exit that is
     /// filled.
@@ -301,6 +320,39 @@ impl Random {
         table.counts = table.counted();
         self.charge(&mut table);
         table
+    }
+
+    /// The plan of a sound table with any strengths that it may have. The steps are reached in some
+    /// order, each by a strong link, and a link to itself or an earlier one is weak.
+    pub fn other_strengths(&mut self, table: &Table) -> Table {
+        let mut other = table.clone();
+        let mut order = vec![0];
+        let mut reaching = Vec::new();
+        let mut open: Vec<usize> = (0..EXITS).collect();
+        while !open.is_empty() {
+            let exit = open.swap_remove(self.below(open.len()));
+            let target = usize::from(table.targets[exit]);
+            if target != 0 && !order.contains(&target) {
+                order.push(target);
+                reaching.push(exit);
+                open.extend(place(target, 0)..place(target, EXITS));
+            }
+        }
+        for &step in &order {
+            other.own[step] = self.below(2) as u16;
+        }
+        for (i, &step) in order.iter().enumerate() {
+            for exit in place(step, 0)..place(step, EXITS) {
+                let target = usize::from(table.targets[exit]);
+                if target != 0 {
+                    let strong = order[i + 1..].contains(&target) && self.once_in(2);
+                    let strong = strong || reaching.contains(&exit);
+                    other.bits[exit] = other.own[target] ^ u16::from(!strong);
+                }
+            }
+        }
+        other.counts = other.counted();
+        other
     }
 
     /// Charges the steps of a table to cabins, and gives it a list that they keep to; every fourth
@@ -527,12 +579,15 @@ pub struct Generator {
     soon: &'static [u8],
     /// The exits cleared with a slip, and the slips, the last one last.
     slips: Vec<(u16, u16, Vec<u8>)>,
+    /// The exit previewed last.
+    previewed: (u16, u16),
 }
 
 impl Generator {
     pub fn new(seed: u64) -> Generator {
         let (phase, left) = (PHASES[0], 2 * PLACES);
-        Generator { random: Random(seed), phase, left, soon: b"", slips: Vec::new() }
+        let (soon, slips, previewed) = (b"", Vec::new(), (0, 0));
+        Generator { random: Random(seed), phase, left, soon, slips, previewed }
     }
 
     /// The next call, to be made on this table.
@@ -551,6 +606,11 @@ impl Generator {
             b'k' => self.clear_with_slip(table, plan),
             b'b' => Call::TakeBack { slip: self.slip(table) },
             b'e' => self.add_at_cleared(plan),
+            b'p' => self.preview_clear(plan),
+            b'd' => {
+                let (step, exit) = self.previewed;
+                Call::Edit(Command::Clear { step, exit })
+            }
             b's' => {
                 let capacity = self.random.capacity(plan);
                 let quotas = self.random.list(capacity, &plan.charges());
@@ -578,6 +638,22 @@ impl Generator {
         let rooms = [needed, needed, more, more, more, LARGEST_SLIP, needed - 1, less];
         let buffer = self.random.pick(&rooms);
         Call::ClearWithSlip { step, exit, buffer }
+    }
+
+    /// A preview, into a buffer about as long as it has to be. Every sixth time the same clearing
+    /// is made next, where nothing else is to come first.
+    fn preview_clear(&mut self, plan: &Plan) -> Call {
+        let random = &mut self.random;
+        let filled = !random.once_in(8);
+        let copied = if random.once_in(3) { random.copied_place(plan) } else { None };
+        let (step, exit) = copied.unwrap_or_else(|| random.place(plan, filled));
+        let (near, less) = (random.around(PREVIEW_ROOM), random.below(PREVIEW_ROOM));
+        let buffer = random.pick(&[PREVIEW_ROOM, near, near, less]);
+        if self.soon.is_empty() && random.once_in(6) {
+            self.soon = b"d";
+        }
+        self.previewed = (step, exit);
+        Call::PreviewClear { step, exit, buffer }
     }
 
     /// The last slip, an earlier one, one that no clearing wrote, or one of these damaged.
@@ -668,6 +744,28 @@ impl Generator {
             _ => Command::Count,
         }
     }
+}
+
+/// Every sound table of capacity 3 with steps 1 and 2 in use and own bits of either value, in which
+/// exits 0 and 3 alone hold links, of either strength.
+pub fn small_tables() -> impl Iterator<Item = Table> {
+    const PLACES_TO_FILL: [usize; 6] = [0, 3, 4, 7, 8, 11];
+    // at each place nothing, or a target with a bit
+    const LINKS: [(u16, u16); 5] = [(0, 0), (1, 0), (1, 1), (2, 0), (2, 1)];
+    let ways = LINKS.len().pow(PLACES_TO_FILL.len() as u32);
+    (0..4 * ways).filter_map(move |number| {
+        let mut table = fresh_for_cabin_0(3);
+        table.used[1..3].fill(1);
+        table.kinds[1..3].fill(CONTACT);
+        (table.own[1], table.own[2]) = ((number / ways % 2) as u16, (number / ways / 2) as u16);
+        let mut rest = number % ways;
+        for place in PLACES_TO_FILL {
+            (table.targets[place], table.bits[place]) = LINKS[rest % LINKS.len()];
+            rest /= LINKS.len();
+        }
+        table.counts = table.counted();
+        sound(&table).then_some(table)
+    })
 }
 
 /// Tables with any strengths, of which every sixth is damaged, each with ten trials that suit it as

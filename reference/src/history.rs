@@ -1,11 +1,12 @@
 //! The calls of a history as values, run on a table, and the comparison with the plain plan.
 //! Renders "A history is a list", W2's squeeze in it, W3's trial, W5's cabins and lists, W7's slips,
-//! and demand 3's list of what has to agree.
+//! W8's previews, and demand 3's list of what has to agree.
 
-use crate::calls::{edit, fresh_with, read, trial_with, Answer, Command};
+use crate::calls::{clear, edit, fresh_with, read, trial_with, Answer, Command};
 use crate::faults::{cut, spoil, Fault, Length, Sort};
 use crate::image::{length, load_with, write};
 use crate::keys::{decode, key_line_with};
+use crate::preview::preview_clear_with;
 use crate::slip::{clear_with_slip_with, take_back_with};
 use crate::squeeze::squeeze_with;
 use crate::table::{Quotas, Table};
@@ -17,6 +18,7 @@ pub enum Call {
     Edit(Command),
     ClearWithSlip { step: u16, exit: u16, buffer: usize },
     TakeBack { slip: Vec<u8> },
+    PreviewClear { step: u16, exit: u16, buffer: usize },
     Squeeze { capacity: u16, quotas: Quotas },
     Read { step: u16 },
     Trial { limit: u16, results: Vec<u8>, trace: usize },
@@ -81,15 +83,21 @@ pub fn begin(start: &Start, fault: Fault) -> (Table, Outcome) {
 pub fn run(table: &mut Table, call: &Call, fault: Fault) -> Outcome {
     let mut outcome = match call {
         Call::Edit(command) => plain(edit(table, *command, fault), Vec::new()),
-        Call::ClearWithSlip { step, exit, buffer } => {
-            let mut lent = vec![UNTOUCHED; *buffer];
-            let room = &mut lent[..cut(fault, Length::Buffer, *buffer)];
-            let answer = clear_with_slip_with(table, *step, *exit, room, fault);
-            plain(answer, lent)
-        }
+        Call::ClearWithSlip { step, exit, buffer } => with_buffer(*buffer, fault, |buffer| {
+            clear_with_slip_with(table, *step, *exit, buffer, fault)
+        }),
         Call::TakeBack { slip } => {
             let slip = &slip[..cut(fault, Length::Slip, slip.len())];
             plain(take_back_with(table, slip, fault), Vec::new())
+        }
+        Call::PreviewClear { step, exit, buffer } => {
+            let told = with_buffer(*buffer, fault, |buffer| {
+                preview_clear_with(table, *step, *exit, buffer, fault)
+            });
+            if told.refusal == 0 && fault == Fault::PreviewClears {
+                clear(table, *step, *exit);
+            }
+            told
         }
         Call::Squeeze { capacity, quotas } => {
             plain(squeeze_with(table, *capacity, *quotas, fault), Vec::new())
@@ -98,11 +106,7 @@ pub fn run(table: &mut Table, call: &Call, fault: Fault) -> Outcome {
             let line = &line[..cut(fault, Length::Line, line.len())];
             plain(key_line_with(table, line, fault), Vec::new())
         }
-        Call::Write { buffer } => {
-            let mut lent = vec![UNTOUCHED; *buffer];
-            let answer = write(table, &mut lent[..cut(fault, Length::Buffer, *buffer)]);
-            plain(answer, lent)
-        }
+        Call::Write { buffer } => with_buffer(*buffer, fault, |buffer| write(table, buffer)),
         Call::ImageLength => plain(length(table), Vec::new()),
         Call::Trial { limit, results, trace } => {
             let results = &results[..cut(fault, Length::Results, results.len())];
@@ -131,8 +135,15 @@ pub fn run(table: &mut Table, call: &Call, fault: Fault) -> Outcome {
     outcome
 }
 
+/// Lends a buffer to a call, which is given less of it where a fault cuts its length.
+pub fn with_buffer(length: usize, fault: Fault, call: impl FnOnce(&mut [u8]) -> Answer) -> Outcome {
+    let mut lent = vec![UNTOUCHED; length];
+    let answer = call(&mut lent[..cut(fault, Length::Buffer, length)]);
+    plain(answer, lent)
+}
+
 /// An outcome with two numbers.
-pub fn plain(answer: Answer, lent: Vec<u8>) -> Outcome {
+fn plain(answer: Answer, lent: Vec<u8>) -> Outcome {
     Outcome {
         refusal: answer.refusal,
         numbers: vec![answer.first.into(), answer.second.into()],

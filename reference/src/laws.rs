@@ -1,8 +1,8 @@
 //! What a squeeze has to keep, what the limit of a trial does, what cabins are promised, what
-//! conversions leave, and what slips say and bring back, checked on generated tables with any
-//! strengths, and histories. It is stated of any program that makes calls, so that it can be asked
-//! of this one and of the one it is held to. Renders W2, W3, W5, W6 and W7 of document 02. Each law
-//! gives how often it met the case that it is about.
+//! conversions leave, what slips say and bring back, and what a preview foretells, checked on
+//! generated tables with any strengths, and histories. It is stated of any program that makes calls,
+//! so that it can be asked of this one and of the one it is held to. Renders W2, W3, W5, W6, W7 and
+//! W8 of document 02. Each law gives how often it met the case that it is about.
 
 use std::collections::BTreeMap;
 use std::ops::Range;
@@ -15,6 +15,7 @@ use crate::generate::{start, Generator, Random};
 use crate::history::{begin, Call, Outcome, Start, UNTOUCHED};
 use crate::image::{bytes, encode, fields, in_edition_1, number, record, sorted, HEADER, RECORD};
 use crate::plan::{plan_of, Plan};
+use crate::preview::PREVIEW_ROOM;
 use crate::slip::{changes, listed, SLIP_HEADER, SLIP_PAIR};
 use crate::sound::{sound, CONTACT};
 use crate::table::{mark, members, place, Quotas, Successors, Table, CABINS, EXITS, PLACES};
@@ -277,13 +278,8 @@ pub fn slips_bring_back(program: Program, seeds: Range<u64>) -> usize {
 pub fn take_backs_retrace(program: Program, seeds: Range<u64>) -> [usize; 2] {
     let [mut accepted, mut later] = [0, 0];
     for seed in seeds {
-        let (mut table, _) = begin(&start(seed), Fault::None);
-        let mut generator = Generator::new(seed);
         let mut last = Vec::new();
-        for _ in 0..400 {
-            let call = generator.call(&table);
-            let present = table.clone();
-            let outcome = program(&mut table, &call);
+        for (present, call, outcome, table) in calls(program, seed) {
             match &call {
                 Call::TakeBack { slip } if outcome.refusal == 0 => {
                     accepted += 1;
@@ -299,6 +295,22 @@ pub fn take_backs_retrace(program: Program, seeds: Range<u64>) -> [usize; 2] {
         }
     }
     [accepted, later]
+}
+
+/// The calls of a history, each with the table before it, its outcome and the table after it.
+fn calls<'a>(
+    program: Program<'a>,
+    seed: u64,
+) -> impl Iterator<Item = (Table, Call, Outcome, Table)> + 'a {
+    let (mut table, _) = begin(&start(seed), Fault::None);
+    let mut generator = Generator::new(seed);
+    let next = move || {
+        let before = table.clone();
+        let call = generator.call(&table);
+        let outcome = program(&mut table, &call);
+        (before, call, outcome, table.clone())
+    };
+    std::iter::repeat_with(next).take(400)
 }
 
 /// What a table rebuilt from a slip has to be, given the one that it was put into.
@@ -362,6 +374,106 @@ fn emptied(table: &Table, step: u16, exit: u16) -> Successors {
     let mut emptied = table.clone();
     emptied.targets[place(step.into(), exit.into())] = 0;
     emptied.strong_links()
+}
+
+/// What every preview of generated tables foretells, of each exit of each step. Gives the previews
+/// of clearings that free some of the doubtful steps and take others back, those that free all and
+/// those that free none, and those of exits that are empty.
+pub fn previews_foretell(program: Program, seeds: Range<u64>) -> [usize; 4] {
+    let mut found = [0; 4];
+    for (table, ..) in tables(seeds) {
+        for step in members(table.in_use()) {
+            for exit in 0..EXITS as u16 {
+                let told = foretold(program, &table, step as u16, exit, PREVIEW_ROOM);
+                match told.numbers[..] {
+                    _ if told.refusal != 0 => found[3] += 1,
+                    [doubtful, freed] if freed > 0 => found[usize::from(doubtful == freed)] += 1,
+                    _ => found[2] += 1,
+                }
+            }
+        }
+    }
+    found
+}
+
+/// The same of the previews of histories, whatever their step, exit and buffer. Gives the previews
+/// that told of steps, and of those the ones after which the same clearing was the next call.
+pub fn previews_of_histories(program: Program, seeds: Range<u64>) -> [usize; 2] {
+    let [mut told, mut made] = [0, 0];
+    for seed in seeds {
+        // the exit that the last call told of, and what it said
+        let mut last = None;
+        for (before, call, outcome, table) in calls(program, seed) {
+            match (&call, last.take()) {
+                (Call::PreviewClear { step, exit, buffer }, _) => {
+                    assert_eq!(outcome, foretold(program, &before, *step, *exit, *buffer));
+                    assert_eq!(table, before);
+                    let freed = outcome.numbers[1];
+                    told += usize::from(freed > 0);
+                    last = (freed > 0).then_some(((*step, *exit), outcome));
+                }
+                (Call::Edit(Command::Clear { step, exit }), Some((place, said)))
+                    if place == (*step, *exit) =>
+                {
+                    assert_eq!(outcome.numbers, said.numbers);
+                    assert_eq!(freed_between(&before, &table), said.lent[..said.numbers[1]]);
+                    made += 1;
+                }
+                _ => {}
+            }
+        }
+    }
+    [told, made]
+}
+
+/// The steps that would go are those of the plan, whatever its strengths: an image with other bits
+/// loads as a table of which each preview gives the same bytes and the same freed count. Gives the
+/// previews that tell of steps, and those whose doubtful count is another.
+pub fn strengths_do_not_matter(begin: Beginner, program: Program, seeds: Range<u64>) -> [usize; 2] {
+    let [mut told, mut other] = [0, 0];
+    for (table, ..) in tables(seeds) {
+        let mut random = Random(table.size().into());
+        let image = encode(&random.other_strengths(&table));
+        let (turned, outcome) = begin(&Start::Load { image });
+        assert_eq!((outcome.refusal, plan_of(&turned)), (0, plan_of(&table)));
+        for step in members(table.in_use()) {
+            for exit in 0..EXITS as u16 {
+                let [first, second] = [&table, &turned]
+                    .map(|table| foretold(program, table, step as u16, exit, PREVIEW_ROOM));
+                assert_eq!((first.refusal, &first.lent), (second.refusal, &second.lent));
+                assert_eq!(first.numbers[1], second.numbers[1]);
+                told += usize::from(first.numbers[1] > 0);
+                other += usize::from(first.numbers[0] != second.numbers[0]);
+            }
+        }
+    }
+    [told, other]
+}
+
+/// What a preview gives, which leaves the table: the refusal of the clearing, made next, or 11
+/// where the buffer is short and nothing else is wrong; else its counts, and the numbers of just the
+/// steps that it frees, ascending. The bytes past them stay, and all where it is refused.
+pub fn foretold(program: Program, table: &Table, step: u16, exit: u16, buffer: usize) -> Outcome {
+    let mut given = table.clone();
+    let told = program(&mut given, &Call::PreviewClear { step, exit, buffer });
+    assert_eq!(given, *table);
+    let cleared = program(&mut given, &Call::Edit(Command::Clear { step, exit }));
+    let short = cleared.refusal == 0 && buffer < PREVIEW_ROOM;
+    let mut expected = cleared;
+    expected.lent = vec![UNTOUCHED; buffer];
+    if short {
+        (expected.refusal, expected.numbers) = (11, vec![0, 0]);
+    } else {
+        let freed = freed_between(table, &given);
+        expected.lent[..freed.len()].copy_from_slice(&freed);
+    }
+    assert_eq!(told, expected, "{step} {exit}");
+    told
+}
+
+/// The numbers of the steps that are in use in one table and not in the other, ascending.
+fn freed_between(before: &Table, after: &Table) -> Vec<u8> {
+    members(before.in_use() & !after.in_use()).map(|step| step as u8).collect()
 }
 
 /// An image converted to the other edition loads as the same table, and its plan is the one that

@@ -1,11 +1,11 @@
 //! The call plan table of document 01, written a second time to compare with the product.
 //! Reach is marked afresh and counters are recounted from the links; no search works on counters.
-//! `table`, `sound`, `cabins`, `calls`, `clearing`, `slip`, `squeeze`, `image` and `keys` keep a
-//! table; `convert` has one edition of an image for the other; `plan` draws the plain plan;
+//! `table`, `sound`, `cabins`, `calls`, `clearing`, `slip`, `preview`, `squeeze`, `image` and `keys`
+//! keep a table; `convert` has one edition of an image for the other; `plan` draws the plain plan;
 //! `history` runs calls given as values; `generate` makes up calls, key lines, tables, lists,
 //! images, conversions and slips; `faults` has deliberate errors; `laws` has what every squeeze has
-//! to keep, what the limit of a trial does, what cabins are promised, what conversions leave, and
-//! what slips say and bring back.
+//! to keep, what the limit of a trial does, what cabins are promised, what conversions leave, what
+//! slips say and bring back, and what a preview foretells.
 
 pub mod cabins;
 pub mod calls;
@@ -18,6 +18,7 @@ pub mod image;
 pub mod keys;
 pub mod laws;
 pub mod plan;
+pub mod preview;
 pub mod slip;
 pub mod sound;
 pub mod squeeze;

@@ -2,7 +2,8 @@
 //! It has no bits and counters; after a clearing, what step 0 reaches is marked. Charges and unmet
 //! guarantees are counted as W5 says them.
 //! Renders "The plain plan of a table" of document 01, W2's squeeze of it, W3's refusal of a trial,
-//! W5's cabins, and W7's take-back, which puts the slip's old records into it.
+//! W5's cabins, W7's take-back, which puts the slip's old records into it, and W8's preview, which
+//! leaves it.
 
 use std::collections::{BTreeMap, BTreeSet};
 use std::iter::zip;
@@ -12,6 +13,7 @@ use crate::calls::Command;
 use crate::history::{Call, Start};
 use crate::image::{fields, in_edition_2, HEADER, RECORD};
 use crate::keys::decode;
+use crate::preview::PREVIEW_ROOM;
 use crate::slip::changes;
 use crate::sound::{capacity_fits, fits};
 use crate::table::{members, place, Charges, Quotas, Table, CABINS};
@@ -116,6 +118,12 @@ impl Plan {
                 let old = changes(slip).into_iter().map(|(old, _)| PlanStep::of_record(old));
                 self.steps.extend(old);
                 Ok([Some((self.steps.len() - before) as u16), Some(0)])
+            }
+            Call::PreviewClear { step, exit, buffer } => {
+                let cleared =
+                    self.clone().draw_command(Command::Clear { step: *step, exit: *exit })?;
+                refuse_if(*buffer < PREVIEW_ROOM, 11)?;
+                Ok(cleared)
             }
             Call::Edit(command) => self.draw_command(*command),
             Call::KeyLine(line) => self.draw_command(decode(line).ok_or(9u16)?),

@@ -110,11 +110,16 @@ impl Table {
 
     /// The strong links: those whose bit equals their target's bit.
     pub fn strong_links(&self) -> Successors {
-        self.links_that(|place, target| self.bits[place] == self.own[target])
+        self.links_that(|place, target| self.is_strong(place, target))
+    }
+
+    /// Whether the link at a place is strong, given its target, which is in range.
+    pub fn is_strong(&self, place: usize, target: usize) -> bool {
+        self.bits[place] == self.own[target]
     }
 
     /// The links that pass a test on their place and target. Targets out of range are left out.
-    fn links_that(&self, test: impl Fn(usize, usize) -> bool) -> Successors {
+    pub fn links_that(&self, test: impl Fn(usize, usize) -> bool) -> Successors {
         from_fn(|step| {
             (0..EXITS).fold(0, |set, exit| {
                 let place = place(step, exit);

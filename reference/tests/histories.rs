@@ -57,6 +57,10 @@ struct Seen {
     taken_back: u32,
     brought_back: u32,
     not_taken_back: u32,
+    /// Previews: accepted, those of them that told of steps, and refused by 11.
+    previews: u32,
+    told_of_steps: u32,
+    short_previews: u32,
 }
 
 /// Runs the first call on table and plan and compares all that has to agree.
@@ -114,6 +118,12 @@ fn check(table: &mut Table, plan: &mut Plan, call: &Call, seen: &mut Seen) {
             seen.brought_back += u32::from(table.size() > before.size());
         }
         (Call::TakeBack { .. }, _) => seen.not_taken_back += 1,
+        (Call::PreviewClear { .. }, 0) => {
+            assert_eq!(*table, before, "{call:?}");
+            seen.previews += 1;
+            seen.told_of_steps += u32::from(outcome.numbers[1] > 0);
+        }
+        (Call::PreviewClear { .. }, 11) => seen.short_previews += 1,
         _ => {}
     }
     seen.refusals[usize::from(outcome.refusal)] += 1;
@@ -145,6 +155,7 @@ fn histories_agree_with_the_plan() {
     assert!(seen.bad_results > 500 && seen.short_traces > 500);
     assert!(seen.slips > 1000 && seen.short_slips > 500);
     assert!(seen.taken_back > 1000 && seen.brought_back > 500 && seen.not_taken_back > 1000);
+    assert!(seen.previews > 1000 && seen.told_of_steps > 500 && seen.short_previews > 500);
 }
 
 /// A history, and what the right program gives: the outcome of each call and the table after it.
@@ -250,6 +261,20 @@ fn every_fault_is_found() {
         Fault::BitsNotBack,
         Fault::CabinsNotBack,
         Fault::ListedSaidBack,
+        Fault::DoubtfulListed,
+        Fault::PreviewDescending,
+        Fault::NumbersInWords,
+        Fault::PreviewPadded,
+        Fault::DoubtfulSaidToGo,
+        Fault::WeakUnmarked,
+        Fault::ExitLeftIn,
+        Fault::CopiesLeftOut,
+        Fault::PreviewRoomBeforeEmpty,
+        Fault::PreviewRoomFirst,
+        Fault::PreviewRoomForThese,
+        Fault::PreviewRoomByCapacity,
+        Fault::PreviewRoomForAlarm,
+        Fault::PreviewClears,
         Fault::DoubtfulSaidFreed,
         Fault::CountsExchanged,
         Fault::CountersExchanged,

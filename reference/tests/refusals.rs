@@ -1,6 +1,7 @@
 //! Each row of "Reasons for no" with its example, W2's 13, W3's 11, W5's 14 to 16, each call's
 //! order of refusals, and numbers that would wrap. A refused call changes neither table nor buffer.
-//! `convert` has W6's 17 and the orders of conversions, `slip` W7's 18 and the orders of its calls.
+//! `convert` has W6's 17 and the orders of conversions, `slip` W7's 18 and the orders of its calls,
+//! `preview` the order of W8's.
 
 use reference::cabins::{list, one_cabin};
 use reference::calls::{

@@ -8,6 +8,7 @@
 --   convert-*                 an image converted to the other edition (W6)
 --   squeeze-*                 an accepted squeeze, and what its table does (W2)
 --   slip-demand take-back-demand told-demand   a clearing with a slip, its taking back, and what the plan is told of them (W7)
+--   preview-demand preview-refusals   what a clearing would free, and the clearing made next; when a preview is refused (W8)
 --   trial-demand trial-only trial-longer   an accepted trial, and one with a larger limit (W3)
 --   examples-shown ..         P1 to P10, each refusal of each call, key lines byte by byte, a table for each clause of soundness
 --   keys-demand keys-blocks   the program `keys`
@@ -24,6 +25,7 @@ use Rattle.table.specs.Cabins.{soleQuotas}
 use Rattle.table.specs.Sound.{Sound, sound, Shape}
 use Rattle.table.specs.Calls.{addRefusal, addCall, linkRefusal, linkCall}
 use Rattle.table.specs.Clear.{clearRefusal, clearCall}
+use Rattle.table.specs.Preview.{previewRefusal, previewCall}
 use Rattle.table.specs.Squeeze.{newNumber, squeezeRefusal, squeezeCall, ClearsAlike}
 use Rattle.table.specs.Plan.{planOf}
 use Rattle.table.proofs.Sound as Soundness
@@ -34,11 +36,12 @@ use Rattle.image.proofs.Laws as Images
 use Rattle.keyline.specs.Keys.{spokenCounts}
 use Rattle.history.specs.History.{First, Call, withTold, tableAfter, heardBy, planAfter, drawnBy, firstRefusal, planFirstRefusal, firstTable, firstPlan}
 use Rattle.history.specs.Acts.{Act}
-use Rattle.history.specs.Demands.{Demand1, Demand3, GuaranteeDemand, ChargesDemand, AddDemand, LinkDemand, ClearDemand, CountDemand, SqueezeDemand, TwiceDemand, WriteDemand, EqualDemand, SortedDemand, OldDemand, ConvertDemand, RefusalDemand, SameTableDemand, ToldDemand, SlipDemand, TakeBackDemand}
+use Rattle.history.specs.Demands.{Demand1, Demand3, GuaranteeDemand, ChargesDemand, AddDemand, LinkDemand, ClearDemand, CountDemand, SqueezeDemand, TwiceDemand, WriteDemand, EqualDemand, SortedDemand, OldDemand, ConvertDemand, RefusalDemand, SameTableDemand, ToldDemand, SlipDemand, TakeBackDemand, PreviewDemand, PreviewRefusalDemand}
 use Rattle.table.specs.Trial.{TrialOutcome, trialRefusal, trialCall, TrialDemand, SameTrial, LongerDemand, underNumbers}
 use Rattle.history.proofs.Demand1 as Refusals
 use Rattle.history.proofs.Demand2
 use Rattle.history.proofs.Slips
+use Rattle.history.proofs.Preview
 use Rattle.table.proofs.Trials
 use Rattle.history.proofs.Demand3 as Histories
 use Rattle.history.proofs.Accounts
@@ -64,6 +67,8 @@ use Rattle.telephone.proofs.plan_clear_with_slip.Statement as clear-with-slip-c
 use Rattle.telephone.proofs.plan_clear_with_slip.Met as clear-with-slip-met
 use Rattle.telephone.proofs.plan_take_back.Statement as take-back-contract
 use Rattle.telephone.proofs.plan_take_back.Met as take-back-met
+use Rattle.telephone.proofs.plan_preview_clear.Statement as preview-clear-contract
+use Rattle.telephone.proofs.plan_preview_clear.Met as preview-clear-met
 use Rattle.telephone.proofs.plan_read.Statement as read-contract
 use Rattle.telephone.proofs.plan_read.Met as read-met
 use Rattle.telephone.proofs.plan_trial.Statement as trial-contract
@@ -213,6 +218,15 @@ slip-demand = Slips.slip-demand
 pub take-back-demand : (t : Table) → Sound t → (bs : List ℕ) → takeBackRefusal t bs ≡ 0 → TakeBackDemand t bs (takeBackCall t bs)
 take-back-demand = Slips.take-back-demand
 
+-- W8: a preview of a clearing that is not refused, and the clearing made next
+pub preview-demand : (t : Table) (i e : ℕ) (buffer : List ℕ) → previewRefusal t i e (length buffer) ≡ 0 →
+    PreviewDemand t i e buffer (previewCall t i e buffer)
+preview-demand = Preview.preview-demand
+
+-- and when any preview is refused
+pub preview-refusals : (t : Table) (i e : ℕ) (buffer : List ℕ) → PreviewRefusalDemand t i e buffer (previewCall t i e buffer)
+preview-refusals = Preview.preview-refusals
+
 -- W2: an accepted squeeze of a sound table, and a second one
 pub squeeze-demand : (t : Table) → Sound t → (c : ℕ) (q : List ℕ) → squeezeRefusal t c q ≡ 0 → SqueezeDemand t c q (squeezeCall t c q)
 squeeze-demand = Demand2.squeeze-demand
@@ -297,6 +311,9 @@ module _ {M : Type 1} where
 
   pub plan-take-back : take-back-contract.statement M
   plan-take-back = take-back-met.met
+
+  pub plan-preview-clear : preview-clear-contract.statement M
+  plan-preview-clear = preview-clear-met.met
 
   pub plan-read : read-contract.statement M
   plan-read = read-met.met

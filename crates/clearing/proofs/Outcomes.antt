@@ -1,31 +1,45 @@
--- What the table comes to as the outcome of the call: rules 2 to 4 from what each function says, rule 1, and the refusals. Assumes nothing.
+-- What the table comes to as the outcome of the call: rules 2 to 4 from what each function says, rule 1, and the refusals; and what a
+-- preview finds. Assumes nothing.
 use mathlib.Core.Path.{_≡_, refl, sym, _∙_, ap, ap₂, subst}
 use mathlib.Core.Bool.{Bool, true, false, _&&_, not, cond}
 use mathlib.Core.Logic.{⊎-elim}
-use mathlib.Core.List.{List}
-use Prim.Native.Nat.{ℕ, _≤_, _<_}
+use mathlib.Core.List.{List, _++_}
+use Prim.Native.Nat.{ℕ, _-_, _≤_, _<_}
 use native.Mathlib.Omega.{arith}
-use lib.ListN.{getD, List·getD-eq-default}
+use lib.ListN.{length, getD, drop, List·getD-eq-default}
+use lib.Seq.{getD-set-same}
 use lib.Dec.{eqb, ltb}
-use borrow.Author.Tests.{lt-ltb, le-ltb, lt-leb}
-use Rattle.finite.specs.Below.{one, tabulate}
+use borrow.Author.Tests.{eq-eqb, ne-eqb, lt-ltb, le-ltb, lt-leb}
+use Rattle.finite.specs.Below.{one, count, tabulate, those}
 use Rattle.finite.specs.Reach.{marked, reach}
-use Rattle.finite.proofs.Bools.{and-left, or-right, clash, refute}
+use Rattle.finite.proofs.Bools.{and-left, clash, refute, not-true-false, not-false-true}
 use Rattle.finite.proofs.Below.{le-or-lt, length-tabulate, getD-tabulate, count-pos, rounds-keep}
 use Rattle.finite.proofs.Select.{tabulate-entries}
-use Rattle.table.specs.declared.Answer.the-variants.{Given}
-use Rattle.table.specs.Table.{Table, places, exits, inUse, ownBit, targetOf, linkBit, counterOf, holds, strong, stronglyLinked, withLinks}
+use Rattle.finite.proofs.Those.{length-those, those-ext}
+use Rattle.table.specs.declared.Answer.{Answer}
+use Rattle.table.specs.declared.Answer.the-variants.{Refused, Given}
+use Rattle.table.specs.Table.{Table, places, exits, counterPlace, inUse, ownBit, targetOf, linkBit, counterOf, holds, strong, linked, stronglyLinked, withLinks}
 use Rattle.table.specs.Sound.{Sound}
-use Rattle.table.specs.Answer.{exitEmpty, first}
-use Rattle.table.specs.Calls.{relink}
+use Rattle.table.specs.Answer.{WriteOutcome, exitEmpty, tooShort, first}
+use Rattle.table.specs.Calls.{lowered, raised, relink}
 use Rattle.table.specs.Clear.{Repair, emptied, heldStrongly, stops, doubtful, repair, repairOf, unlinked, blanked, eachDoubtful, release, size, repaired, cleared, clearRefusal}
-use Rattle.table.proofs.Links.{bit-strong}
-use Rattle.table.proofs.Formed.{Formed}
+use Rattle.table.specs.Clear
+use Rattle.table.specs.Preview.{isFreed, wouldGo, previewRoom, previewRefusal, previewCall}
+use Rattle.table.proofs.Links.{holds-target, bit-strong}
+use Rattle.table.proofs.Relink.{counter-place-below}
+use Rattle.table.proofs.Formed.{Formed, sound-formed}
 use Rattle.table.proofs.Sound.{sound-test}
 use Rattle.table.proofs.Edits.{weak-bit}
 use Rattle.table.proofs.Calls.{ClearFits}
+use Rattle.table.proofs.Preview.{preview-order, preview-made, preview-refused-as, go-length, go-fits, go-none, go-marked, doubtful-links}
 use Rattle.words.specs.Words.{Becomes}
-use Rattle.repairing.specs.Repairing.{underRepair, isOne, asMarks, Repairable}
+use Rattle.words.proofs.Formed.{target-place}
+use Rattle.withdraw.specs.Withdraw.{Losing, candidate}
+use Rattle.withdraw.proofs.Doubtful.{losing-formed}
+use Rattle.repairing.specs.Repairing.{underRepair, isOne, asMarks, Repairable, Candidates, Settling}
+use Rattle.repairing.proofs.Laws.{marks-at}
+use Rattle.repairing.proofs.Repairs.{wanted-in, candidates-begin}
+use Rattle.clearing.specs.Clearing.{Searched}
 
 -- The marks that the search hands back are the definition's.
 module _ (u : Table) where
@@ -66,6 +80,29 @@ module _ (u : Table) where
         doubted = λ i l h. doubtful-used i (sym (found-at i (omega arith)) ∙ subst (λ (d : List ℕ). isOne d i ≡ true) z h);
       }
 
+  -- and the first candidates too
+  pub found-candidates : {doubt wanted : List ℕ} → Searched u doubt wanted → (n : ℕ) → n ≡ u .capacity → Candidates n (linked u) doubt wanted 0
+  found-candidates {doubt} {wanted} x n q =
+      let m = x .formed .most in
+      candidates-begin n (linked u) doubt wanted (ap length (x .first) ∙ length-tabulate places _)
+      (λ i l.
+      ap (λ (w : List ℕ). getD w i 0) (x .first) ∙ getD-tabulate places (λ k. one (candidate u k)) 0 i (omega arith)
+      ∙ ap (λ (d : List Bool). one (wanted′ d i)) (sym (ap (asMarks (u .capacity)) (x .doubts) ∙ found-marks m))
+      ∙ ap one (wanted-in u doubt n (sym q) i l))
+    where
+      wanted′ : List Bool → ℕ → Bool
+      wanted′ d i = Clear.wanted (record { table = u; doubt = d }) i
+
+  pub found-marked : (doubt : List ℕ) → doubt ≡ found → (k : ℕ) → isOne doubt k ≡ true → marked (doubtful u) k ≡ true
+  unfolding isOne
+  found-marked doubt q k h =
+      ⊎-elim
+      (λ (l : places ≤ k).
+      let none : getD doubt k 0 ≡ 0 = List·getD-eq-default doubt 0 {n = k} (rw (ap length q ∙ length-tabulate places (λ i. one (marked (doubtful u) i))) l) in
+      clash h (rw none))
+      (λ l. sym (found-at k l) ∙ subst (λ (d : List ℕ). isOne d k ≡ true) q (unfold isOne in h))
+      (le-or-lt places k)
+
 -- Where no step is marked, nothing is freed.
 release-none : (v : Table) (d : List Bool) → size d (v .capacity) ≡ 0 → v ≡ release v d
 unfolding release size
@@ -80,16 +117,15 @@ release-none v d z = sym (ap (eachDoubtful d blanked) (each-none unlinked) ∙ e
         rounds-keep (λ (x : Table). x ≡ v) (v .capacity) (λ i x. cond (marked d i) (f x i) x) v (λ k l x p. rw (unmarked k l) p) refl
 
 -- Rules 2 to 4, from what each function says: u is under repair and has become v, with the marks of `doubt` left.
-pub record Mended (u v : Table) (n : ℕ) (doubt₀ doubt : List ℕ) : Type 0 where
-  pub formed : Formed u
+pub record Mended (u v : Table) (n : ℕ) (doubt₀ wanted doubt : List ℕ) : Type 0 where
+  pub searched : Searched u doubt₀ wanted
   pub size : n ≡ u .capacity
-  pub begun : doubt₀ ≡ found u
   pub same : underRepair v doubt ≡ repair n (underRepair u doubt₀)
   pub capacity : v .capacity ≡ n
 
-module _ {u v : Table} {n : ℕ} {doubt₀ doubt : List ℕ} (m : Mended u v n doubt₀ doubt) where
+module _ {u v : Table} {n : ℕ} {doubt₀ wanted doubt : List ℕ} (m : Mended u v n doubt₀ wanted doubt) where
   marks : asMarks (u .capacity) doubt₀ ≡ doubtful u
-  marks = ap (asMarks (u .capacity)) (m .begun) ∙ found-marks u (m .formed .most)
+  marks = ap (asMarks (u .capacity)) (m .searched .doubts) ∙ found-marks u (m .searched .formed .most)
 
   over : underRepair v doubt ≡ repairOf u
   unfolding repairOf
@@ -114,42 +150,60 @@ module _ {u v : Table} {n : ℕ} {doubt₀ doubt : List ℕ} (m : Mended u v n d
   pub repaired-whole : size (asMarks n doubt) n ≡ 0 → v ≡ repaired u .table
   repaired-whole z = release-none v (asMarks n doubt) (ap (size (asMarks n doubt)) (m .capacity) ∙ z) ∙ repaired-table
 
--- Rule 1: exit e of step i held a link to j with bit b, and u is the table with the exit emptied.
-pub record TakenOut (t : Table) (i e : ℕ) (u : Table) (j b : ℕ) : Type 0 where
-  pub fits : ClearFits t i e
-  pub table : u ≡ relink t i e 0 0
-  pub target : j ≡ targetOf t i e
-  pub bit : b ≡ linkBit t i e
+-- The last refusal, and none.
+module _ (t : Table) (i e : ℕ) (s : Sound t) (p : (inUse t i ≡ true) × (e < exits)) where
+  pub empty-stopped : holds t i e ≡ false → exitEmpty ≡ clearRefusal t i e
+  unfolding clearRefusal first
+  empty-stopped h = rw (sound-test t s, p .0, lt-leb exits e (p .1), h)
 
-module _ {t : Table} {i e : ℕ} {u : Table} {j b : ℕ} (r : TakenOut t i e u j b) where
-  own-same : ownBit u j ≡ ownBit t (targetOf t i e)
-  own-same = ap₂ ownBit (r .table) (r .target) ∙ (unfold relink withLinks ownBit in refl)
+  pub accepted : holds t i e ≡ true → 0 ≡ clearRefusal t i e
+  unfolding clearRefusal first
+  accepted h = rw (sound-test t s, p .0, lt-leb exits e (p .1), h)
 
-  pub stops-weak : (b ≡ ownBit u j → ⊥) → stops t i e ≡ true
+same-size : (t : Table) (i e : ℕ) {n : ℕ} → n ≡ t .capacity → n ≡ emptied t i e .capacity
+same-size t i e q = q ∙ (unfold emptied relink withLinks in refl)
+
+-- Rule 1, on the table as it is: the exit is the last strong link to its target where the counter says less than 2.
+module _ (t : Table) (s : Sound t) (i e : ℕ) (g : ClearFits t i e) where
+  abbrev target : ℕ
+  target = targetOf t i e
+
+  abbrev bit : ℕ
+  bit = linkBit t i e
+
+  lowered-counter : counterOf (emptied t i e) target bit ≡ counterOf t target bit - 1
+  unfolding counterOf emptied relink withLinks raised lowered
+  lowered-counter =
+      let f = sound-formed s in
+      let low = counter-place-below target bit (f .bits i e (g .used) (g .exit)) (target-place f i e (g .exit)) in
+      rw (ne-eqb target 0 (holds-target t i e (g .filled))) (getD-set-same (t .counts) (counterPlace target bit) _ 0 (rw (s .shape .counts) low))
+
+  pub weak-stops : (bit ≡ ownBit t target → ⊥) → not (stops t i e) ≡ false
   unfolding stops
-  stops-weak d = let w : strong t i e ≡ false = weak-bit t i e (λ z. d (r .bit ∙ z ∙ sym own-same)) in rw w
+  weak-stops d = rw (weak-bit t i e d)
 
-  module _ (o : b ≡ ownBit u j) where
-    held-left : heldStrongly (emptied t i e) (targetOf t i e) ≡ ltb 0 (counterOf u j b)
-    unfolding heldStrongly emptied
-    held-left =
-        sym
-        (ap (λ (k : ℕ). ltb 0 (counterOf u j k)) o ∙
-        ap₂ (λ (v : Table) (k : ℕ). ltb 0 (counterOf v k (ownBit v k))) (r .table) (r .target))
+  pub last-goes : bit ≡ ownBit t target → not (stops t i e) ≡ ltb (counterOf t target bit) 2
+  unfolding stops heldStrongly
+  last-goes o =
+      let x : strong t i e ≡ true = bit-strong t i e (g .filled) o in
+      rw (x, own ∙ sym o, lowered-counter) (two (counterOf t target bit))
+    where
+      own : ownBit (emptied t i e) target ≡ ownBit t target
+      own = unfold emptied relink withLinks ownBit in refl
 
-    pub stops-held : (counterOf u j b ≡ 0 → ⊥) → stops t i e ≡ true
-    unfolding stops
-    stops-held d = or-right (not (strong t i e)) _ (held-left ∙ lt-ltb 0 _ (positive (counterOf u j b) d))
-      where
-        positive : (n : ℕ) → (n ≡ 0 → ⊥) → 0 < n
-        positive n f = omega arith
+      two : (n : ℕ) → not (ltb 0 (n - 1)) ≡ ltb n 2
+      two n =
+          ⊎-elim
+          (λ (l : 2 ≤ n). rw (lt-ltb 0 (n - 1) (omega arith), le-ltb n 2 l))
+          (λ (l : n < 2). rw (le-ltb 0 (n - 1) (omega arith), lt-ltb n 2 l))
+          (le-or-lt 2 n)
 
-    pub goes-on : counterOf u j b ≡ 0 → stops t i e ≡ false
-    unfolding stops
-    goes-on z =
-        let s : strong t i e ≡ true = bit-strong t i e (r .fits .filled) (sym (r .bit) ∙ o ∙ own-same) in
-        let h : heldStrongly (emptied t i e) (targetOf t i e) ≡ false = held-left ∙ le-ltb 0 (counterOf u j b) (omega arith) in
-        rw (s, h)
+-- what its answer says
+pub goes-losing : {t : Table} {i e : ℕ} {b : Bool} → Sound t → ClearFits t i e → b ≡ not (stops t i e) → not b ≡ false → Losing t i e
+goes-losing {b = b} s g q h = record { sound = s; fits = g; goes = not-true-false _ (sym q ∙ not-false-true b h) }
+
+pub goes-not : {answer stop : Bool} → answer ≡ not stop → not answer ≡ true → stop ≡ true
+goes-not {answer} q h = not-false-true _ (sym q ∙ not-true-false answer h)
 
 -- what a clearing comes to where rule 1 stops
 pub stopped : {w v : List ℕ} (t : Table) (i e : ℕ) → stops t i e ≡ true → Becomes w v (relink t i e 0 0) →
@@ -162,12 +216,98 @@ pub went-on : {u : Table} (t : Table) (i e : ℕ) → u ≡ relink t i e 0 0 →
 unfolding emptied
 went-on t i e q h = rw h (ap repaired q)
 
--- The last refusal, and none.
-module _ (t : Table) (i e : ℕ) (s : Sound t) (p : (inUse t i ≡ true) × (e < exits)) where
-  pub empty-stopped : holds t i e ≡ false → exitEmpty ≡ clearRefusal t i e
-  unfolding clearRefusal first
-  empty-stopped h = rw (sound-test t s, p .0, lt-leb exits e (p .1), h)
+-- what is found before the exit is emptied: u is the table then
+pub searched : {u : Table} {t : Table} {i e : ℕ} {doubt wanted : List ℕ} → Losing t i e → u ≡ relink t i e 0 0 →
+    doubt ≡ found (emptied t i e) → wanted ≡ tabulate places (λ k. one (candidate (emptied t i e) k)) → Searched u doubt wanted
+unfolding emptied
+searched {u} {t} {i} {e} {doubt} {wanted} o q d w =
+    subst (λ (v : Table). Searched v doubt wanted) (sym q) (record { formed = unfold emptied in losing-formed t i e o; doubts = d; first = w })
 
-  pub accepted : holds t i e ≡ true → 0 ≡ clearRefusal t i e
-  unfolding clearRefusal first
-  accepted h = rw (sound-test t s, p .0, lt-leb exits e (p .1), h)
+-- A clearing that goes on can be made.
+losing-accepted : {t : Table} {i e : ℕ} → Losing t i e → clearRefusal t i e ≡ 0
+losing-accepted {t} {i} {e} o = sym (accepted t i e (o .sound) (o .fits .used, o .fits .exit) (o .fits .filled))
+
+-- A preview: the repair can be followed on the table as it is.
+pub settles : {t : Table} {i e n : ℕ} {doubt wanted : List ℕ} → Losing t i e → Searched (emptied t i e) doubt wanted → n ≡ t .capacity →
+    Settling t (emptied t i e) n doubt wanted
+settles {t} {i} {e} {n} {doubt} {wanted} o x q =
+    record {
+      able = found-able (emptied t i e) n doubt (same-size t i e q) (x .doubts) (x .formed);
+      links = λ k j m. doubtful-links t (o .sound) i e (o .fits) (o .goes) k j (found-marked (emptied t i e) doubt (x .doubts) k m);
+      candidates = found-candidates (emptied t i e) x n (same-size t i e q);
+    }
+
+-- The marks that are left are those of the repair, and the numbers of these steps are what would go.
+pub record Foreseen (t : Table) (i e n : ℕ) (doubt wanted doubt′ : List ℕ) : Type 0 where
+  pub losing : Losing t i e
+  pub searched : Searched (emptied t i e) doubt wanted
+  pub size : n ≡ t .capacity
+  pub left : asMarks n doubt′ ≡ repair n (underRepair (emptied t i e) doubt) .doubt
+
+module _ {t : Table} {i e n : ℕ} {doubt wanted doubt′ : List ℕ} (f : Foreseen t i e n doubt wanted doubt′) where
+  abbrev after : Table
+  after = emptied t i e
+
+  z : clearRefusal t i e ≡ 0
+  z = losing-accepted (f .losing)
+
+  size-after : n ≡ after .capacity
+  size-after = same-size t i e (f .size)
+
+  first-marks : asMarks (after .capacity) doubt ≡ doubtful after
+  first-marks = ap (asMarks (after .capacity)) (f .searched .doubts) ∙ found-marks after (f .searched .formed .most)
+
+  left-marks : asMarks n doubt′ ≡ repairOf after .doubt
+  unfolding repairOf
+  left-marks = f .left ∙ ap₂ (λ (m : ℕ) (d : List Bool). repair m (record { table = after; doubt = d }) .doubt) size-after first-marks
+
+  numbers : those n (isOne doubt′) ≡ wouldGo t i e
+  unfolding wouldGo
+  numbers =
+      those-ext n _ (isFreed t (cleared t i e .table))
+      (λ j l. sym (marks-at n doubt′ j l) ∙ ap (λ (d : List Bool). marked d j) left-marks ∙ sym (go-marked t i e z (f .losing .goes) j))
+      ∙ ap (λ (m : ℕ). those m (isFreed t (cleared t i e .table))) (f .size)
+
+  pub listed-fits : count n (isOne doubt′) ≤ previewRoom
+  listed-fits =
+      let l = sym (length-those n (isOne doubt′)) ∙ ap length numbers ∙ go-length t i e z in
+      let fits = go-fits t i e z in
+      omega arith
+
+  pub foreseen-answer : (doubts freed : ℕ) → doubts ≡ Clear.size (asMarks n doubt) n → freed ≡ Clear.size (asMarks n doubt′) n →
+      Given doubts freed ≡ cleared t i e .answer
+  unfolding repaired
+  foreseen-answer doubts freed a b =
+      rw (f .losing .goes)
+      (ap₂ Given (a ∙ ap₂ Clear.size (ap (λ (m : ℕ). asMarks m doubt) size-after ∙ first-marks) size-after) (b ∙ ap₂ Clear.size left-marks size-after))
+
+  pub foreseen-written : (buffer : List ℕ) → those n (isOne doubt′) ++ drop (count n (isOne doubt′)) buffer ≡ wouldGo t i e ++ drop (length (wouldGo t i e)) buffer
+  foreseen-written buffer =
+      ap (λ (m : ℕ). those n (isOne doubt′) ++ drop m buffer) (sym (length-those n (isOne doubt′)))
+      ∙ ap (λ (ms : List ℕ). ms ++ drop (length ms) buffer) numbers
+
+-- where rule 1 stops, nothing would go
+pub foreseen-none : (t : Table) (i e : ℕ) → Sound t → ClearFits t i e → stops t i e ≡ true → (buffer : List ℕ) →
+    (Given 0 0 ≡ cleared t i e .answer) × (buffer ≡ wouldGo t i e ++ drop (length (wouldGo t i e)) buffer)
+foreseen-none t i e s g h buffer =
+    (rw h, ap (λ (ms : List ℕ). ms ++ drop (length ms) buffer) (sym (go-none t i e (sym (accepted t i e s (g .used, g .exit) (g .filled))) h)))
+
+-- The call that previews: refused as the clearing is, refused for the room, or made.
+module _ (t : Table) (i e : ℕ) (buffer : List ℕ) where
+  refused : (n : ℕ) → (n ≡ 0 → ⊥) → previewRefusal t i e (length buffer) ≡ n →
+      (Refused n ≡ previewCall t i e buffer .answer) × (buffer ≡ previewCall t i e buffer .buffer)
+  refused n d q =
+      let r = preview-refused-as t i e buffer (λ z. d (sym q ∙ z)) in
+      (ap Refused (sym q) ∙ sym (ap (λ (o : WriteOutcome). o .answer) r), sym (ap (λ (o : WriteOutcome). o .buffer) r))
+
+  pub not-previewed : (n : ℕ) → n ≡ clearRefusal t i e → (n ≡ 0 → ⊥) → (Refused n ≡ previewCall t i e buffer .answer) × (buffer ≡ previewCall t i e buffer .buffer)
+  not-previewed n q d = refused n d (preview-order t i e buffer ∙ rw (sym q, ne-eqb n 0 d))
+
+  pub no-room : clearRefusal t i e ≡ 0 → length buffer < previewRoom → (Refused tooShort ≡ previewCall t i e buffer .answer) × (buffer ≡ previewCall t i e buffer .buffer)
+  no-room z l = refused tooShort (λ q. omega arith) (preview-order t i e buffer ∙ rw (eq-eqb (clearRefusal t i e) 0 z, lt-ltb (length buffer) previewRoom l))
+
+  pub previewed : clearRefusal t i e ≡ 0 → previewRoom ≤ length buffer → {answer : Answer} {out : List ℕ} → answer ≡ cleared t i e .answer →
+      out ≡ wouldGo t i e ++ drop (length (wouldGo t i e)) buffer → (answer ≡ previewCall t i e buffer .answer) × (out ≡ previewCall t i e buffer .buffer)
+  previewed z l a b =
+      let m = preview-made t i e buffer (preview-order t i e buffer ∙ rw (eq-eqb (clearRefusal t i e) 0 z, le-ltb (length buffer) previewRoom l)) in
+      (a ∙ sym (ap (λ (o : WriteOutcome). o .answer) m), b ∙ sym (ap (λ (o : WriteOutcome). o .buffer) m))

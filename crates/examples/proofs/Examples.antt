@@ -10,7 +10,7 @@ use native.Mathlib.Omega.{arith}
 use Prim.Native.Nat.{ℕ}
 use lib.ListN.{getD}
 use Rattle.finite.proofs.Bools.{and-intro}
-use Rattle.finite.specs.Below.{all, any, count, total, find, lowest, rounds, tabulateFrom, tabulate, same}
+use Rattle.finite.specs.Below.{all, any, count, total, find, lowest, rounds, tabulateFrom, tabulate, those, same}
 use Rattle.finite.specs.Reach.{grow, reach, reaches}
 use Rattle.table.specs.Table.{exitPlace, counterPlace, inUse, kindOf, contentOf, ownBit, cabinOf, targetOf, linkBit, counterOf, holds, strong, leads, linked, stronglyLinked, countsAt, linksTo, stepsInUse, sameFields, sameTable, withNumbers, withLinks, withSteps}
 use Rattle.table.specs.Cabins.{guaranteeOf, limitOf, quotasFit, listFits, soleQuotas, unmet, reserved, atLimit, noneToSpare, withinLimits, chargesFit, charged, charge, freeSteps}
@@ -19,6 +19,7 @@ use Rattle.table.specs.Answer.{first, refusalOf, firstOf, secondOf, unless, end
 use Rattle.table.specs.Calls.{freshTable, refusedTable, freshCall, lowered, raised, relink, after, numberGiven, addRefusal, withStep, addTable, addCall, linkRefusal, weakBit, linkTable, linkCall, fieldsOf, noFields, readRefusal, readCall}
 use Rattle.table.specs.Trial.{isContact, exitOf, resultsAfter, noResult, atStep, tryFrom, resultsFit, trialRefusal, trialCall}
 use Rattle.table.specs.Clear.{emptied, heldStrongly, stops, doubtful, wanted, flipped, weakened, restored, repair, repairOf, unlinked, blanked, eachDoubtful, release, size, repaired, clearRefusal, clearCall}
+use Rattle.table.specs.Preview.{isFreed, wouldGo, previewRefusal, previewCall}
 use Rattle.table.specs.Squeeze.{newNumber, oldNumber, moved, squeezed, squeezeRefusal, squeezeCall}
 use Rattle.table.specs.Plan.{planStep, planOf}
 use Rattle.image.specs.Image.{headerAdds, stepAdds, editionIn, quotasBy, quotasIn, cabinBy, cabinIn, word, wordAt, words, recordSize, recordBytes, headerFieldsOf, bitsOf, stepFieldsOf, stepsBelow, image, imageLength, put, writeRefusal, writeCall, fieldAt, recordAt, capacityIn, lastIn, countIn, stepPlace, numberIn, kindIn, contentIn, bitsIn, targetIn, bitIn, recordOf, hasRecord, recordField, withRecord, counted, imageTable, framed, accepted, loadCall}
@@ -27,12 +28,12 @@ use Rattle.image.specs.Slip.{recordIn, changed, pairsBelow, slip, slipLength, c
 use Rattle.keyline.specs.Keys.{isDigit, isLine, decimal, decode, spokenCounts, perform, performLine, keyCall}
 use Rattle.history.specs.History.{firstTable}
 use Rattle.history.specs.Acts.{told, wrote, fieldNumbers, triedNumbers, callDone, doneBy, answerSize, lentTo, refusedBy}
-use Rattle.examples.specs.Examples.{freedSlip, turnedSlip, regrets, conversions, oldHeaderP5, oldStep0P5, oldStep1P5, oldStep2P5, newImageF4, editions, shares5, shared, lists, headerP5, step0P5, step1P5, step2P5, imageP5, twoCandidates, squeezes, waits, messages, ends, sorted, imageTwin, firstStrong, secondStrong, Twins, keyLines, Decodes, failing, tableP1, unsound, failAsSaid, takeOne, taken, takenBy, strength, usedBelow, seen, doneTests, factsHold, passed, walk, tableF4, p1ToP7, p8, p9, imageF4, p10, digits, line, beginnings, noAlarm, notSoundReasons, reasons, Entry, Run, tableLeft, Shown, everyRun, examples, refusals}
+use Rattle.examples.specs.Examples.{freedSlip, turnedSlip, regrets, previews, conversions, oldHeaderP5, oldStep0P5, oldStep1P5, oldStep2P5, newImageF4, editions, shares5, shared, lists, headerP5, step0P5, step1P5, step2P5, imageP5, twoCandidates, squeezes, waits, messages, ends, sorted, imageTwin, firstStrong, secondStrong, Twins, keyLines, Decodes, failing, tableP1, unsound, failAsSaid, takeOne, taken, takenBy, strength, seen, doneTests, factsHold, passed, walk, tableF4, p1ToP7, p8, p9, imageF4, p10, digits, line, beginnings, noAlarm, notSoundReasons, reasons, Entry, Run, tableLeft, Shown, everyRun, examples, refusals}
 use Rattle.examples.proofs.Laws.{run-shown, run-at}
 
 -- a name for the list of definitions below, which each run unfolds
 computes : Bool
-unfolding freedSlip turnedSlip regrets recordIn changed pairsBelow slip slipLength clearSlipRefusal clearSlipCall slipStep slipExit slipCount fieldsAt present rebuilt clearedAgain retraced takeBackRefusal takeBackCall withRecord sameFields conversions oldHeaderP5 oldStep0P5 oldStep1P5 oldStep2P5 newImageF4 editions shares5 shared lists total cabinOf guaranteeOf limitOf quotasFit listFits soleQuotas unmet reserved atLimit noneToSpare withinLimits chargesFit charged charge freeSteps refusedTable headerAdds stepAdds editionIn quotasBy quotasIn cabinBy cabinIn headerP5 step0P5 step1P5 step2P5 imageP5 twoCandidates squeezes waits messages ends sorted imageTwin firstStrong secondStrong failing tableP1 unsound failAsSaid all any count find lowest rounds tabulateFrom tabulate grow reach reaches exitPlace counterPlace inUse kindOf contentOf ownBit targetOf linkBit counterOf holds strong leads linked stronglyLinked countsAt linksTo stepsInUse withNumbers withLinks withSteps capacityFits contentFits kindFits eachUsed shapeTests blankTests ringless soundTests sound first refusalOf firstOf secondOf unless endingNumber triedRefusal endingOf lastOf movesOf freshTable freshCall lowered raised relink after numberGiven addRefusal withStep addTable addCall linkRefusal weakBit linkTable linkCall fieldsOf noFields readRefusal readCall isContact exitOf resultsAfter noResult atStep tryFrom resultsFit trialRefusal trialCall emptied heldStrongly stops doubtful wanted flipped weakened restored repair repairOf unlinked blanked eachDoubtful release size repaired clearRefusal clearCall newNumber oldNumber moved squeezed squeezeRefusal squeezeCall word wordAt words recordSize recordBytes headerFieldsOf bitsOf stepFieldsOf stepsBelow image imageLength put writeRefusal writeCall hasSoleQuotas sayable convertRefusal convertCall fieldAt recordAt capacityIn lastIn countIn stepPlace numberIn kindIn contentIn bitsIn targetIn bitIn recordOf hasRecord recordField counted imageTable framed accepted loadCall isDigit isLine decimal decode spokenCounts perform performLine keyCall firstTable told wrote fieldNumbers triedNumbers callDone doneBy takeOne taken takenBy strength usedBelow seen answerSize lentTo refusedBy same sameTable doneTests factsHold passed walk tableF4 p1ToP7 p8 p9 imageF4 p10 digits line beginnings noAlarm notSoundReasons reasons
+unfolding freedSlip turnedSlip regrets previews those isFreed wouldGo previewRefusal previewCall recordIn changed pairsBelow slip slipLength clearSlipRefusal clearSlipCall slipStep slipExit slipCount fieldsAt present rebuilt clearedAgain retraced takeBackRefusal takeBackCall withRecord sameFields conversions oldHeaderP5 oldStep0P5 oldStep1P5 oldStep2P5 newImageF4 editions shares5 shared lists total cabinOf guaranteeOf limitOf quotasFit listFits soleQuotas unmet reserved atLimit noneToSpare withinLimits chargesFit charged charge freeSteps refusedTable headerAdds stepAdds editionIn quotasBy quotasIn cabinBy cabinIn headerP5 step0P5 step1P5 step2P5 imageP5 twoCandidates squeezes waits messages ends sorted imageTwin firstStrong secondStrong failing tableP1 unsound failAsSaid all any count find lowest rounds tabulateFrom tabulate grow reach reaches exitPlace counterPlace inUse kindOf contentOf ownBit targetOf linkBit counterOf holds strong leads linked stronglyLinked countsAt linksTo stepsInUse withNumbers withLinks withSteps capacityFits contentFits kindFits eachUsed shapeTests blankTests ringless soundTests sound first refusalOf firstOf secondOf unless endingNumber triedRefusal endingOf lastOf movesOf freshTable freshCall lowered raised relink after numberGiven addRefusal withStep addTable addCall linkRefusal weakBit linkTable linkCall fieldsOf noFields readRefusal readCall isContact exitOf resultsAfter noResult atStep tryFrom resultsFit trialRefusal trialCall emptied heldStrongly stops doubtful wanted flipped weakened restored repair repairOf unlinked blanked eachDoubtful release size repaired clearRefusal clearCall newNumber oldNumber moved squeezed squeezeRefusal squeezeCall word wordAt words recordSize recordBytes headerFieldsOf bitsOf stepFieldsOf stepsBelow image imageLength put writeRefusal writeCall hasSoleQuotas sayable convertRefusal convertCall fieldAt recordAt capacityIn lastIn countIn stepPlace numberIn kindIn contentIn bitsIn targetIn bitIn recordOf hasRecord recordField counted imageTable framed accepted loadCall isDigit isLine decimal decode spokenCounts perform performLine keyCall firstTable told wrote fieldNumbers triedNumbers callDone doneBy takeOne taken takenBy strength seen answerSize lentTo refusedBy same sameTable doneTests factsHold passed walk tableF4 p1ToP7 p8 p9 imageF4 p10 digits line beginnings noAlarm notSoundReasons reasons
 computes = true
 
 -- one declaration for each run, since antt bounds the steps of one
@@ -84,6 +85,10 @@ regrets-hold : walk tableF4 regrets ≡ true
 unfolding computes
 regrets-hold = refl
 
+previews-hold : walk tableF4 previews ≡ true
+unfolding computes
+previews-hold = refl
+
 shared-holds : walk tableF4 (shared ++ lists) ≡ true
 unfolding computes
 shared-holds = refl
@@ -123,12 +128,13 @@ examples-hold =
     (and-intro editions-hold
     (and-intro conversions-hold
     (and-intro regrets-hold
+    (and-intro previews-hold
     (and-intro shared-holds
     (and-intro first-strong-holds
     (and-intro second-strong-holds
     (and-intro beginnings-hold
     (and-intro not-sound-reasons-hold
-    (and-intro reasons-hold refl)))))))))))))))))
+    (and-intro reasons-hold refl))))))))))))))))))
 
 pub examples-shown : (r : Run) → List·Memᴰ r (examples ++ refusals) → (before : List Entry) (x : Entry) (after : List Entry) →
     r .entries ≡ before ++ (x ∷ after) → Shown (tableLeft (r .table) before) x

@@ -18,7 +18,7 @@ use Rattle.table.specs.Table.{Table}
 use Rattle.table.specs.Calls.{refusedTable}
 use Rattle.table.specs.Clear.{Repair, wanted, repair}
 use Rattle.table.proofs.Same.{table-same}
-use Rattle.history.specs.History.{First, fresh, load, Call, add, link, clear, read, trial, write, keyLine, squeeze, clearSlip, takeBack, onlyRefusal, heardAs, ran, run, tableAfter, firstTable}
+use Rattle.history.specs.History.{First, fresh, load, Call, add, link, clear, read, trial, write, keyLine, squeeze, clearSlip, takeBack, preview, onlyRefusal, heardAs, ran, run, tableAfter, firstTable}
 use Rattle.history.specs.Acts.{Act, begin, call, convert, Done, told, wrote, callDone, doneBy, refusedBy}
 use Rattle.examples.specs.Examples.{takeOne, taken, takeAll, Fact, _is_, seen, Entry, accepts, refuses, actOf, Run, tableLeft, Holds, Shown, doneTests, factsHold, passed, walk, everyRun}
 
@@ -116,6 +116,7 @@ done-run t (keyLine bs) = refl
 done-run t (squeeze c q) = refl
 done-run t (clearSlip i e buffer) = refl
 done-run t (takeBack bs) = refl
+done-run t (preview i e buffer) = refl
 
 pub done-refusal : (t : Table) (c : Call) → doneBy t (call c) .refusal ≡ run t c .heard .refusal
 unfolding doneBy callDone told wrote run ran heardAs onlyRefusal
@@ -129,6 +130,7 @@ done-refusal t (keyLine bs) = refl
 done-refusal t (squeeze c q) = refl
 done-refusal t (clearSlip i e buffer) = refl
 done-refusal t (takeBack bs) = refl
+done-refusal t (preview i e buffer) = refl
 
 pub done-first : (t : Table) (f : First) → doneBy t (begin f) .table ≡ firstTable f
 unfolding doneBy told firstTable

@@ -1,4 +1,4 @@
--- The examples in one table: P1 to P10 of document 01 ("Edits on F4"), what they do not show, W1's to W3's, W5's to W7's, then each call refused
+-- The examples in one table: P1 to P10 of document 01 ("Edits on F4"), what they do not show, W1's to W3's, W5's to W8's, then each call refused
 -- for each of its reasons ("Reasons for no") and the calls that P1 to P10 do not make. The entries of a run are made one after the other, each on the
 -- table that the one before left. Assumes nothing.
 --   taken              the steps that a repair takes back, in their order
@@ -18,7 +18,7 @@ use mathlib.Core.List.{List, [], _∷_, _++_, List·Memᴰ}
 use Prim.Native.Nat.{ℕ, zero, suc, _+_, _/_, _%_, _^_}
 use lib.ListN.{set, take, replicate}
 use lib.Dec.{eqb, ltb}
-use Rattle.finite.specs.Below.{lowest, tabulate, passes, same}
+use Rattle.finite.specs.Below.{lowest, tabulate, those, passes, same}
 use Rattle.table.specs.Table.{Table, cabinCount, inUse, kindOf, contentOf, ownBit, cabinOf, targetOf, counterOf, holds, strong, sameTable, withNumbers, withLinks, withSteps}
 use Rattle.table.specs.Cabins.{soleQuotas, charge}
 use Rattle.table.specs.Sound.{soundTests}
@@ -30,7 +30,7 @@ use Rattle.keyline.specs.declared.Command.the-variants.{Add, Link, Clear, Count
 use Rattle.keyline.specs.declared.Decoded.{Decoded}
 use Rattle.keyline.specs.declared.Decoded.the-variants.{Line, Nothing}
 use Rattle.keyline.specs.Keys.{decode}
-use Rattle.history.specs.History.{fresh, load, add, link, clear, read, trial, write, keyLine, squeeze, clearSlip, takeBack, firstTable}
+use Rattle.history.specs.History.{fresh, load, add, link, clear, read, trial, write, keyLine, squeeze, clearSlip, takeBack, preview, firstTable}
 use Rattle.history.specs.Acts.{Act, begin, call, convert, Done, doneBy, refusedBy}
 
 -- one round of rule 3 of clearing: step k is taken back and counted no longer doubtful
@@ -81,17 +81,13 @@ strongLink = 2
 unfoldable pub strength : Table → ℕ → ℕ → ℕ
 strength t i e = cond (holds t i e) (cond (strong t i e) strongLink weakLink) nothing
 
-unfoldable pub usedBelow : Table → ℕ → List ℕ
-usedBelow t zero = []
-usedBelow t (suc n) = usedBelow t n ++ cond (inUse t n) (n ∷ []) []
-
 -- what is seen after an act, made on the table t
 unfoldable pub seen : Table → Done → Look → List ℕ
 seen t d answer = d .numbers
 seen t d bytes = d .lent
 seen t d (order i e) = takenBy t i e
 seen t d sizes = d .table .capacity ∷ d .table .last ∷ []
-seen t d steps = usedBelow (d .table) (d .table .capacity)
+seen t d steps = those (d .table .capacity) (inUse (d .table))
 seen t d (what i) = kindOf (d .table) i ∷ contentOf (d .table) i ∷ []
 seen t d (own i) = ownBit (d .table) i ∷ []
 seen t d (counts i) = counterOf (d .table) i 0 ∷ counterOf (d .table) i 1 ∷ []
@@ -638,6 +634,44 @@ regrets =
     counts 2 is (1 ∷ 0 ∷ []) ∷ []) ∷
     []
 
+-- W8: step 0 holds step 1, which holds steps 2 and 3 and is held by step 2 in a ring; a weak link of step 0 holds step 3 too
+unfoldable pub previews : List Entry
+previews =
+    accepts (call (add 0 0 1 7 0)) (answer is (1 ∷ 0 ∷ []) ∷ []) ∷
+    accepts (call (add 1 0 1 8 0)) (answer is (2 ∷ 0 ∷ []) ∷ []) ∷
+    accepts (call (add 1 1 2 9 0)) (answer is (3 ∷ 0 ∷ []) ∷ []) ∷
+    accepts (call (link 0 0 2 0)) (exit 2 0 is (weakLink ∷ 1 ∷ []) ∷ []) ∷
+    accepts (call (link 1 1 0 1)) (exit 0 1 is (weakLink ∷ 3 ∷ []) ∷ []) ∷
+    -- the clearing's refusals, whatever the buffer, then 11, even where nothing would go
+    refuses (call (preview 4 4 [])) 3 ∷
+    refuses (call (preview 0 4 [])) 4 ∷
+    refuses (call (preview 0 2 [])) 6 ∷
+    refuses (call (preview 0 0 (replicate 126 9))) 11 ∷
+    refuses (call (preview 0 1 (replicate 126 9))) 11 ∷
+    -- three steps would be doubtful, and steps 1 and 2 would go: two bytes are written
+    accepts (call (preview 0 0 (replicate 127 9)))
+    (answer is (3 ∷ 2 ∷ []) ∷ bytes is (1 ∷ 2 ∷ replicate 125 9) ∷ steps is (0 ∷ 1 ∷ 2 ∷ 3 ∷ []) ∷ exit 0 0 is (strongLink ∷ 1 ∷ []) ∷
+    exit 0 1 is (weakLink ∷ 3 ∷ []) ∷ own 3 is (0 ∷ []) ∷ counts 1 is (1 ∷ 1 ∷ []) ∷ counts 3 is (1 ∷ 1 ∷ []) ∷ []) ∷
+    -- a weak link: nothing would go, and no byte is written
+    accepts (call (preview 0 1 (replicate 128 9))) (answer is (0 ∷ 0 ∷ []) ∷ bytes is (replicate 128 9) ∷ []) ∷
+    -- the same clearing, made next
+    accepts (call (clear 0 0)) (answer is (3 ∷ 2 ∷ []) ∷ steps is (0 ∷ 3 ∷ []) ∷ exit 0 1 is (strongLink ∷ 3 ∷ []) ∷ []) ∷
+    accepts (call (preview 0 1 (replicate 128 9))) (answer is (1 ∷ 1 ∷ []) ∷ bytes is (3 ∷ replicate 127 9) ∷ steps is (0 ∷ 3 ∷ []) ∷ []) ∷
+    -- step 0 holds step 3, and step 3 holds step 1, which was given after it: ascending all the same
+    accepts (begin (fresh 4 (soleQuotas 4))) [] ∷
+    accepts (call (add 0 0 1 1 0)) [] ∷
+    accepts (call (add 0 1 1 2 0)) [] ∷
+    accepts (call (add 0 2 1 3 0)) (answer is (3 ∷ 0 ∷ []) ∷ []) ∷
+    accepts (call (clear 0 0)) (answer is (1 ∷ 1 ∷ []) ∷ []) ∷
+    accepts (call (add 3 0 1 4 0)) (answer is (1 ∷ 0 ∷ []) ∷ []) ∷
+    accepts (call (preview 0 2 (replicate 127 9))) (answer is (2 ∷ 2 ∷ []) ∷ bytes is (1 ∷ 3 ∷ replicate 125 9) ∷ []) ∷
+    -- 127 bytes are asked of a table of two steps too
+    accepts (begin (fresh 2 (soleQuotas 2))) [] ∷
+    accepts (call (add 0 0 1 7 0)) [] ∷
+    refuses (call (preview 0 0 (replicate 126 9))) 11 ∷
+    accepts (call (preview 0 0 (replicate 127 9))) (answer is (1 ∷ 1 ∷ []) ∷ bytes is (1 ∷ replicate 126 9) ∷ []) ∷
+    []
+
 unfoldable pub examples : List Run
 examples =
     record { table = tableF4; entries = p1ToP7 } ∷
@@ -652,6 +686,7 @@ examples =
     record { table = tableF4; entries = editions } ∷
     record { table = tableF4; entries = conversions } ∷
     record { table = tableF4; entries = regrets } ∷
+    record { table = tableF4; entries = previews } ∷
     record { table = tableF4; entries = shared ++ lists } ∷
     record { table = tableF4; entries = firstStrong } ∷
     record { table = tableF4; entries = secondStrong } ∷
@@ -693,6 +728,7 @@ notSoundReasons =
     refuses (call (squeeze 0 [])) 1 ∷
     refuses (call (clearSlip 1 4 [])) 1 ∷
     refuses (call (takeBack [])) 1 ∷
+    refuses (call (preview 1 4 [])) 1 ∷
     []
 
 -- the reasons that F4 gives, and after P1 the others

@@ -7,3 +7,4 @@ pub mod Loops
 pub mod Packed
 pub mod Totals
 pub mod Stores
+pub mod Those

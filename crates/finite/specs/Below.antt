@@ -6,12 +6,13 @@
 --   lowest n p     the lowest number below n that passes p, or n where none does
 --   rounds n f a   a, changed by f 0, then by f 1, .. up to f (n - 1)
 --   tabulate n f   the list f 0, f 1, .. f (n - 1)
+--   those n p      the numbers below n that pass p, ascending
 --   total n f      f 0 + f 1 + .. up to f (n - 1)
 --   passes tests   all tests of a list are passed
 --   same xs ys     two lists of numbers are the same
 --   one b          1 for a test that is passed, 0 for one that is not
-use mathlib.Core.Bool.{Bool, true, false, _&&_, _||_}
-use mathlib.Core.List.{List, [], _∷_}
+use mathlib.Core.Bool.{Bool, true, false, _&&_, _||_, cond}
+use mathlib.Core.List.{List, [], _∷_, _++_}
 use Prim.Native.Nat.{ℕ, zero, suc, _+_}
 use lib.Dec.{eqb}
 
@@ -41,6 +42,10 @@ find (suc f) next k p = elim (p k) [ true ↦ k | false ↦ find f next (next k)
 
 unfoldable pub lowest : ℕ → (ℕ → Bool) → ℕ
 lowest n p = find n (λ k. k + 1) 0 p
+
+unfoldable pub those : ℕ → (ℕ → Bool) → List ℕ
+those zero p = []
+those (suc n) p = those n p ++ cond (p n) (n ∷ []) []
 
 abbrev pub passes : List Bool → Bool
 passes [] = true

@@ -33,7 +33,7 @@ use Rattle.keyline.specs.declared.Command.the-variants.{Add, Link, Clear, Count
 use Rattle.keyline.specs.declared.Decoded.{Decoded}
 use Rattle.keyline.specs.declared.Decoded.the-variants.{Line, Nothing}
 use Rattle.keyline.specs.Keys.{keyCabin, decode, callDigit, spokenCounts, perform, callConditions, lineConditions, performLine, keyCall}
-use Rattle.history.specs.History.{First, Call, add, link, clear, read, trial, write, keyLine, squeeze, clearSlip, takeBack, Heard, onlyRefusal, heardAs, callOf, ran, run, tableAfter, heardBy, firstTable}
+use Rattle.history.specs.History.{First, Call, add, link, clear, read, trial, write, keyLine, squeeze, clearSlip, takeBack, preview, Heard, onlyRefusal, heardAs, callOf, ran, run, tableAfter, heardBy, firstTable}
 use Rattle.history.specs.Acts.{told}
 use Rattle.history.specs.Accounts.{cabinFor, gave, gone, account, tally}
 use Rattle.history.specs.Demands.{NotFull, GuaranteeDemand, ChargesDemand}
@@ -267,6 +267,7 @@ module _ {t : Table} (s : Sound t) where
   call-counts (squeeze c q) = counts-squeeze s keyCabin c q
   call-counts (clearSlip i e buffer) = counts-slip s keyCabin i e buffer
   call-counts (takeBack bs) = counts-back keyCabin bs
+  call-counts (preview i e buffer) = unfold heardAs in counts-still keyCabin t t _ refl refl refl (λ c. refl) refl
 
 -- along the list
 after-account : (c : ℕ) (t : Table) → Sound t → (cs : List Call) → charge (tableAfter t cs) c ≡ account c (charge t c) t cs

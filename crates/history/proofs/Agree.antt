@@ -2,7 +2,7 @@
 -- says. Assumes nothing.
 --   Agrees t c      the three facts of the call c on t
 --   call-agrees     every call with any arguments
-use mathlib.Core.Path.{_≡_, refl, sym, _∙_, ap, ap₂}
+use mathlib.Core.Path.{_≡_, refl, sym, _∙_, ap, ap₂, subst}
 use mathlib.Core.Bool.{Bool, true, false, cond}
 use mathlib.Core.Logic.{⊎-elim}
 use mathlib.Core.List.{List, [], _∷_, _++_}
@@ -15,16 +15,18 @@ use Rattle.finite.proofs.Below.{le-or-lt, eq-or-ne}
 use Rattle.table.specs.declared.Answer.the-variants.{Refused, Given}
 use Rattle.table.specs.Table.{Table}
 use Rattle.table.specs.Sound.{Sound}
-use Rattle.table.specs.Answer.{Outcome, tooShort, slipNotAccepted, first, unless, refusalOf, firstOf, secondOf, triedRefusal}
+use Rattle.table.specs.Answer.{Outcome, WriteOutcome, tooShort, slipNotAccepted, first, unless, refusalOf, firstOf, secondOf, triedRefusal}
 use Rattle.table.specs.Calls.{addCall, linkCall, readCall}
 use Rattle.table.specs.Trial.{trialCall}
 use Rattle.table.specs.Clear.{cleared, clearRefusal, clearCall}
-use Rattle.table.specs.Plan.{planOf, planCount, planClearConditions, planClearRefusal, planClearSlipRefusal, planReadRefusal, planTrialRefusal}
+use Rattle.table.specs.Preview.{previewRoom, previewRefusal, previewCall}
+use Rattle.table.specs.Plan.{planOf, planCount, planClear, planClearConditions, planClearRefusal, planClearIntoRefusal, planReadRefusal, planTrialRefusal}
 use Rattle.table.proofs.Links.{sound-wired}
 use Rattle.table.proofs.Plan.{plan-capacity, plan-count}
 use Rattle.table.proofs.Clear.{emptied-steps}
 use Rattle.table.proofs.Trials.{trial-refusal-given}
-use Rattle.table.proofs.Calls.{done, next, first-same, nonzero, first-append, past-sound, unless-zero, unless-refused, add-refusal, link-refusal, clear-refusal, read-refusal, trial-refusal, add-fits, link-fits, clear-fits, number-plan, add-sound, add-plan, link-sound, link-plan, clear-cleared, clear-plan}
+use Rattle.table.proofs.Calls.{done, next, first-same, nonzero, first-append, past-sound, unless-zero, unless-refused, add-refusal, link-refusal, clear-refusal, into-refusal, read-refusal, trial-refusal, add-fits, link-fits, ClearFits, clear-fits, number-plan, add-sound, add-plan, link-sound, link-plan, clear-cleared, clear-plan}
+use Rattle.table.proofs.Preview.{preview-made, preview-refused-as, preview-accepted}
 use Rattle.table.specs.Squeeze.{squeezeCall}
 use Rattle.table.proofs.Squeeze.{squeeze-fits, squeeze-sound, squeeze-plan, squeeze-refusal}
 use Rattle.image.specs.Image.{writtenEdition, imageSize, imageLength, writeRefusal, writeCall}
@@ -36,7 +38,7 @@ use Rattle.keyline.specs.declared.Command.the-variants.{Add, Link, Clear, Count
 use Rattle.keyline.specs.declared.Decoded.{Decoded}
 use Rattle.keyline.specs.declared.Decoded.the-variants.{Line, Nothing}
 use Rattle.keyline.specs.Keys.{keyCabin, decode, callDigit, spokenCounts, perform, performLine, keyCall}
-use Rattle.history.specs.History.{Call, add, link, clear, read, trial, write, keyLine, squeeze, clearSlip, takeBack, onlyRefusal, heardAs, callOf, ran, run, Drawn, drawUnless, drawAdd, drawLink, drawnCleared, drawClear, drawClearSlip, drawTakeBack, drawCount, drawSqueeze, isTold, unchanged, planWriteRefusal, drawCommand, drawLine, draw}
+use Rattle.history.specs.History.{Call, add, link, clear, read, trial, write, keyLine, squeeze, clearSlip, takeBack, preview, onlyRefusal, heardAs, callOf, ran, run, Drawn, drawUnless, drawAdd, drawLink, drawnCleared, drawClear, drawClearSlip, drawPreview, drawTakeBack, drawCount, drawSqueeze, isTold, unchanged, planWriteRefusal, drawCommand, drawLine, draw}
 
 -- an outcome and what is drawn beside it
 record Beside (digit : ℕ) (o : Outcome) (d : Drawn) : Type 0 where
@@ -59,6 +61,7 @@ heard-refused digit n =
       spokenUsed = cond-same (eqb digit 4) i;
       spokenFree = cond-same (eqb digit 4) i;
       back = cond-same (eqb digit 5) i;
+      foreseen = cond-same (eqb digit 6) i;
     }
 
 -- refused alike, or accepted with an outcome beside the drawing
@@ -86,8 +89,8 @@ module _ {t : Table} (s : Sound t) where
         heard = given-heard (number-plan s);
       })
     where
-      given-heard : {n m : ℕ} → n ≡ m → heardAs 1 (Given n 0) ≡ record { refusal = 0; given = m; freed = 0; spokenUsed = 0; spokenFree = 0; back = 0 }
-      given-heard q = unfold heardAs refusalOf firstOf secondOf in (λ i. record { refusal = 0; given = q i; freed = 0; spokenUsed = 0; spokenFree = 0; back = 0 })
+      given-heard : {n m : ℕ} → n ≡ m → heardAs 1 (Given n 0) ≡ record { refusal = 0; given = m; freed = 0; spokenUsed = 0; spokenFree = 0; back = 0; foreseen = 0 }
+      given-heard q = unfold heardAs refusalOf firstOf secondOf in (λ i. record { refusal = 0; given = q i; freed = 0; spokenUsed = 0; spokenFree = 0; back = 0; foreseen = 0 })
 
   beside-link : (source e second f : ℕ) → Beside 2 (linkCall t source e second f) (drawLink (planOf t) source e second f)
   unfolding linkCall drawLink
@@ -101,36 +104,58 @@ module _ {t : Table} (s : Sound t) where
         heard = (unfold heardAs onlyRefusal refusalOf firstOf secondOf in refl);
       })
 
+  -- what a clearing frees is the fall in the plan's steps
+  plan-fall : (i e : ℕ) (g : ClearFits t i e) → clear-cleared s i e g .1 ≡ planCount (planOf t) - planCount (planClear (planOf t) i e)
+  plan-fall i e g =
+      let c = clear-cleared s i e g .3 in
+      let before = plan-count (sound-wired s) in
+      let after = ap planCount (sym (clear-plan s i e g)) ∙ plan-count (sound-wired (c .sound)) in
+      let fall = c .fall in
+      let same = emptied-steps t i e in
+      omega arith
+
   -- a clearing that is not refused
   beside-cleared : (i e : ℕ) → clearRefusal t i e ≡ 0 → Beside 3 (cleared t i e) (drawnCleared (planOf t) i e)
   beside-cleared i e z =
       let g = clear-fits t i e z in
       let r = clear-cleared s i e g in
-      let c = r .3 in
-      record {
-        sound = c .sound;
-        plan = clear-plan s i e g;
-        heard =
-            ap (heardAs 3) (r .2)
-            ∙ freed-heard (r .0)
-            (let before = plan-count (sound-wired s) in
-            let after = ap planCount (sym (clear-plan s i e g)) ∙ plan-count (sound-wired (c .sound)) in
-            let fall = c .fall in
-            let same = emptied-steps t i e in
-            omega arith);
-      }
+      record { sound = r .3 .sound; plan = clear-plan s i e g; heard = ap (heardAs 3) (r .2) ∙ freed-heard (r .0) (plan-fall i e g) }
     where
-      freed-heard : (d : ℕ) {n m : ℕ} → n ≡ m → heardAs 3 (Given d n) ≡ record { refusal = 0; given = 0; freed = m; spokenUsed = 0; spokenFree = 0; back = 0 }
-      freed-heard d q = unfold heardAs refusalOf firstOf secondOf in (λ i. record { refusal = 0; given = 0; freed = q i; spokenUsed = 0; spokenFree = 0; back = 0 })
+      freed-heard : (d : ℕ) {n m : ℕ} → n ≡ m → heardAs 3 (Given d n) ≡ record { refusal = 0; given = 0; freed = m; spokenUsed = 0; spokenFree = 0; back = 0; foreseen = 0 }
+      freed-heard d q = unfold heardAs refusalOf firstOf secondOf in (λ i. record { refusal = 0; given = 0; freed = q i; spokenUsed = 0; spokenFree = 0; back = 0; foreseen = 0 })
 
   beside-clear : (i e : ℕ) → Beside 3 (clearCall t i e) (drawClear (planOf t) i e)
   unfolding clearCall drawClear
   beside-clear i e = beside-unless 3 _ _ _ _ s (clear-refusal s i e) (beside-cleared i e)
 
+  -- W8: a preview foresees the same fall, and leaves the table
+  beside-preview : (i e : ℕ) (buffer : List ℕ) →
+      Beside 6 (record { answer = previewCall t i e buffer .answer; table = t }) (drawPreview (planOf t) (ltb (length buffer) previewRoom) i e)
+  unfolding drawPreview previewRefusal
+  beside-preview i e buffer =
+      subst (λ (o : Outcome). Beside 6 o (drawPreview (planOf t) (ltb (length buffer) previewRoom) i e)) (sym outcome)
+      (beside-unless 6 _ _ _ _ s (into-refusal s i e (ltb (length buffer) previewRoom))
+      (λ z.
+      let g = clear-fits t i e (preview-accepted t i e buffer z .0) in
+      let r = clear-cleared s i e g in
+      record { sound = s; plan = refl; heard = ap (heardAs 6) (r .2) ∙ foreseen-heard (r .0) (plan-fall i e g) }))
+    where
+      outcome : record { answer = previewCall t i e buffer .answer; table = t } ≡
+          unless (previewRefusal t i e (length buffer)) t (record { answer = cleared t i e .answer; table = t })
+      outcome =
+          ⊎-elim
+          (λ (z : previewRefusal t i e (length buffer) ≡ 0).
+          ap (λ (o : WriteOutcome). record { answer = o .answer; table = t }) (preview-made t i e buffer z) ∙ sym (unless-zero _ t _ z))
+          (λ d. ap (λ (o : WriteOutcome). record { answer = o .answer; table = t }) (preview-refused-as t i e buffer d) ∙ sym (unless-refused _ t _ d))
+          (eq-or-ne (previewRefusal t i e (length buffer)) 0)
+
+      foreseen-heard : (d : ℕ) {n m : ℕ} → n ≡ m → heardAs 6 (Given d n) ≡ record { refusal = 0; given = 0; freed = 0; spokenUsed = 0; spokenFree = 0; back = 0; foreseen = m }
+      foreseen-heard d q = unfold heardAs refusalOf firstOf secondOf in (λ i. record { refusal = 0; given = 0; freed = 0; spokenUsed = 0; spokenFree = 0; back = 0; foreseen = q i })
+
   -- W7: the plan is told of 11, and of nothing else
   slip-refusal : (i e : ℕ) (buffer : List ℕ) →
-      clearSlipRefusal t i e (length buffer) ≡ planClearSlipRefusal (planOf t) (isTold t (clearSlip i e buffer)) i e
-  unfolding planClearSlipRefusal planClearRefusal isTold
+      clearSlipRefusal t i e (length buffer) ≡ planClearIntoRefusal (planOf t) (isTold t (clearSlip i e buffer)) i e
+  unfolding planClearIntoRefusal planClearRefusal isTold
   slip-refusal i e buffer =
       let n = clearSlipRefusal t i e (length buffer) in
       let told = eqb (refusalOf (clearSlipCall t i e buffer .answer)) tooShort in
@@ -192,8 +217,8 @@ module _ {t : Table} (s : Sound t) where
             omega arith);
       })
     where
-      back-heard : {n m : ℕ} → n ≡ m → heardAs 5 (Given n 0) ≡ record { refusal = 0; given = 0; freed = 0; spokenUsed = 0; spokenFree = 0; back = m }
-      back-heard q = unfold heardAs refusalOf firstOf secondOf in (λ i. record { refusal = 0; given = 0; freed = 0; spokenUsed = 0; spokenFree = 0; back = q i })
+      back-heard : {n m : ℕ} → n ≡ m → heardAs 5 (Given n 0) ≡ record { refusal = 0; given = 0; freed = 0; spokenUsed = 0; spokenFree = 0; back = m; foreseen = 0 }
+      back-heard q = unfold heardAs refusalOf firstOf secondOf in (λ i. record { refusal = 0; given = 0; freed = 0; spokenUsed = 0; spokenFree = 0; back = q i; foreseen = 0 })
 
   beside-count : Beside 4 (spokenCounts t) (drawCount (planOf t))
   unfolding spokenCounts drawCount
@@ -204,8 +229,8 @@ module _ {t : Table} (s : Sound t) where
         heard = spoken (sym (plan-count (sound-wired s))) (ap₂ _-_ (sym (plan-capacity t)) (sym (plan-count (sound-wired s))));
       }
     where
-      spoken : {a b c d : ℕ} → a ≡ b → c ≡ d → heardAs 4 (Given a c) ≡ record { refusal = 0; given = 0; freed = 0; spokenUsed = b; spokenFree = d; back = 0 }
-      spoken q r = unfold heardAs refusalOf firstOf secondOf in (λ i. record { refusal = 0; given = 0; freed = 0; spokenUsed = q i; spokenFree = r i; back = 0 })
+      spoken : {a b c d : ℕ} → a ≡ b → c ≡ d → heardAs 4 (Given a c) ≡ record { refusal = 0; given = 0; freed = 0; spokenUsed = b; spokenFree = d; back = 0; foreseen = 0 }
+      spoken q r = unfold heardAs refusalOf firstOf secondOf in (λ i. record { refusal = 0; given = 0; freed = 0; spokenUsed = q i; spokenFree = r i; back = 0; foreseen = 0 })
 
   beside-command : (c : Command) → Beside (callDigit c) (perform t c) (drawCommand (planOf t) c)
   unfolding callDigit perform drawCommand
@@ -267,3 +292,4 @@ call-agrees s (keyLine bs) = let b = beside-keys s bs in record { sound = b .sou
 call-agrees s (squeeze c q) = let b = beside-squeeze s c q in record { sound = b .sound; plan = b .plan; heard = b .heard }
 call-agrees s (clearSlip i e buffer) = let b = beside-slip s i e buffer in record { sound = b .sound; plan = b .plan; heard = b .heard }
 call-agrees s (takeBack bs) = let b = beside-back s bs in record { sound = b .sound; plan = b .plan; heard = b .heard }
+call-agrees s (preview i e buffer) = let b = beside-preview s i e buffer in record { sound = s; plan = b .plan; heard = b .heard }

@@ -14,20 +14,22 @@ use Rattle.table.specs.Answer.{Outcome, first, unless, refusalOf, firstOf, seco
 use Rattle.table.specs.Calls.{freshCall, addRefusal, addCall, linkRefusal, linkCall, noFields, readConditions, readRefusal, readCall, tableTests}
 use Rattle.table.specs.Trial.{trialConditions, trialRefusal}
 use Rattle.table.specs.Clear.{cleared, clearRefusal, clearCall}
+use Rattle.table.specs.Preview.{previewConditions, previewRefusal}
 use Rattle.table.specs.Squeeze.{squeezeRefusal, squeezeCall}
 use Rattle.table.specs.Table.{Table}
-use Rattle.table.proofs.Calls.{nonzero, first-append, unless-zero, unless-refused, read-refused, trial-refused}
+use Rattle.table.proofs.Calls.{nonzero, first-append, unless-zero, unless-refused, cleared-given, read-refused, trial-refused}
 use Rattle.table.proofs.Trials.{trial-refusal-given}
+use Rattle.table.proofs.Preview.{preview-refused-as, preview-refusal-given}
 use Rattle.image.specs.Image.{Edition, writtenEdition, writeConditions, writeRefusal, writeCall, imageTable, loadCall}
 use Rattle.image.specs.Convert.{convertConditions, convertRefusal, convertCall}
 use Rattle.image.specs.Slip.{clearSlipConditions, clearSlipRefusal, takeBackRefusal, takeBackCall}
 use Rattle.image.proofs.Laws.{put-refused, put-refusal}
-use Rattle.image.proofs.TakenBack.{cleared-given, slip-refusal-given, slip-refused-as}
+use Rattle.image.proofs.TakenBack.{slip-refusal-given, slip-refused-as}
 use Rattle.keyline.specs.declared.Command.the-variants.{Add, Link, Clear, Count}
 use Rattle.keyline.specs.declared.Decoded.{Decoded}
 use Rattle.keyline.specs.declared.Decoded.the-variants.{Line, Nothing}
 use Rattle.keyline.specs.Keys.{decode, spokenCounts, perform, callConditions, lineConditions, keyConditions, performLine, keyCall}
-use Rattle.history.specs.History.{fresh, load, add, link, clear, read, trial, write, keyLine, squeeze, clearSlip, takeBack}
+use Rattle.history.specs.History.{fresh, load, add, link, clear, read, trial, write, keyLine, squeeze, clearSlip, takeBack, preview}
 use Rattle.history.specs.Acts.{Act, begin, call, convert, Done, told, wrote, fieldNumbers, triedNumbers, callDone, doneBy, answerSize, lentTo, refusedBy, conditionsOf}
 use Rattle.history.specs.Demands.{FirstHeld, none, some, Demand1}
 
@@ -176,6 +178,15 @@ clear-slip-demand t i e buffer =
       refused = λ h. rw (slip-refused-as t i e buffer (λ z. h (n ∙ z)));
     }
 
+preview-demand : (t : Table) (i e : ℕ) (buffer : List ℕ) → Demand1 t (call (preview i e buffer))
+unfolding doneBy callDone wrote conditionsOf refusedBy answerSize lentTo refusalOf firstOf secondOf
+preview-demand t i e buffer =
+    let n = preview-refusal-given t i e buffer in
+    record {
+      listed = rw n (unfold previewRefusal in (first-held (previewConditions t i e (length buffer)) (unfold nonzero in refl)));
+      refused = λ h. rw (preview-refused-as t i e buffer (λ z. h (n ∙ z)));
+    }
+
 pub demand-1 : (t : Table) (a : Act) → Demand1 t a
 unfolding doneBy callDone conditionsOf refusedBy nothingDone answerSize lentTo nonzero
 demand-1 t (begin (fresh c q)) = (unfold freshCall refusalOf in outcome-demand t _ (begin (fresh c q)) _ _ refl refl refl refl (λ n. refl))
@@ -193,6 +204,7 @@ demand-1 t (call (keyLine bs)) = key-demand t bs
 demand-1 t (call (squeeze c q)) =
     (unfold squeezeCall squeezeRefusal refusalOf in outcome-demand t t (call (squeeze c q)) _ _ refl refl refl refl (λ n. refl))
 demand-1 t (call (clearSlip i e buffer)) = clear-slip-demand t i e buffer
+demand-1 t (call (preview i e buffer)) = preview-demand t i e buffer
 demand-1 t (call (takeBack bs)) =
     (unfold takeBackCall takeBackRefusal refusalOf in outcome-demand t t (call (takeBack bs)) _ _ refl refl refl refl (λ n. refl))
 demand-1 t (convert v bs buffer) = convert-demand t v bs buffer

@@ -15,7 +15,7 @@ use Rattle.finite.proofs.Reach.{reach-sound, reach-complete}
 use Rattle.table.specs.declared.Answer.the-variants.{Given}
 use Rattle.table.specs.Table.{Table, inUse, linked, stronglyLinked, withLinks}
 use Rattle.table.specs.Sound.{Sound}
-use Rattle.table.specs.Answer.{Outcome, tooShort, notAccepted, needsEdition2, first, firstOf, unless}
+use Rattle.table.specs.Answer.{Outcome, WriteOutcome, tooShort, notAccepted, needsEdition2, first, firstOf, unless}
 use Rattle.table.specs.Calls.{relink, addRefusal, addCall, linkRefusal, linkCall}
 use Rattle.table.specs.Clear.{emptied, cleared, clearRefusal, clearCall}
 use Rattle.table.specs.Trial.{trialCall, underNumbers}
@@ -31,7 +31,7 @@ use Rattle.table.proofs.Follow.{renumbered-follows, used-new-step, follow-stron
 use Rattle.table.proofs.Squeeze.{squeeze-made, squeeze-answer, squeeze-fits, squeeze-sound, squeeze-plan}
 use Rattle.table.proofs.Squeezed.{squeeze-refusal-same, squeeze-twice, squeeze-trial}
 use Rattle.table.proofs.SqueezeClear.{squeeze-clear}
-use Rattle.image.specs.Image.{Edition, edition1, headerKindOf, writtenEdition, editionIn, image, imageLength, WriteOutcome, written, put, writeRefusal, writeCall, imageTable, accepted, loadCall, Bytes}
+use Rattle.image.specs.Image.{Edition, edition1, headerKindOf, writtenEdition, editionIn, image, imageLength, written, put, writeRefusal, writeCall, imageTable, accepted, loadCall, Bytes}
 use Rattle.image.specs.Convert.{sayable, convertRefusal, convertCall}
 use Rattle.image.proofs.RoundTrip.{Says, accepted-says}
 use Rattle.image.proofs.Converted.{sayable-says, says-sayable, refusal-converts, convert-put, converts-back, refusal-bad, refusal-same, refusal-unsaid, Verdict, unaccepted, already, unsayable, short, done, verdict}

@@ -5,3 +5,4 @@ pub mod Demand2
 pub mod Slips
 pub mod Demand3
 pub mod Accounts
+pub mod Preview

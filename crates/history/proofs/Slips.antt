@@ -15,13 +15,13 @@ use Rattle.table.specs.Table.{Table, inUse}
 use Rattle.table.specs.Sound.{Sound}
 use Rattle.table.specs.Answer.{Outcome, secondOf}
 use Rattle.table.specs.Clear.{cleared, clearRefusal}
-use Rattle.table.proofs.Calls.{unless-zero, clear-made}
+use Rattle.table.proofs.Calls.{unless-zero, clear-made, clear-sound}
 use Rattle.image.specs.Image.{edition2, stepKindOf, recordSize, recordBytes}
 use Rattle.image.specs.Slip.{recordIn, changed, slip, slipLength, SlipOutcome, clearSlipRefusal, clearSlipCall, slipStep, slipExit, slipCount, rebuilt, clearedAgain, takeBackRefusal, takeBackCall}
 use Rattle.image.proofs.Slips.{record-fields, slip-length, slip-head, slip-pair}
 use Rattle.image.proofs.Placed.{blank-record}
-use Rattle.image.proofs.TakenBack.{unchanged-fields, Led, cleared-led, changed-used, clear-sound, slip-cleared, slip-made, slip-fits, regret, Taken, accepted-taken, taken-rise, rebuilt-plan}
-use Rattle.history.specs.History.{Call, add, link, clear, read, trial, write, keyLine, squeeze, clearSlip, takeBack, run, isTold, withTold}
+use Rattle.image.proofs.TakenBack.{unchanged-fields, Led, cleared-led, changed-used, slip-cleared, slip-made, slip-fits, regret, Taken, accepted-taken, taken-rise, rebuilt-plan}
+use Rattle.history.specs.History.{Call, add, link, clear, read, trial, write, keyLine, squeeze, clearSlip, takeBack, preview, run, isTold, withTold}
 use Rattle.history.specs.Demands.{Told, ToldDemand, SlipDemand, TakeBackDemand}
 
 told-call : (t : Table) (c : Call) → (isTold t c ≡ true) ↔ Told t c
@@ -36,6 +36,7 @@ told-call t (keyLine bs) = ((λ h. clash h refl), λ x. absurd x)
 told-call t (squeeze c q) = ((λ h. clash h refl), λ x. absurd x)
 told-call t (clearSlip i e buffer) = (eqb-true _ _, eq-eqb _ _)
 told-call t (takeBack bs) = (eqb-true _ _, eq-eqb _ _)
+told-call t (preview i e buffer) = ((λ h. clash h refl), λ x. absurd x)
 
 pub told-demand : (t : Table) (cs : List Call) → ToldDemand t cs (withTold t cs)
 unfolding withTold

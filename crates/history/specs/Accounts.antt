@@ -13,7 +13,7 @@ use Rattle.finite.specs.Below.{one, count}
 use Rattle.table.specs.Table.{Table, inUse}
 use Rattle.table.specs.Cabins.{charged}
 use Rattle.keyline.specs.Keys.{keyCabin}
-use Rattle.history.specs.History.{Call, add, link, clear, read, trial, write, keyLine, squeeze, clearSlip, takeBack, Heard, run}
+use Rattle.history.specs.History.{Call, add, link, clear, read, trial, write, keyLine, squeeze, clearSlip, takeBack, preview, Heard, run}
 
 -- a key line adds for cabin 0; the other calls give no number, and steps brought back are counted by their own cabins, below
 unfoldable pub cabinFor : Call → ℕ
@@ -27,6 +27,7 @@ cabinFor (keyLine bs) = keyCabin
 cabinFor (squeeze c quotas) = keyCabin
 cabinFor (clearSlip i e buffer) = keyCabin
 cabinFor (takeBack bs) = keyCabin
+cabinFor (preview i e buffer) = keyCabin
 
 -- a number was given: no add gives 0, and no other call gives one
 unfoldable pub gave : Heard → ℕ

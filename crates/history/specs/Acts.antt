@@ -11,16 +11,17 @@ use lib.ListN.{length, replicate}
 use Rattle.table.specs.Table.{Table}
 use Rattle.table.specs.declared.Fields.{Fields}
 use Rattle.table.specs.declared.Tried.{Tried}
-use Rattle.table.specs.Answer.{Outcome, refusalOf, firstOf, secondOf, triedRefusal, endingOf, lastOf, movesOf}
+use Rattle.table.specs.Answer.{Outcome, WriteOutcome, refusalOf, firstOf, secondOf, triedRefusal, endingOf, lastOf, movesOf}
 use Rattle.table.specs.Calls.{refusedTable, freshConditions, freshCall, addConditions, addCall, linkConditions, linkCall, readConditions, readCall}
 use Rattle.table.specs.Clear.{clearConditions, clearCall}
+use Rattle.table.specs.Preview.{previewConditions, previewCall}
 use Rattle.table.specs.Trial.{trialConditions, trialCall}
 use Rattle.table.specs.Squeeze.{squeezeConditions, squeezeCall}
-use Rattle.image.specs.Image.{Edition, WriteOutcome, writeConditions, writeCall, loadConditions, loadCall}
+use Rattle.image.specs.Image.{Edition, writeConditions, writeCall, loadConditions, loadCall}
 use Rattle.image.specs.Convert.{convertConditions, convertCall}
 use Rattle.image.specs.Slip.{clearSlipConditions, clearSlipCall, takeBackConditions, takeBackCall}
 use Rattle.keyline.specs.Keys.{keyConditions, keyCall}
-use Rattle.history.specs.History.{First, fresh, load, Call, add, link, clear, read, trial, write, keyLine, squeeze, clearSlip, takeBack}
+use Rattle.history.specs.History.{First, fresh, load, Call, add, link, clear, read, trial, write, keyLine, squeeze, clearSlip, takeBack, preview}
 
 pub data Act : Type 0 where
   begin : First → Act
@@ -39,7 +40,7 @@ pub record Done : Type 0 where
 unfoldable pub told : Outcome → Done
 told o = record { refusal = refusalOf (o .answer); numbers = firstOf (o .answer) ∷ secondOf (o .answer) ∷ []; lent = []; table = o .table }
 
--- that of a call that writes an image has two as well, and leaves the table at hand
+-- that of a call that writes into a buffer and leaves the table at hand has two as well
 unfoldable pub wrote : Table → WriteOutcome → Done
 wrote t o = record { refusal = refusalOf (o .answer); numbers = firstOf (o .answer) ∷ secondOf (o .answer) ∷ []; lent = o .buffer; table = t }
 
@@ -68,6 +69,7 @@ callDone t (clearSlip i e buffer) =
     let o = clearSlipCall t i e buffer in
     record { refusal = refusalOf (o .answer); numbers = firstOf (o .answer) ∷ secondOf (o .answer) ∷ []; lent = o .buffer; table = o .table }
 callDone t (takeBack bs) = told (takeBackCall t bs)
+callDone t (preview i e buffer) = wrote t (previewCall t i e buffer)
 
 unfoldable pub doneBy : Table → Act → Done
 doneBy t (begin (fresh c quotas)) = told (freshCall c quotas)
@@ -87,6 +89,7 @@ answerSize (keyLine bs) = 2
 answerSize (squeeze c quotas) = 2
 answerSize (clearSlip i e buffer) = 2
 answerSize (takeBack bs) = 2
+answerSize (preview i e buffer) = 2
 
 unfoldable pub lentTo : Call → List ℕ
 lentTo (add holder e kind content cabin) = []
@@ -99,6 +102,7 @@ lentTo (keyLine bs) = []
 lentTo (squeeze c quotas) = []
 lentTo (clearSlip i e buffer) = buffer
 lentTo (takeBack bs) = []
+lentTo (preview i e buffer) = buffer
 
 -- "A refusal answers its number with all other numbers zero, and changes no table or buffer. Refused fresh and load hand back a fresh table of
 -- capacity 1."
@@ -121,4 +125,5 @@ conditionsOf t (call (keyLine bs)) = keyConditions t bs
 conditionsOf t (call (squeeze c quotas)) = squeezeConditions t c quotas
 conditionsOf t (call (clearSlip i e buffer)) = clearSlipConditions t i e (length buffer)
 conditionsOf t (call (takeBack bs)) = takeBackConditions t bs
+conditionsOf t (call (preview i e buffer)) = previewConditions t i e (length buffer)
 conditionsOf t (convert v bs buffer) = convertConditions v bs (length buffer)

@@ -7,6 +7,7 @@
 --   SqueezeDemand TwiceDemand   what an accepted squeeze does on a sound table, and a second one (W2)
 --   ToldDemand          what the plan is told of the calls (W7)
 --   SlipDemand TakeBackDemand   what a clearing with a slip does on a sound table, and its taking back (W7)
+--   PreviewDemand       what a preview of a clearing says, and the clearing made next (W8); PreviewRefusalDemand, when it is refused
 --   WriteDemand SortedDemand   both ways of an image, over the calls (demand 2)
 --   EqualDemand SameTableDemand   one table, one image (W1)
 --   OldDemand           an image of edition 1 (W5)
@@ -21,7 +22,7 @@ use lib.ListN.{length, getD, take, drop, replicate}
 use Rattle.finite.specs.Below.{count, total}
 use Rattle.finite.specs.Reach.{Chain}
 use Rattle.table.specs.declared.Answer.the-variants.{Given}
-use Rattle.table.specs.Answer.{Outcome, full, cabinAtLimit, stepsReserved, tooShort, notAccepted, needsEdition2, slipNotAccepted, refusalOf, secondOf}
+use Rattle.table.specs.Answer.{Outcome, WriteOutcome, full, cabinAtLimit, stepsReserved, tooShort, notAccepted, needsEdition2, slipNotAccepted, refusalOf, secondOf}
 use Rattle.table.specs.Table.{Table, places, counters, cabinCount, exitsOf, inUse, cabinOf, counterOf, strong, linked, linksTo, stepsInUse, StrongChain}
 use Rattle.table.specs.Cabins.{guaranteeOf, soleQuotas, charge}
 use Rattle.table.specs.Sound.{Sound}
@@ -30,9 +31,9 @@ use Rattle.table.specs.Clear.{emptied, clearCall}
 use Rattle.table.specs.Squeeze.{newNumber, squeezeRefusal, squeezeCall, Renumbered}
 use Rattle.table.specs.Plan.{planOf, planCount, planNumber, planAdd, planLink, planClear, planSqueeze}
 use Rattle.keyline.specs.Keys.{keyCabin, keyCall}
-use Rattle.image.specs.Image.{Edition, edition1, words, image, editionIn, WriteOutcome, written, accepted, loadCall, Bytes, SameRecords, Ascending}
+use Rattle.image.specs.Image.{Edition, edition1, words, image, editionIn, written, accepted, loadCall, Bytes, SameRecords, Ascending}
 use Rattle.image.specs.Slip.{recordIn, changed, slip, slipLength, SlipOutcome, clearSlipCall, slipStep, slipExit, slipCount, takeBackCall, planTakenBack}
-use Rattle.history.specs.History.{First, Call, add, link, clear, read, trial, write, keyLine, squeeze, clearSlip, takeBack, run, withTold, tableAfter, heardBy, planAfter, drawnBy, firstRefusal, planFirstRefusal, firstTable, firstPlan}
+use Rattle.history.specs.History.{First, Call, add, link, clear, read, trial, write, keyLine, squeeze, clearSlip, takeBack, preview, run, withTold, tableAfter, heardBy, planAfter, drawnBy, firstRefusal, planFirstRefusal, firstTable, firstPlan}
 use Rattle.history.specs.Accounts.{account, tally}
 use Rattle.history.specs.Acts.{Act, doneBy, refusedBy, conditionsOf}
 
@@ -61,7 +62,8 @@ pub record Demand3 (f : First) (cs : List Call) : Type 0 where
   -- W5: "the guarantees, the limits and each step's cabin, and demand 3 compares them too"
   -- W7: with each call it "is told one thing, whether a call got 11 or 18 of this request"
   pub plan : planOf (tableAfter (firstTable f) cs) ≡ planAfter (firstPlan f) (withTold (firstTable f) cs)
-  -- "and so do all refusals, numbers given, freed counts and spoken counts", and the steps that a take-back brings back
+  -- "and so do all refusals, numbers given, freed counts and spoken counts", the steps that a take-back brings back, and the freed counts that a preview
+  -- foresees
   pub begun : firstRefusal f ≡ planFirstRefusal f
   pub heard : heardBy (firstTable f) cs ≡ drawnBy (firstPlan f) (withTold (firstTable f) cs)
   -- "stored counters 0 and 1 of each step are the numbers of links to it with bit 0 and with bit 1"
@@ -79,6 +81,7 @@ Told t (trial limit results trace) = ⊥
 Told t (write buffer) = ⊥
 Told t (keyLine bs) = ⊥
 Told t (squeeze c quotas) = ⊥
+Told t (preview i e buffer) = ⊥
 
 -- what the plan gets of the calls: each call as it is, and a bool that is true exactly there
 abbrev pub ToldDemand : Table → List Call → List (Bool × Call) → Type 0
@@ -203,6 +206,32 @@ pub record TakeBackDemand (t : Table) (bs : List ℕ) (o : Outcome) : Type 0 whe
 pub record CountDemand (t : Table) (o : Outcome) : Type 0 where
   pub same : o .table ≡ t
   pub spoken : o .answer ≡ Given (planCount (planOf t)) (planOf t .capacity - planCount (planOf t))
+
+-- W8: a preview that was not refused, of the clearing of exit e of step i; o is what it did. The numbers are the first `freed` entries of the buffer.
+pub record PreviewDemand (t : Table) (i e : ℕ) (buffer : List ℕ) (o : WriteOutcome) : Type 0 where
+  -- "while the table is untouched"
+  pub untouched : tableAfter t (preview i e buffer ∷ []) ≡ t
+  -- "answer both counts that the clearing would give"; "The same clearing, made next, frees just these"
+  pub doubts : ℕ
+  pub freed : ℕ
+  pub answer : o .answer ≡ Given doubts freed
+  pub next : clearCall (tableAfter t (preview i e buffer ∷ [])) i e .answer ≡ Given doubts freed
+  pub just : (k : ℕ) → ((m : ℕ) × (m < freed) × (getD (o .buffer) m 0 ≡ k)) ↔
+      ((inUse t k ≡ true) × (inUse (clearCall (tableAfter t (preview i e buffer ∷ [])) i e .table) k ≡ false))
+  -- they are the steps to which no chain of links of either strength leads from step 0 once the exit is emptied
+  pub cut : (k : ℕ) → ((m : ℕ) × (m < freed) × (getD (o .buffer) m 0 ≡ k)) ↔
+      ((inUse t k ≡ true) × ((n : ℕ) → Chain (linked (emptied t i e)) 0 k n → ⊥))
+  -- "ascending, into a lent buffer"; a byte each, and the bytes past them as they were
+  pub ascending : (m n : ℕ) → m < n → n < freed → getD (o .buffer) m 0 < getD (o .buffer) n 0
+  pub bytes : (m : ℕ) → m < freed → getD (o .buffer) m 0 < places
+  pub past : drop freed (o .buffer) ≡ drop freed buffer
+  pub size : length (o .buffer) ≡ length buffer
+
+-- and any preview: "The buffer must hold 127 bytes, else 11, after the clearing's refusals."
+pub record PreviewRefusalDemand (t : Table) (i e : ℕ) (buffer : List ℕ) (o : WriteOutcome) : Type 0 where
+  pub first : (refusalOf (clearCall t i e .answer) ≡ 0 → ⊥) → refusalOf (o .answer) ≡ refusalOf (clearCall t i e .answer)
+  pub short : refusalOf (clearCall t i e .answer) ≡ 0 → length buffer < 127 → refusalOf (o .answer) ≡ 11
+  pub room : refusalOf (clearCall t i e .answer) ≡ 0 → 127 ≤ length buffer → refusalOf (o .answer) ≡ 0
 
 -- "A sound table written as an image loads as the same table": the bytes that were written in the edition v, in a buffer with the room
 pub record WriteDemand (v : Edition) (t : Table) (buffer : List ℕ) (o : WriteOutcome) : Type 0 where

@@ -1,7 +1,7 @@
--- Histories (traces): a list of calls, run on the table and drawn on the plain plan (document 01, "A history"; document 02, W2, W3, W5, W7). Assumes
--- nothing.
+-- Histories (traces): a list of calls, run on the table and drawn on the plain plan (document 01, "A history"; document 02, W2, W3, W5, W7, W8).
+-- Assumes nothing.
 --   First, Call        what a history begins with, and a call with its arguments
---   Heard              what demand 3 compares of a call: refusal, number given, freed count, spoken counts, steps brought back
+--   Heard              what demand 3 compares of a call: refusal, number given, freed count, spoken counts, steps brought back, freed count foreseen
 --   run, draw          one call, on the table and on the plan
 --   isTold, withTold   what the plan is told of a call, and of each call of a list
 --   firstTable firstPlan  what a history begins with
@@ -19,9 +19,10 @@ use Rattle.table.specs.Answer.{Outcome, badCapacity, tooShort, notKeyLine, notA
 use Rattle.table.specs.Sound.{capacityFits}
 use Rattle.table.specs.Calls.{freshCall, addCall, linkCall, readCall}
 use Rattle.table.specs.Clear.{clearCall}
+use Rattle.table.specs.Preview.{previewRoom, previewCall}
 use Rattle.table.specs.Trial.{trialCall}
 use Rattle.table.specs.Squeeze.{squeezeCall}
-use Rattle.table.specs.Plan.{Plan, planCount, planNumber, freshPlan, planAdd, planLink, planClear, planSqueeze, planAddRefusal, planLinkRefusal, planClearRefusal, planClearSlipRefusal, planReadRefusal, planTrialRefusal, planSqueezeRefusal}
+use Rattle.table.specs.Plan.{Plan, planCount, planNumber, freshPlan, planAdd, planLink, planClear, planSqueeze, planAddRefusal, planLinkRefusal, planClearRefusal, planClearIntoRefusal, planReadRefusal, planTrialRefusal, planSqueezeRefusal}
 use Rattle.image.specs.Image.{writtenEdition, imageSize, writeCall, loadCall, accepted, imagePlan}
 use Rattle.image.specs.Slip.{clearSlipCall, takeBackCall, planTakenBack}
 use Rattle.keyline.specs.declared.Command.{Command}
@@ -37,7 +38,8 @@ pub data First : Type 0 where
 
 -- "a list, of any length or empty, of add, link, clear, read, trial, write image and key line, with any arguments; line results and key bytes
 -- stand in it by value", and so do the lent trace and buffer. "A history may now hold a squeeze" (W2); a trial is given a limit (W3), an add a cabin and
--- a squeeze a list of quotas (W5); "a history may now hold take-backs", and clearings that write a slip (W7)
+-- a squeeze a list of quotas (W5); "a history may now hold take-backs", and clearings that write a slip (W7); "A history may now hold this call", which
+-- previews a clearing (W8)
 pub data Call : Type 0 where
   add : ℕ → ℕ → ℕ → ℕ → ℕ → Call
   link : ℕ → ℕ → ℕ → ℕ → Call
@@ -48,6 +50,7 @@ pub data Call : Type 0 where
   squeeze : ℕ → List ℕ → Call
   clearSlip : ℕ → ℕ → List ℕ → Call
   takeBack : List ℕ → Call
+  preview : ℕ → ℕ → List ℕ → Call
 
 -- what demand 3 compares along the list; a number that a call does not give is zero
 pub record Heard : Type 0 where
@@ -57,13 +60,14 @@ pub record Heard : Type 0 where
   pub spokenUsed : ℕ
   pub spokenFree : ℕ
   pub back : ℕ
+  pub foreseen : ℕ
 
 -- of a call that gives no number, the refusal or 0
 unfoldable pub onlyRefusal : ℕ → Heard
-onlyRefusal n = record { refusal = n; given = 0; freed = 0; spokenUsed = 0; spokenFree = 0; back = 0 }
+onlyRefusal n = record { refusal = n; given = 0; freed = 0; spokenUsed = 0; spokenFree = 0; back = 0; foreseen = 0 }
 
--- the answer of a call of the keys' number: 1 add, 2 link, 3 clear, 4 counts; 5 is taking back, which no key makes; of any other number, the refusal
--- alone
+-- the answer of a call of the keys' number: 1 add, 2 link, 3 clear, 4 counts; 5 is taking back and 6 previewing a clearing, which no key makes; of any
+-- other number, the refusal alone
 unfoldable pub heardAs : ℕ → Answer → Heard
 heardAs call a =
     record {
@@ -73,6 +77,7 @@ heardAs call a =
       spokenUsed = cond (eqb call 4) (firstOf a) 0;
       spokenFree = cond (eqb call 4) (secondOf a) 0;
       back = cond (eqb call 5) (firstOf a) 0;
+      foreseen = cond (eqb call 6) (secondOf a) 0;
     }
 
 -- the call's number of a key line, or 0
@@ -101,6 +106,7 @@ run t (clearSlip i e buffer) =
     let o = clearSlipCall t i e buffer in
     record { heard = heardAs 3 (o .answer); table = o .table }
 run t (takeBack bs) = ran 5 (takeBackCall t bs)
+run t (preview i e buffer) = record { heard = heardAs 6 (previewCall t i e buffer .answer); table = t }
 
 -- one call on the plan
 pub record Drawn : Type 0 where
@@ -115,7 +121,7 @@ unfoldable pub drawAdd : Plan → ℕ → ℕ → ℕ → ℕ → ℕ → Drawn
 drawAdd p holder e kind content cabin =
     drawUnless (planAddRefusal p holder e kind content cabin) p
     (record {
-      heard = record { refusal = 0; given = planNumber p; freed = 0; spokenUsed = 0; spokenFree = 0; back = 0 };
+      heard = record { refusal = 0; given = planNumber p; freed = 0; spokenUsed = 0; spokenFree = 0; back = 0; foreseen = 0 };
       plan = planAdd p holder e kind content cabin;
     })
 
@@ -135,6 +141,7 @@ drawnCleared p i e =
             spokenUsed = 0;
             spokenFree = 0;
             back = 0;
+            foreseen = 0;
           };
       plan = planClear p i e;
     }
@@ -144,7 +151,25 @@ drawClear p i e = drawUnless (planClearRefusal p i e) p (drawnCleared p i e)
 
 -- W7: the same with a slip, which changes nothing but the refusal
 unfoldable pub drawClearSlip : Plan → Bool → ℕ → ℕ → Drawn
-drawClearSlip p short i e = drawUnless (planClearSlipRefusal p short i e) p (drawnCleared p i e)
+drawClearSlip p short i e = drawUnless (planClearIntoRefusal p short i e) p (drawnCleared p i e)
+
+-- W8: "which does not change the plain plan": it says what a clearing would free
+unfoldable pub drawPreview : Plan → Bool → ℕ → ℕ → Drawn
+drawPreview p short i e =
+    drawUnless (planClearIntoRefusal p short i e) p
+    (record {
+      heard =
+          record {
+            refusal = 0;
+            given = 0;
+            freed = 0;
+            spokenUsed = 0;
+            spokenFree = 0;
+            back = 0;
+            foreseen = planCount p - planCount (planClear p i e);
+          };
+      plan = p;
+    })
 
 -- W7: "an accepted one puts the slip's old records, without bits, into the plain plan"; the steps brought back are the rise in the number of steps
 unfoldable pub drawTakeBack : Plan → Bool → List ℕ → Drawn
@@ -159,6 +184,7 @@ drawTakeBack p refused bs =
             spokenUsed = 0;
             spokenFree = 0;
             back = planCount (planTakenBack p bs) - planCount p;
+            foreseen = 0;
           };
       plan = planTakenBack p bs;
     })
@@ -168,7 +194,7 @@ unfoldable pub drawCount : Plan → Drawn
 drawCount p =
     record {
       heard =
-          record { refusal = 0; given = 0; freed = 0; spokenUsed = planCount p; spokenFree = p .capacity - planCount p; back = 0 };
+          record { refusal = 0; given = 0; freed = 0; spokenUsed = planCount p; spokenFree = p .capacity - planCount p; back = 0; foreseen = 0 };
       plan = p;
     }
 
@@ -207,6 +233,7 @@ isTold t (keyLine bs) = false
 isTold t (squeeze c quotas) = false
 isTold t (clearSlip i e buffer) = eqb (refusalOf (clearSlipCall t i e buffer .answer)) tooShort
 isTold t (takeBack bs) = eqb (refusalOf (takeBackCall t bs .answer)) slipNotAccepted
+isTold t (preview i e buffer) = false
 
 -- a call drawn from what is told of it and its arguments
 unfoldable pub draw : Plan → Bool → Call → Drawn
@@ -220,6 +247,7 @@ draw p b (keyLine bs) = drawLine p (decode bs)
 draw p b (squeeze c quotas) = drawSqueeze p c quotas
 draw p b (clearSlip i e buffer) = drawClearSlip p b i e
 draw p b (takeBack bs) = drawTakeBack p b bs
+draw p b (preview i e buffer) = drawPreview p (ltb (length buffer) previewRoom) i e
 
 -- "each later one the table as the call before left it, refused or not"
 unfoldable pub tableAfter : Table → List Call → Table

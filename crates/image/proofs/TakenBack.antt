@@ -7,27 +7,27 @@
 use mathlib.Core.Path.{_≡_, refl, sym, _∙_, ap, subst}
 use mathlib.Core.Bool.{Bool, true, false, _&&_, not, cond}
 use mathlib.Core.Logic.{⊎-elim}
-use mathlib.Core.List.{List, [], _∷_, _++_}
+use mathlib.Core.List.{List, _++_}
 use Prim.Native.Nat.{ℕ, zero, suc, _+_, _≤_, _<_}
 use native.Mathlib.Omega.{arith}
 use lib.ListN.{length, drop}
 use lib.Dec.{eqb, ltb}
-use borrow.Author.Tests.{eqb-true, eq-eqb, ne-eqb, lt-ltb, le-ltb}
+use borrow.Author.Tests.{eqb-true, eq-eqb, ne-eqb, ltb-false, lt-ltb, le-ltb}
 use Rattle.finite.specs.Below.{one, count, rounds}
 use Rattle.finite.proofs.Bools.{and-intro, and-left, and-right, clash, refute, test, not-false-true}
-use Rattle.finite.proofs.Below.{le-or-lt, eq-or-ne, below-suc}
+use Rattle.finite.proofs.Below.{le-or-lt, below-suc}
 use Rattle.finite.proofs.Select.{same-true, same-lists}
 use Rattle.table.specs.declared.Answer.the-variants.{Refused, Given}
 use Rattle.table.specs.Table.{Table, places, inUse, kindOf, contentOf, cabinOf, targetOf, stepsInUse, sameTable, withLinks, withSteps}
 use Rattle.table.specs.Sound.{Shape, Sound, sound}
 use Rattle.table.specs.Answer.{Outcome, tooShort, slipNotAccepted, first, refusalOf, secondOf, unless}
 use Rattle.table.specs.Calls.{relink}
-use Rattle.table.specs.Clear.{emptied, stops, repaired, clearConditions, cleared, clearRefusal, clearCall}
+use Rattle.table.specs.Clear.{emptied, cleared, clearRefusal}
 use Rattle.table.specs.Plan.{Plan, planOf, planStep}
 use Rattle.table.proofs.Sound.{test-sound, sound-test}
 use Rattle.table.proofs.Formed.{formed-wired}
 use Rattle.table.proofs.Clear.{reached-in-use, emptied-used, emptied-steps, formed-emptied}
-use Rattle.table.proofs.Calls.{nonzero, first-zero, first-append, unless-zero, unless-refused, clear-made, clear-fits, clear-cleared}
+use Rattle.table.proofs.Calls.{nonzero, first-zero, unless-zero, unless-refusal, clear-made, cleared-given, clear-refusal-given, clear-fits, clear-cleared, into-order, into-accepted}
 use Rattle.table.proofs.Same.{table-same, same-table}
 use Rattle.image.specs.Image.{edition2, stepFieldsOf, withRecord, counted}
 use Rattle.image.specs.Slip.{changed, slip, slipLength, clearSlipRefusal, clearSlipCall, slipStep, slipExit, slipCount, oldPlace, fieldsAt, present, rebuilt, clearedAgain, retraced, takeBackConditions, takeBackRefusal, takeBackCall, planRecord, planTakenBack}
@@ -220,22 +220,6 @@ cleared-led {t} s i e z =
     emptied-numbers : (emptied t i e .capacity ≡ t .capacity) × (emptied t i e .last ≡ t .last) × (emptied t i e .quotas ≡ t .quotas)
     emptied-numbers = unfold emptied relink withLinks in (refl, refl, refl)
 
--- the refusal that a call answers is the one that it was found to have
-pub unless-refusal : (n : ℕ) (t : Table) (o : Outcome) → refusalOf (o .answer) ≡ 0 → refusalOf (unless n t o .answer) ≡ n
-unless-refusal n t o z =
-    ⊎-elim (λ (q : n ≡ 0). ap (λ (x : Outcome). refusalOf (x .answer)) (unless-zero n t o q) ∙ z ∙ sym q)
-    (λ d. ap (λ (x : Outcome). refusalOf (x .answer)) (unless-refused n t o d) ∙ (unfold refusalOf in refl))
-    (eq-or-ne n 0)
-
--- a clearing that is made gives its counts
-pub cleared-given : (t : Table) (i e : ℕ) → refusalOf (cleared t i e .answer) ≡ 0
-unfolding repaired refusalOf
-cleared-given t i e = ⊎-elim (λ (h : stops t i e ≡ true). rw h) (λ (h : stops t i e ≡ false). rw h) (test (stops t i e))
-
-pub clear-refusal-given : (t : Table) (i e : ℕ) → refusalOf (clearCall t i e .answer) ≡ clearRefusal t i e
-unfolding clearCall
-clear-refusal-given t i e = unless-refusal (clearRefusal t i e) t (cleared t i e) (cleared-given t i e)
-
 -- What an accepted slip says of the present table t.
 pub record Taken (t : Table) (bs : List ℕ) : Type 0 where
   pub sound : Sound (rebuilt t bs)
@@ -342,14 +326,10 @@ module _ {t : Table} (s : Sound t) (i e : ℕ) (z : clearRefusal t i e ≡ 0) wh
           ∙ named (λ w k f. secondOf (cleared w k f .answer) ≡ secondOf (cleared t i e .answer)) refl
 
 -- A clearing that is to write a slip: refused as the clearing is, refused for the room, or made.
-pub clear-sound : (t : Table) (i e : ℕ) → clearRefusal t i e ≡ 0 → Sound t
-unfolding clearRefusal nonzero
-clear-sound t i e z = test-sound t (not-false-true _ (first-zero (clearConditions t i e) z refl 0))
-
 module _ (t : Table) (i e : ℕ) (buffer : List ℕ) where
   order : clearSlipRefusal t i e (length buffer) ≡ cond (eqb (clearRefusal t i e) 0) (cond (ltb (length buffer) (slipLength t i e)) tooShort 0) (clearRefusal t i e)
-  unfolding clearSlipRefusal clearRefusal first
-  order = first-append (clearConditions t i e) ((ltb (length buffer) (slipLength t i e), tooShort) ∷ []) (unfold nonzero in refl)
+  unfolding clearSlipRefusal
+  order = into-order t i e (ltb (length buffer) (slipLength t i e))
 
   refused-as : (n : ℕ) → (n ≡ 0 → ⊥) → clearSlipRefusal t i e (length buffer) ≡ n → clearSlipCall t i e buffer ≡ record { answer = Refused n; table = t; buffer = buffer }
   unfolding clearSlipCall
@@ -376,15 +356,8 @@ module _ (t : Table) (i e : ℕ) (buffer : List ℕ) where
 
   -- what its acceptance says
   pub slip-cleared : clearSlipRefusal t i e (length buffer) ≡ 0 → (clearRefusal t i e ≡ 0) × (slipLength t i e ≤ length buffer)
-  slip-cleared z =
-      ⊎-elim
-      (λ (q : clearRefusal t i e ≡ 0).
-      ⊎-elim (λ l. (q, l))
-      (λ (l : length buffer < slipLength t i e).
-      let n : _≡_ {A = ℕ} tooShort 0 = sym (order ∙ rw (eq-eqb (clearRefusal t i e) 0 q, lt-ltb (length buffer) (slipLength t i e) l)) ∙ z in absurd (omega arith))
-      (le-or-lt (slipLength t i e) (length buffer)))
-      (λ d. absurd (d (sym (order ∙ rw (ne-eqb (clearRefusal t i e) 0 d)) ∙ z)))
-      (eq-or-ne (clearRefusal t i e) 0)
+  unfolding clearSlipRefusal
+  slip-cleared z = let r = into-accepted t i e (ltb (length buffer) (slipLength t i e)) z in (r .0, ltb-false _ _ (r .1))
 
   -- the answer and the table by themselves, and the refusal
   pub slip-outcome : record { answer = clearSlipCall t i e buffer .answer; table = clearSlipCall t i e buffer .table } ≡

@@ -10,8 +10,8 @@ use lib.Dec.{eqb}
 use Rattle.finite.specs.Below.{all}
 use Rattle.table.specs.Table.{Table, quotaNumbers, cabinOf}
 use Rattle.table.specs.Cabins.{soleQuotas}
-use Rattle.table.specs.Answer.{notAccepted, needsEdition2, first}
-use Rattle.image.specs.Image.{Edition, edition1, edition2, headerKindOf, WriteOutcome, put, roomTests, editionIn, imageTable, accepted}
+use Rattle.table.specs.Answer.{WriteOutcome, notAccepted, needsEdition2, first}
+use Rattle.image.specs.Image.{Edition, edition1, edition2, headerKindOf, put, roomTests, editionIn, imageTable, accepted}
 
 -- the guarantees and limits are "W5's for edition 1"
 unfoldable pub hasSoleQuotas : Table → Bool

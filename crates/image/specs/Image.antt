@@ -33,7 +33,7 @@ use Rattle.table.specs.declared.Answer.the-variants.{Refused, Given}
 use Rattle.table.specs.Table.{Table, places, exits, counters, quotaNumbers, inUse, kindOf, contentOf, ownBit, cabinOf, targetOf, linkBit, linksTo, stepsInUse, withLinks, withSteps}
 use Rattle.table.specs.Cabins.{soleQuotas}
 use Rattle.table.specs.Sound.{sound}
-use Rattle.table.specs.Answer.{Outcome, tooShort, notAccepted, first, firstOf, unless}
+use Rattle.table.specs.Answer.{Outcome, WriteOutcome, tooShort, notAccepted, first, firstOf, unless}
 use Rattle.table.specs.Calls.{tableTests, refusedTable}
 use Rattle.table.specs.Plan.{Plan}
 
@@ -124,11 +124,6 @@ unfoldable pub lengthCall : Table → Answer
 lengthCall t =
     let n = first (tableTests t) in
     cond (eqb n 0) (Given (imageLength writtenEdition t) 0) (Refused n)
-
--- the answer of a call that writes an image, and the lent buffer as it is left
-pub record WriteOutcome : Type 0 where
-  pub answer : Answer
-  pub buffer : List ℕ
 
 -- the bytes written: as many of the buffer as the call answers
 unfoldable pub written : WriteOutcome → List ℕ

@@ -1,12 +1,11 @@
 -- Rules 3 and 4 step by step: the candidates, the lowest of them taken back, and the freeing. Assumes nothing.
---   Candidates ..   the list `wants` has the candidates, and none is below `low`
 --   Progress ..     the repair begun with the first table comes to the same as the rest of it on the present one
+--   Followed ..     the same of a table that is nowhere stored: on t, each step still doubtful has its links
 use mathlib.Core.Path.{_≡_, refl, sym, _∙_, ap, ap₂, subst}
 use mathlib.Core.Bool.{Bool, true, false, _&&_, _||_, not, cond}
 use mathlib.Core.Logic.{⊎-elim}
 use mathlib.Core.List.{List}
 use Prim.Native.Nat.{ℕ, zero, suc, _+_, _-_, _≤_, _<_}
-use native.Mathlib.Numerals.{add-one}
 use native.Mathlib.Omega.{arith}
 use lib.ListN.{length, getD, set, length-set, List·getD-eq-default}
 use lib.Seq.{getD-set-same, getD-set-other}
@@ -23,7 +22,7 @@ use Rattle.table.proofs.Alike.{alike-linked, alike-used}
 use Rattle.table.proofs.Restore.{taken}
 use Rattle.table.proofs.Repair.{taking}
 use Rattle.words.specs.Words.{tableOf, Becomes}
-use Rattle.repairing.specs.Repairing.{underRepair, isOne, asMarks, wantedIn, Standing, Repairable, Added}
+use Rattle.repairing.specs.Repairing.{underRepair, isOne, asMarks, wantedIn, Standing, Repairable, Added, Candidates, Settling}
 use Rattle.repairing.proofs.Laws.{is-one, marks-at, standing-emptied}
 
 -- a place where 1 stands is a place of the list
@@ -49,21 +48,16 @@ module _ (l : List ℕ) (k : ℕ) (here : getD l k 0 ≡ 1) where
   unfolding asMarks
   marks-set n h = tabulate-set n k (isOne (set l k 0)) (isOne l) false h unmarked-here (λ i _ d. unmarked-other i d)
 
+  unmarked-only : (i : ℕ) → isOne (set l k 0) i ≡ true → isOne l i ≡ true
+  unmarked-only i m =
+      ⊎-elim (λ (e : i ≡ k). rw e (is-one l k here)) (λ d. sym (unmarked-other i d) ∙ m) (eq-or-ne i k)
+
   pub marks-fall : (n : ℕ) → k < n → count n (isOne (set l k 0)) + 1 ≡ count n (isOne l)
   marks-fall n h =
       let c = count-change n (isOne l) (isOne (set l k 0)) k h (λ i _ d. unmarked-other i d) in
       let x : one (isOne l k) ≡ 1 = ap one (is-one l k here) in
       let y : one (isOne (set l k 0) k) ≡ 0 = ap one unmarked-here in
       omega arith
-
--- The candidates, gathered step by step.
-pub wanted-start : (links : ℕ → ℕ → Bool) (doubt : List ℕ) (i : ℕ) → one (wantedIn 0 links doubt i) ≡ 0
-unfolding wantedIn any
-wanted-start links doubt i = none (isOne doubt i)
-  where
-    none : (b : Bool) → one (b && false) ≡ 0
-    none true = refl
-    none false = refl
 
 -- a doubtful step d that was a candidate by a is now one by l too
 joined : (l d a : Bool) → cond (l && d) 1 (one (d && a)) ≡ one (d && (a || l))
@@ -73,23 +67,6 @@ joined true false a = refl
 joined false true true = refl
 joined false true false = refl
 joined false false a = refl
-
-module _ (links : ℕ → ℕ → Bool) (doubt before after : List ℕ) (k low mark : ℕ) (h : (i : ℕ) → getD before i 0 ≡ one (wantedIn k links doubt i)) where
-  pub wanted-go : isOne doubt k ≡ false → Added (links k) doubt before after low mark →
-      (i : ℕ) → getD after i 0 ≡ one (wantedIn (k + 1) links doubt i)
-  unfolding wantedIn any
-  wanted-go m a i =
-      a .marks i ∙ ap (cond (links k i && isOne doubt i) 1) (h i)
-      ∙ rw (add-one k, m) (joined (links k i) (isOne doubt i) (any k (λ f. not (isOne doubt f) && links f i)))
-
-  pub wanted-stay : isOne doubt k ≡ true → (i : ℕ) → getD before i 0 ≡ one (wantedIn (k + 1) links doubt i)
-  unfolding wantedIn any
-  wanted-stay m i = h i ∙ rw (add-one k, m) (alone (isOne doubt i) (any k (λ f. not (isOne doubt f) && links f i)))
-    where
-      alone : (d a : Bool) → one (d && a) ≡ one (d && (a || false))
-      alone true true = refl
-      alone true false = refl
-      alone false a = refl
 
 -- A table in order with marks.
 module _ {t : Table} {n : ℕ} {doubt : List ℕ} (r : Repairable t n doubt) where
@@ -132,7 +109,7 @@ pub able-after : {u v : List ℕ} {t : Table} {n : ℕ} {doubt : List ℕ} → B
 able-after {n = n} {doubt} b r = subst (λ (x : Table). Repairable x n doubt) (sym (b .table)) r
 
 -- The definition's wanted steps are those of the list.
-wanted-in : (t : Table) (doubt : List ℕ) (n : ℕ) → t .capacity ≡ n → (i : ℕ) → i < n →
+pub wanted-in : (t : Table) (doubt : List ℕ) (n : ℕ) → t .capacity ≡ n → (i : ℕ) → i < n →
     wanted (underRepair t doubt) i ≡ wantedIn n (linked t) doubt i
 unfolding wanted wantedIn
 wanted-in t doubt n c i l =
@@ -167,11 +144,6 @@ repair-rests (suc f) r h =
 abbrev fromKept : (ℕ → ℕ → Bool) → List ℕ → ℕ → ℕ → Bool
 fromKept links doubt i k = not (isOne doubt k) && links k i
 
-pub record Candidates (n : ℕ) (links : ℕ → ℕ → Bool) (doubt wants : List ℕ) (low : ℕ) : Type 0 where
-  pub size : length wants ≡ places
-  pub marks : (i : ℕ) → i < n → getD wants i 0 ≡ one (wantedIn n links doubt i)
-  pub none : (i : ℕ) → i < low → getD wants i 0 ≡ 0
-
 one-is : (b : Bool) → one b ≡ 1 → b ≡ true
 one-is true h = refl
 one-is false h = absurd (omega arith)
@@ -181,8 +153,8 @@ one-isnt true h = absurd (omega arith)
 one-isnt false h = refl
 
 pub candidates-begin : (n : ℕ) (links : ℕ → ℕ → Bool) (doubt wants : List ℕ) → length wants ≡ places →
-    ((i : ℕ) → getD wants i 0 ≡ one (wantedIn n links doubt i)) → Candidates n links doubt wants 0
-candidates-begin n links doubt wants e h = record { size = e; marks = λ i l. h i; none = λ i l. absurd (omega arith) }
+    ((i : ℕ) → i < n → getD wants i 0 ≡ one (wantedIn n links doubt i)) → Candidates n links doubt wants 0
+candidates-begin n links doubt wants e h = record { size = e; marks = h; none = λ i l. absurd (omega arith) }
 
 module _ {n : ℕ} {links : ℕ → ℕ → Bool} {doubt wants : List ℕ} {low : ℕ} (c : Candidates n links doubt wants low) where
   pub candidates-skip : low < n → (getD wants low 0 ≡ 1 → ⊥) → Candidates n links doubt wants (low + 1)
@@ -337,3 +309,36 @@ module _ {n : ℕ} {t₀ t : Table} {doubt₀ doubt wants : List ℕ} {low : ℕ
       let q = p .able .capacity in
       sym (repair-rests (p .fuel) (underRepair t doubt) (λ i b. same-wanted i (omega arith) ∙ wanted-none c i (omega arith) (omega arith)))
       ∙ p .same
+
+-- The repair of a table that is not the one at hand.
+pub record Followed (n : ℕ) (t u₀ : Table) (doubt₀ doubt wants : List ℕ) (low : ℕ) : Type 0 where
+  pub table : Table
+  pub links : (k i : ℕ) → isOne doubt k ≡ true → linked t k i ≡ linked table k i
+  pub progress : Progress n u₀ doubt₀ table doubt
+  pub candidates : Candidates n (linked table) doubt wants low
+
+pub followed-begins : {t u : Table} {n : ℕ} {doubt wants : List ℕ} → Settling t u n doubt wants → Followed n t u doubt doubt wants 0
+followed-begins {u = u} s = record { table = u; links = s .links; progress = progress-begins (s .able); candidates = s .candidates }
+
+module _ {n : ℕ} {t u₀ : Table} {doubt₀ doubt wants : List ℕ} {low : ℕ} (f : Followed n t u₀ doubt₀ doubt wants low) where
+  pub followed-skip : low < n → (getD wants low 0 ≡ 1 → ⊥) → Followed n t u₀ doubt₀ doubt wants (low + 1)
+  followed-skip l d = record { table = f .table; links = f .links; progress = f .progress; candidates = candidates-skip (f .candidates) l d }
+
+  pub followed-turn : low < n → getD wants low 0 ≡ 1 → (after : List ℕ) (mark : ℕ) →
+      Added (linked t low) (set doubt low 0) (set wants low 0) after (low + 1) mark →
+      Followed n t u₀ doubt₀ (set doubt low 0) after mark
+  followed-turn l h after mark a =
+      let here = candidate-doubtful (f .candidates) l h in
+      let v = restored (f .table) low in
+      let same : linked v ≡ linked (f .table) = restored-linked (f .progress .able) low l here in
+      let links : (k i : ℕ) → isOne doubt k ≡ true → linked t k i ≡ linked v k i =
+      λ k i m. f .links k i m ∙ sym (ap (λ (g : ℕ → ℕ → Bool). g k i) same) in
+      let read : linked t low ≡ linked v low = λ j i. links low i (is-one doubt low here) j in
+      let r = turn (f .progress) (f .candidates) l h v refl after mark
+      (subst (λ (g : ℕ → Bool). Added g (set doubt low 0) (set wants low 0) after (low + 1) mark) read a) in
+      record { table = v; links = λ k i m. links k i (unmarked-only doubt low here k m); progress = r .0; candidates = r .1 }
+
+  pub followed-done : n ≤ low → asMarks n doubt ≡ repair n (underRepair u₀ doubt₀) .doubt
+  followed-done l =
+      ap (λ (m : ℕ). asMarks m doubt) (sym (f .progress .able .capacity))
+      ∙ ap (λ (r : Repair). r .doubt) (progress-done (f .progress) (f .candidates) l)

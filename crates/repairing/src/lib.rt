@@ -1,13 +1,15 @@
-// Rules 3 and 4 of clearing on the lent table: doubtful steps are taken back; those still doubtful are freed.
+// Rules 3 and 4 of clearing on the lent table: doubtful steps are taken back; those still doubtful are freed. For a preview: which steps would stay, and
+// the list of those that would go.
 ghost use mathlib.Core.Path.{_≡_};
-ghost use Prim.Native.Nat.{ℕ, _<_, _≤_};
-ghost use lib.ListN.{length, getD};
-ghost use Rattle.finite.specs.Below.{one};
-ghost use Rattle.table.specs.Table.{exits, places, linked};
+ghost use mathlib.Core.List.{_++_};
+ghost use Prim.Native.Nat.{_+_, _<_, _≤_};
+ghost use lib.ListN.{length, set, drop};
+ghost use Rattle.finite.specs.Below.{count, those};
+ghost use Rattle.table.specs.Table.{Table, exits, places, linked};
 ghost use Rattle.table.specs.Clear.{weakened, restored, repair, unlinked, eachDoubtful, release, size};
 ghost use Rattle.table.proofs.Formed.{Formed};
 ghost use Rattle.words.specs.Words.{tableOf, Becomes};
-ghost use Rattle.repairing.specs.Repairing.{underRepair, asMarks, meant, wantedIn, Standing, Repairable, Added};
+ghost use Rattle.repairing.specs.Repairing.{underRepair, isOne, asMarks, meant, Standing, Repairable, Added, Candidates, Settling};
 use words::EXITS;
 use words::PLACES;
 use words::WORDS;
@@ -83,43 +85,63 @@ fn want_targets(
     mark
 }
 
-// The candidates: the doubtful steps with a link from a step that is not doubtful. Every link is looked at once.
-fn first_candidates(t: &[u16; WORDS], n: usize, doubt: &[u16; PLACES]) -> [u16; PLACES]
-    requires { ⌜ (n ≤ places) × Formed (tableOf (now t)) ⌝ }
-    ensures { λ r. ⌜ (length r ≡ places) × ((i : ℕ) → getD r i 0 ≡ one (wantedIn n (linked (tableOf (now (t .entry)))) (now (doubt .entry)) i)) ⌝ }
+// Step k, a candidate, is doubtful no more, and the doubtful steps that it has a link to become candidates. Gives back the low mark: the step after k,
+// or the lowest new candidate below it.
+fn keep_step(
+    t: &[u16; WORDS],
+    k: usize,
+    doubt: &mut [u16; PLACES],
+    wanted: &mut [u16; PLACES],
+) -> usize
+    requires { ⌜ (k < places) × (length (now wanted) ≡ places) × Formed (tableOf (now t)) ⌝ }
+    ensures certain { λ r. ⌜ now (doubt .exit) ≡ set (now (doubt .entry)) k 0 ⌝ }
+    ensures added { λ r. ⌜ Added (linked (tableOf (now (t .entry))) k) (now (doubt .exit)) (set (now (wanted .entry)) k 0) (now (wanted .exit)) (k + 1) r ⌝ }
 {
-    let mut wanted = [0u16; PLACES];
-    let mut k = 0;
-    // The doubtful steps with a link from a step below k that is not doubtful are candidates.
-    while k < n {
-        if doubt[k] != 1 {
-            want_targets(t, k, 0, doubt, &mut wanted);
-        }
-        k += 1;
-    }
-    wanted
+    doubt[k] = 0;
+    wanted[k] = 0;
+    want_targets(t, k, k + 1, doubt, wanted)
 }
 
-// Rule 3: while there is a candidate, the lowest is taken back, and the doubtful steps that it has a link to become candidates. `doubt` is left with
-// the steps still doubtful.
-pub fn repair_steps(t: &mut [u16; WORDS], n: usize, doubt: &mut [u16; PLACES])
-    requires { ⌜ Repairable (tableOf (now t)) n (now doubt) ⌝ }
+// Rule 3: while there is a candidate, the lowest is taken back, and the doubtful steps that it has a link to become candidates. `wanted` has the first
+// candidates. `doubt` is left with the steps still doubtful.
+pub fn repair_steps(
+    t: &mut [u16; WORDS],
+    n: usize,
+    doubt: &mut [u16; PLACES],
+    wanted: &mut [u16; PLACES],
+)
+    requires { ⌜ Repairable (tableOf (now t)) n (now doubt) × Candidates n (linked (tableOf (now t))) (now doubt) (now wanted) 0 ⌝ }
     ensures repaired { λ r. ⌜ underRepair (tableOf (now (t .exit))) (now (doubt .exit)) ≡
         repair n (underRepair (tableOf (now (t .entry))) (now (doubt .entry))) ⌝ }
     ensures able { λ r. ⌜ Repairable (tableOf (now (t .exit))) n (now (doubt .exit)) ⌝ }
     ensures size { λ r. ⌜ length (now (t .exit)) ≡ length (now (t .entry)) ⌝ }
 {
-    let mut wanted = first_candidates(t, n, doubt);
     let mut low = 0;
     // `wanted` has the candidates, and none is below `low`.
     while low < n {
         if wanted[low] == 1 {
-            doubt[low] = 0;
-            wanted[low] = 0;
             restore_step(t, low);
-            low = want_targets(t, low, low + 1, doubt, &mut wanted);
+            low = keep_step(t, low, doubt, wanted);
         } else {
             low += 1;
+        }
+    }
+}
+
+// Rule 3 on the marks alone: `doubt` is left with the steps that a repair leaves doubtful, and no link is made weak. The table repaired is one in which
+// the doubtful steps have the same links as in t: in t the exit that is to be cleared may still hold its link.
+pub fn keep_steps(t: &[u16; WORDS], n: usize, doubt: &mut [u16; PLACES], wanted: &mut [u16; PLACES])
+    requires { ⌜ Formed (tableOf (now t)) × ((u : Table) × Settling (tableOf (now t)) u n (now doubt) (now wanted)) ⌝ }
+    ensures { λ _. ⌜ ((u : Table) → Settling (tableOf (now (t .entry))) u n (now (doubt .entry)) (now (wanted .entry)) →
+        asMarks n (now (doubt .exit)) ≡ repair n (underRepair u (now (doubt .entry))) .doubt) ⌝ }
+{
+    let mut next = 0;
+    // `wanted` has the candidates, and none is below `next`.
+    while next < n {
+        if wanted[next] == 1 {
+            next = keep_step(t, next, doubt, wanted);
+        } else {
+            next += 1;
         }
     }
 }
@@ -185,4 +207,25 @@ pub fn count_marks(n: usize, doubt: &[u16; PLACES]) -> u16
         k += 1;
     }
     marks
+}
+
+// Writes the numbers of the doubtful steps below n to the start of the buffer, ascending, a byte each; the bytes behind them stay. Gives back how many
+// there are. A step is a place, so its number fits a byte.
+pub fn list_marks(n: usize, doubt: &[u16; PLACES], buffer: &mut [u8]) -> u16
+    requires { ⌜ (n ≤ places) × (count n (isOne (now doubt)) ≤ length (now buffer)) ⌝ }
+    ensures counted { λ r. ⌜ r ≡ size (asMarks n (now (doubt .entry))) n ⌝ }
+    ensures written { λ r. ⌜ now (buffer .exit) ≡
+        those n (isOne (now (doubt .entry))) ++ drop (count n (isOne (now (doubt .entry)))) (now (buffer .entry)) ⌝ }
+{
+    let mut at = 0usize;
+    let mut k = 0;
+    // The numbers of the doubtful steps below k stand in the first `at` bytes.
+    while k < n {
+        if doubt[k] == 1 {
+            buffer[at] = k as u8;
+            at += 1;
+        }
+        k += 1;
+    }
+    at as u16
 }

@@ -6,7 +6,7 @@
 --   unsound          a table that is not checked is not sound
 use mathlib.Core.Path.{_≡_, refl, sym, _∙_, ap, ap₂, subst}
 use mathlib.Core.Bool.{Bool, true, false, _&&_, not}
-use mathlib.Core.Logic.{_⊎_, ⊎-elim}
+use mathlib.Core.Logic.{_⊎_, inl, ⊎-elim}
 use mathlib.Core.List.{List}
 use Prim.Native.Nat.{ℕ, zero, suc, _+_, _*_, _-_, _/_, _%_, _≤_, _<_}
 use native.Mathlib.Omega.{arith}
@@ -30,8 +30,8 @@ use Rattle.table.proofs.Spine.{Spine, sound-spine, spine-sound}
 use Rattle.cabins.specs.Parts.{sharesFit}
 use Rattle.cabins.proofs.Laws.{shares-charges}
 use Rattle.withdraw.specs.Search.{slotAt, lands, isMarked, landing, landingKept, Ranged, Exact, Spans}
-use Rattle.withdraw.proofs.Slots.{lands-intro, landing-zero, exit-here, exit-place-step, slot-some, slot-zero, slot-below, lands-held, link-lands, landing-some, landing-linked, landing-links, shape-ranged, source-used, formed-ranged, formed-exact}
-use Rattle.withdraw.proofs.Found.{up-marked, kept-parent}
+use Rattle.withdraw.proofs.Slots.{lands-intro, landing-zero, exit-here, exit-place-step, slot-some, slot-zero, slot-below, lands-held, link-lands, own-slot-some, landing-some, landing-linked, landing-links, shape-ranged, source-used, formed-ranged, formed-exact}
+use Rattle.withdraw.proofs.Found.{up-marked, left-kept, kept-parent}
 use Rattle.soundness.specs.Parts.{numbersFit, alarmFits, fieldsAt, stepFits, exitFits, countersFit, freeAbove, arraysFit, emptyAt, faults, hasCabin, cabinSteps, quotasHold}
 use Rattle.soundness.proofs.Parts.{Alarm, alarm-fields, fields-alarm, fields-used, used-fields, fields-free, free-fields, link-fits, empty-fits, filled-fits, counts-free, used-counts, free-counts}
 use Rattle.finite.proofs.Totals.{total-same, total-ext}
@@ -265,7 +265,7 @@ module _ {t : Table} (k : Facts t) where
 
     account : (q : ℕ) → 0 < q → q < places * counters → landing (slotAt t) q ≡ counter t q + landingKept (slotAt t) marks q
     account q z l =
-        let a = s .search .account (nothing-left 0 (omega arith)) q z l in
+        let a = s .search .account (inl (nothing-left 0 (omega arith))) q z l (λ e. omega arith) in
         let n = nothing-left q l in
         omega arith
 
@@ -377,7 +377,10 @@ module _ {t : Table} (k : Facts t) where
           root = k .alarm;
           used = λ i u. u;
           low = λ i u. s .search .low i (marked i u);
-          rising = λ i j u l. up-marked t ranged _ exact _ _ (s .search) i j (used-place (k .shape) i u) l (marked j (strong-used i j l .1)) .1;
+          rising =
+              λ i j u l.
+              let low = used-place (k .shape) i u in
+              up-marked t ranged _ exact _ _ _ (s .search) i j low l (marked j (strong-used i j l .1)) (own-slot-some t i j low l) .1;
           closed = λ i j u l. strong-used i j l .1;
           parent =
               λ j u d.
@@ -464,12 +467,6 @@ module _ {t : Table} (s : Sound t) where
       }
 
   module _ (r : Bool) (w : Spans t r) where
-    left-kept : (q : ℕ) → 0 < q → q < places * counters → getD (w .left) q 0 ≡ landingKept (slotAt t) (w .marks) q
-    left-kept q z l =
-        let a = w .search .account (w .search .clean counted) q z l in
-        let e = counted q l in
-        omega arith
-
     -- a step in use that is not marked would have a parent that is not, without end
     used-marks : (n i : ℕ) → sound-spine s .rank i < n → inUse t i ≡ true → isMarked (w .marks) i ≡ true
     used-marks zero i l u = absurd (omega arith)
@@ -481,7 +478,7 @@ module _ {t : Table} (s : Sound t) where
         (λ (d : i ≡ 0 → ⊥).
         let p = sound-spine s .parent i u d in
         let some = landing-some t (p .0) i (formed-place g (p .0) (p .1)) (p .2) in
-        let v = kept-parent t in-range _ counted _ _ (w .search) i (omega arith) (formed-place g i u) m some in
+        let v = kept-parent t in-range _ counted _ _ _ (w .search) i (omega arith) (formed-place g i u) m some in
         let fu = linked-used (formed-wired g) (v .0) i (strongly-linked t (v .0) i (v .2)) .0 in
         let rise = sound-spine s .rising (v .0) i fu (v .2) in
         clash (used-marks n (v .0) (omega arith) fu) (v .1))
@@ -526,8 +523,8 @@ module _ {t : Table} (s : Sound t) where
     left-zero : (q : ℕ) → q < places * counters → getD (w .left) q 0 ≡ 0
     left-zero q l =
         ⊎-elim
-        (λ (z : q ≡ 0). rw z (w .search .clean counted))
-        (λ (d : q ≡ 0 → ⊥). left-kept q (omega arith) l ∙ nothing-kept q)
+        (λ (z : q ≡ 0). rw z (w .search .clean counted refl))
+        (λ (d : q ≡ 0 → ⊥). left-kept t in-range _ counted _ _ _ (w .search) q (omega arith) l d ∙ nothing-kept q)
         (eq-or-ne q 0)
 
     sound-spans : r ≡ true

@@ -10,23 +10,24 @@ use mathlib.Core.Logic.{⊎-elim}
 use mathlib.Core.List.{List, [], _∷_, _++_}
 use mathlib.Core.Option.{some}
 use Prim.Native.Nat.{ℕ, zero, suc, _-_, _<_}
+use native.Mathlib.Omega.{arith}
 use lib.ListN.{length, getD, set, replicate}
 use lib.Dec.{eqb}
 use borrow.Author.Tests.{eqb-false, eq-eqb, ne-eqb, leb-false}
 use Rattle.finite.proofs.Bools.{and-left, and-right, test, not-true-false, not-false-true}
-use Rattle.finite.proofs.Below.{find-ext}
+use Rattle.finite.proofs.Below.{eq-or-ne, find-ext}
 use Rattle.table.specs.declared.Answer.the-variants.{Given, Refused}
 use Rattle.table.specs.declared.Tried.the-variants.{Refused as TrialRefused}
 use Rattle.table.specs.Table.{Table, exits, cabinCount, inUse, targetOf, holds, stepsInUse}
 use Rattle.table.specs.Cabins.{atLimit, noneToSpare, charge, freeSteps}
 use Rattle.table.specs.Sound.{Sound, contentFits, sound}
-use Rattle.table.specs.Answer.{Outcome, notSound, first, unless}
+use Rattle.table.specs.Answer.{Outcome, notSound, tooShort, first, refusalOf, unless}
 use Rattle.table.specs.Calls.{numberGiven, withStep, addRefusal, addTable, weakBit, linkRefusal, linkTable, noFields, readRefusal, readCall}
 use Rattle.table.specs.Trial.{tryFrom, trialRefusal, trialCall}
-use Rattle.table.specs.Clear.{emptied, stops, repairOf, repaired, cleared, clearRefusal, clearCall}
-use Rattle.table.specs.Plan.{Plan, planOf, planNumber, replan, withTarget, planAdd, planLink, pruned, planClear, planAddRefusal, planLinkRefusal, planClearRefusal, planReadRefusal, planTrialRefusal}
+use Rattle.table.specs.Clear.{emptied, stops, repairOf, repaired, clearConditions, cleared, clearRefusal, clearCall}
+use Rattle.table.specs.Plan.{Plan, planOf, planNumber, replan, withTarget, planAdd, planLink, pruned, planClear, planAddRefusal, planLinkRefusal, planClearConditions, planClearRefusal, planClearIntoRefusal, planReadRefusal, planTrialRefusal}
 use Rattle.table.proofs.Links.{Wired, sound-wired}
-use Rattle.table.proofs.Sound.{sound-test}
+use Rattle.table.proofs.Sound.{test-sound, sound-test}
 use Rattle.table.proofs.Formed.{sound-formed, formed-wired}
 use Rattle.table.proofs.Edits.{number-given, sound-link, sound-add, formed-with-step, with-step-kept}
 use Rattle.table.proofs.Clear.{reached-in-use, Cleared, formed-emptied, cleared-stop, cleared-repair}
@@ -91,6 +92,13 @@ unfolding unless
 unless-answer {n} {m} t u o p q r =
     ⊎-elim (λ (z : eqb m 0 ≡ true). rw (q, z) r) (λ (z : eqb m 0 ≡ false). rw (q, z)) (test (eqb m 0))
 
+-- the refusal that a call answers is the one that it was found to have
+pub unless-refusal : (n : ℕ) (t : Table) (o : Outcome) → refusalOf (o .answer) ≡ 0 → refusalOf (unless n t o .answer) ≡ n
+unless-refusal n t o z =
+    ⊎-elim (λ (q : n ≡ 0). ap (λ (x : Outcome). refusalOf (x .answer)) (unless-zero n t o q) ∙ z ∙ sym q)
+    (λ d. ap (λ (x : Outcome). refusalOf (x .answer)) (unless-refused n t o d) ∙ (unfold refusalOf in refl))
+    (eq-or-ne n 0)
+
 -- a clearing that is not refused, and one that is
 pub clear-made : (t : Table) (i e : ℕ) → clearRefusal t i e ≡ 0 → clearCall t i e ≡ cleared t i e
 unfolding clearCall
@@ -99,6 +107,38 @@ clear-made t i e z = unless-zero _ t (cleared t i e) z
 pub clear-refused : (t : Table) (i e : ℕ) → (clearRefusal t i e ≡ 0 → ⊥) → clearCall t i e ≡ record { answer = Refused (clearRefusal t i e); table = t }
 unfolding clearCall
 clear-refused t i e d = unless-refused _ t (cleared t i e) d
+
+-- a clearing that is made gives its counts
+pub cleared-given : (t : Table) (i e : ℕ) → refusalOf (cleared t i e .answer) ≡ 0
+unfolding repaired refusalOf
+cleared-given t i e = ⊎-elim (λ (h : stops t i e ≡ true). rw h) (λ (h : stops t i e ≡ false). rw h) (test (stops t i e))
+
+pub clear-refusal-given : (t : Table) (i e : ℕ) → refusalOf (clearCall t i e .answer) ≡ clearRefusal t i e
+unfolding clearCall
+clear-refusal-given t i e = unless-refusal (clearRefusal t i e) t (cleared t i e) (cleared-given t i e)
+
+pub clear-sound : (t : Table) (i e : ℕ) → clearRefusal t i e ≡ 0 → Sound t
+unfolding clearRefusal nonzero
+clear-sound t i e z = test-sound t (not-false-true _ (first-zero (clearConditions t i e) z refl 0))
+
+-- A clearing that needs room in a lent buffer: 11 after its refusals.
+module _ (t : Table) (i e : ℕ) (short : Bool) where
+  pub into-order : first (clearConditions t i e ++ ((short, tooShort) ∷ [])) ≡ cond (eqb (clearRefusal t i e) 0) (cond short tooShort 0) (clearRefusal t i e)
+  unfolding clearRefusal first
+  into-order = first-append (clearConditions t i e) ((short, tooShort) ∷ []) (unfold nonzero in refl)
+
+  pub into-accepted : first (clearConditions t i e ++ ((short, tooShort) ∷ [])) ≡ 0 → (clearRefusal t i e ≡ 0) × (short ≡ false)
+  into-accepted z =
+      ⊎-elim
+      (λ (q : clearRefusal t i e ≡ 0).
+      let n : cond short tooShort 0 ≡ 0 = sym (into-order ∙ rw (eq-eqb (clearRefusal t i e) 0 q)) ∙ z in
+      (q, room short n))
+      (λ d. absurd (d (sym (into-order ∙ rw (ne-eqb (clearRefusal t i e) 0 d)) ∙ z)))
+      (eq-or-ne (clearRefusal t i e) 0)
+    where
+      room : (b : Bool) → cond b tooShort 0 ≡ 0 → b ≡ false
+      room true n = absurd (omega arith)
+      room false n = refl
 
 -- a read or a trial that is refused, and a trial that is not
 pub read-refused : (t : Table) (i : ℕ) → (readRefusal t i ≡ 0 → ⊥) → readCall t i ≡ record { refusal = readRefusal t i; fields = noFields }
@@ -158,6 +198,13 @@ module _ {t : Table} (s : Sound t) where
       ∙ first-same
       (next (ap not (sym (plan-used w i)))
       (λ _. next refl (λ l. next (ap not (sym (plan-holds w i e (leb-false exits e l)))) (λ _. done))))
+
+  pub into-refusal : (i e : ℕ) (short : Bool) → first (clearConditions t i e ++ ((short, tooShort) ∷ [])) ≡ planClearIntoRefusal (planOf t) short i e
+  unfolding planClearRefusal planClearIntoRefusal first
+  into-refusal i e short =
+      into-order t i e short
+      ∙ ap (λ (n : ℕ). cond (eqb n 0) (cond short tooShort 0) n) (clear-refusal i e)
+      ∙ sym (first-append (planClearConditions (planOf t) i e) ((short, tooShort) ∷ []) (unfold nonzero in refl))
 
   pub read-refusal : (i : ℕ) → readRefusal t i ≡ planReadRefusal (planOf t) i
   unfolding readRefusal planReadRefusal

@@ -12,7 +12,7 @@ use lib.Dec.{eqb}
 use borrow.Author.Tests.{eqb-true, ltb-true}
 use Rattle.finite.specs.Below.{count, tabulate}
 use Rattle.finite.specs.Reach.{Chain, start, then, marked, reach, reaches}
-use Rattle.finite.proofs.Bools.{and-intro, and-left, and-right, or-elim, clash, refute, test, same-test, not-true-false}
+use Rattle.finite.proofs.Bools.{and-intro, and-left, and-right, or-elim, or-false-left, clash, refute, test, same-test, not-true-false, not-false-true}
 use Rattle.finite.proofs.Below.{le-or-lt, count-ext, count-le, count-none, count-some, count-split, length-tabulate, getD-tabulate}
 use Rattle.finite.proofs.Reach.{chain-map, chain-keeps, reach-sound, reach-complete, reach-closed, reach-start, reach-below}
 use Rattle.table.specs.Table.{Table, exits, counters, inUse, kindOf, contentOf, ownBit, cabinOf, targetOf, linkBit, holds, strong, linked, stronglyLinked, countsAt, linksTo, stepsInUse, withLinks}
@@ -58,8 +58,12 @@ pub record Cleared (u : Table) (doubts freed : ℕ) (v : Table) : Type 0 where
   pub doubtfuls : doubts ≡ count (u .capacity) (λ k. inUse u k && not (reaches (stronglyLinked u) (u .capacity) 0 k))
   pub fall : stepsInUse v + freed ≡ stepsInUse u
 
--- an emptied exit changes no step
+-- an emptied exit changes no step; where rule 1 does not stop, it held a strong link
 module _ (t : Table) (i e : ℕ) where
+  pub goes-strong : stops t i e ≡ false → strong t i e ≡ true
+  unfolding stops
+  goes-strong h = not-false-true _ (or-false-left (not (strong t i e)) _ h)
+
   pub emptied-used : (k : ℕ) → inUse (emptied t i e) k ≡ inUse t k
   unfolding emptied relink withLinks inUse
   emptied-used k = refl
@@ -337,6 +341,22 @@ module _ (t : Table) (s : Sound t) (i e : ℕ) (ui : inUse t i ≡ true) (le : e
           same-test _ _
           (λ m. and-intro (sym (alike-used (repaired-ended .repairing .alike) k) ∙ repaired-ended .repairing .doubted k m) m)
           (λ y. and-right (inUse u k) _ y)
+
+  -- the steps freed are those still doubtful
+  pub freed-marked : (k : ℕ) → (inUse u k && not (inUse v k)) ≡ marked (ended .doubt) k
+  freed-marked k =
+      let r = repaired-ended .repairing in
+      let used = alike-used (r .alike) k in
+      same-test _ _
+      (λ y.
+      ⊎-elim (λ m. m)
+      (λ m.
+      let in-use : inUse v k ≡ true = freed .used k ∙ and-intro (used ∙ and-left (inUse u k) _ y) (ap not m) in
+      clash in-use (not-true-false _ (and-right (inUse u k) _ y)))
+      (test (marked (ended .doubt) k)))
+      (λ m.
+      and-intro (sym used ∙ r .doubted k m)
+      (ap not (refute (inUse v k) (λ y. clash m (kept-used k y .1)))))
 
   pub cleared-repair : Cleared u (size (doubtful u) (u .capacity)) (size (ended .doubt) (u .capacity)) v
   cleared-repair =

@@ -15,6 +15,7 @@ pub mod Renumber
 pub mod Follow
 pub mod Plan
 pub mod Calls
+pub mod Preview
 pub mod Trials
 pub mod Squeeze
 pub mod Squeezed

@@ -1,6 +1,6 @@
 -- Refusals and answers by the paper's numbers (document 01, "Reasons for no"; document 02). Assumes nothing.
 --   first tests     the number of the first condition that holds, in the order listed; 0 where none does
---   Outcome         the answer of a call, and the table handed back
+--   Outcome         the answer of a call, and the table handed back; WriteOutcome, the answer, and a lent buffer as it is left
 --   refusalOf firstOf secondOf   the paper's numbers for each case of an answer: the refusal or 0, then two numbers, zero where refused
 --   triedRefusal endingOf lastOf movesOf   the same for a trial: the refusal or 0, how it ended, the last step, the moves
 --   unless n t o    the outcome o where n is 0, else refusal n with the table t
@@ -84,6 +84,11 @@ first (x ∷ xs) = cond (x .0) (x .1) (first xs)
 pub record Outcome : Type 0 where
   pub answer : Answer
   pub table : Table
+
+-- the answer of a call that writes into a lent buffer and leaves the table, and the buffer as it is left
+pub record WriteOutcome : Type 0 where
+  pub answer : Answer
+  pub buffer : List ℕ
 
 unfoldable pub refusalOf : Answer → ℕ
 refusalOf (Refused n) = n

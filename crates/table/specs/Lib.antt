@@ -1,10 +1,11 @@
--- Document 01 as definitions: the table, sound, the calls, the plain plan; and document 02's squeeze and trial.
+-- Document 01 as definitions: the table, sound, the calls, the plain plan; and document 02's preview, squeeze and trial.
 pub mod Table
 pub mod Cabins
 pub mod Sound
 pub mod Answer
 pub mod Calls
 pub mod Clear
+pub mod Preview
 pub mod Squeeze
 pub mod Trial
 pub mod Plan

@@ -188,9 +188,10 @@ planClearConditions p i e =
 unfoldable pub planClearRefusal : Plan → ℕ → ℕ → ℕ
 planClearRefusal p i e = first (planClearConditions p i e)
 
--- W7: the plan "has no strengths to find" the length of a slip by, so it is told whether the call got 11
-unfoldable pub planClearSlipRefusal : Plan → Bool → ℕ → ℕ → ℕ
-planClearSlipRefusal p short i e = first (planClearConditions p i e ++ ((short, tooShort) ∷ []))
+-- the same and 11 last, where the lent buffer is short: W7's, of which the plan is told, since it "has no strengths to find" the length of a slip by, and
+-- W8's, which the buffer's length alone decides
+unfoldable pub planClearIntoRefusal : Plan → Bool → ℕ → ℕ → ℕ
+planClearIntoRefusal p short i e = first (planClearConditions p i e ++ ((short, tooShort) ∷ []))
 
 unfoldable pub planReadRefusal : Plan → ℕ → ℕ
 planReadRefusal p i = first ((not (planInUse p i), notInUse) ∷ [])

@@ -8,6 +8,7 @@ ghost use Rattle.table.specs.Sound.{sound};
 ghost use Rattle.table.specs.Answer.{endingNumber, movesOf};
 ghost use Rattle.table.specs.Calls.{freshCall, addCall, linkCall, readCall};
 ghost use Rattle.table.specs.Clear.{clearCall};
+ghost use Rattle.table.specs.Preview.{previewCall};
 ghost use Rattle.table.specs.Squeeze.{squeezeCall};
 ghost use Rattle.table.specs.Trial.{trialCall};
 ghost use Rattle.words.specs.Words.{tableOf, wordsOf};
@@ -239,6 +240,21 @@ pub extern "C" fn plan_take_back(t: &mut [u16; WORDS], bytes: &[u8]) -> Reply
     ensures table { λ r. ⌜ now (t .exit) ≡ wordsOf (takeBackCall (tableOf (now (t .entry))) (now (bytes .entry)) .table) ⌝ }
 {
     reply_of(slips::take_back(t, bytes))
+}
+
+// Preview a clearing: the numbers of the steps that it would free, a byte each. First is the steps that it would make doubtful, second those that it would
+// free. Refusals: 1, 3, 4, 6, 11.
+#[no_mangle]
+pub extern "C" fn plan_preview_clear(
+    t: &[u16; WORDS],
+    step: u16,
+    exit: u16,
+    buffer: &mut [u8],
+) -> Reply
+    ensures answer { λ r. ⌜ r ≡ replyOf (previewCall (tableOf (now (t .entry))) step exit (now (buffer .entry)) .answer) ⌝ }
+    ensures written { λ r. ⌜ now (buffer .exit) ≡ previewCall (tableOf (now (t .entry))) step exit (now (buffer .entry)) .buffer ⌝ }
+{
+    reply_of(clearing::preview_clear(t, step, exit, buffer))
 }
 
 // Squeeze: the steps in use get the lowest numbers, in their old order, and the table the capacity and the quotas given. Refusals: 1, 2, 16, 13.

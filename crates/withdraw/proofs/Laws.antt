@@ -22,7 +22,7 @@ use Rattle.finite.proofs.Select.{count-grows}
 use Rattle.finite.proofs.Loops.{count-zero, count-add}
 use Rattle.table.specs.Table.{Table, places, exits, counters, exitPlace, counterPlace, ownBit}
 use Rattle.table.proofs.Relink.{counter-place-below}
-use Rattle.withdraw.specs.Search.{slotAt, ownSlot, lands, isMarked, landing, landingKept, at, rest, Ranged, Exact, Search, Pending, Withdrawn, unmarked}
+use Rattle.withdraw.specs.Search.{slotAt, ownSlot, lands, isMarked, landing, landingKept, at, rest, Ranged, Exact, Accounted, Search, Pending, Withdrawn, unmarked}
 use Rattle.withdraw.proofs.Slots.{lands-target, lands-intro, landing-zero, slot-empty, slot-link, own-slot-above, own-slot-place}
 
 -- the places of one step's exits
@@ -60,25 +60,27 @@ count-block (suc n) k q l =
     placed e f = unfold exitPlace in (omega arith)
 
 -- Marking a step k that has no strong link left: its own exits become pending.
-pub record AtZero (t : Table) (counts left marks : List ℕ) (pending : ℕ → ℕ) (k : ℕ) : Type 0 where
+pub record AtZero (t : Table) (counts : List ℕ) (spared : ℕ) (left marks : List ℕ) (pending : ℕ → ℕ) (k : ℕ) : Type 0 where
   pub left-size : length left ≡ places * counters
   pub marks-size : length marks ≡ places
   pub binary : (j : ℕ) → getD marks j 0 < 2
-  pub account : getD left 0 0 ≡ 0 → (q : ℕ) → 0 < q → q < places * counters →
+  pub account : Accounted t counts left → (q : ℕ) → 0 < q → q < places * counters → (q ≡ spared → ⊥) →
       getD left q 0 + landing (slotAt t) q ≡ getD counts q 0 + landingKept (slotAt t) marks q + pending q
+  pub dry : 0 < spared → getD left spared 0 ≡ 0
   pub quiet : (j : ℕ) → 0 < j → isMarked marks j ≡ true → getD left (ownSlot t j) 0 ≡ 0
   pub busy : (j : ℕ) → 0 < j → j < places → (j ≡ k → ⊥) → isMarked marks j ≡ false → 0 < getD counts (ownSlot t j) 0 → 0 < getD left (ownSlot t j) 0
-  pub clean : Exact t counts → getD left 0 0 ≡ 0
+  pub clean : Exact t counts → spared ≡ 0 → getD left 0 0 ≡ 0
   pub rank : ℕ → ℕ
   pub top : ℕ
   pub below : (j : ℕ) → isMarked marks j ≡ true → rank j < top
   pub rising : Exact t counts → (p j : ℕ) → p < places * exits → lands (slotAt t) p (ownSlot t j) ≡ true → isMarked marks j ≡ true →
-      (isMarked marks (p / exits) ≡ true) × (rank (p / exits) < rank j)
+      (ownSlot t j ≡ spared → ⊥) → (isMarked marks (p / exits) ≡ true) × (rank (p / exits) < rank j)
   pub low : k < places
   pub fresh : isMarked marks k ≡ false
   pub zero : 0 < k → getD left (ownSlot t k) 0 ≡ 0
   -- all strong links to it are of marked steps
-  pub sources : Exact t counts → (p : ℕ) → p < places * exits → lands (slotAt t) p (ownSlot t k) ≡ true → isMarked marks (p / exits) ≡ true
+  pub sources : Exact t counts → (ownSlot t k ≡ spared → ⊥) → (p : ℕ) → p < places * exits → lands (slotAt t) p (ownSlot t k) ≡ true →
+      isMarked marks (p / exits) ≡ true
 
 module _ (h : ℕ → ℕ) where
   lands-other : (p q : ℕ) → (h p ≡ q → ⊥) → lands h p q ≡ false
@@ -111,13 +113,15 @@ module _ (h : ℕ → ℕ) where
       omega arith
 
 module _ (t : Table) where
-  pub search-ext : {counts left marks : List ℕ} {a b : ℕ → ℕ} → ((q : ℕ) → a q ≡ b q) → Search t counts left marks a → Search t counts left marks b
-  search-ext {counts} {left} {marks} f s =
+  pub search-ext : {counts : List ℕ} {spared : ℕ} {left marks : List ℕ} {a b : ℕ → ℕ} → ((q : ℕ) → a q ≡ b q) →
+      Search t counts spared left marks a → Search t counts spared left marks b
+  search-ext {counts} {spared} {left} {marks} f s =
       record {
         left-size = s .left-size;
         marks-size = s .marks-size;
         binary = s .binary;
-        account = λ z q d l. s .account z q d l ∙ ap (λ (x : ℕ). getD counts q 0 + landingKept (slotAt t) marks q + x) (f q);
+        account = λ z q d l c. s .account z q d l c ∙ ap (λ (x : ℕ). getD counts q 0 + landingKept (slotAt t) marks q + x) (f q);
+        dry = s .dry;
         quiet = s .quiet;
         busy = s .busy;
         clean = s .clean;
@@ -127,23 +131,24 @@ module _ (t : Table) where
         rising = s .rising;
       }
 
-  pub search-skip : (counts left marks : List ℕ) (p : ℕ) → slotAt t p ≡ 0 → (pending : ℕ → ℕ) →
-      Search t counts left marks (λ q. pending q + at (slotAt t) p q) → Search t counts left marks pending
-  search-skip counts left marks p z pending = search-ext (λ q. let a = at-none (slotAt t) p q z in omega arith)
+  pub search-skip : (counts : List ℕ) (spared : ℕ) (left marks : List ℕ) (p : ℕ) → slotAt t p ≡ 0 → (pending : ℕ → ℕ) →
+      Search t counts spared left marks (λ q. pending q + at (slotAt t) p q) → Search t counts spared left marks pending
+  search-skip counts spared left marks p z pending = search-ext (λ q. let a = at-none (slotAt t) p q z in omega arith)
 
   -- One link, which counts in the counter at place k.
-  module _ (counts left marks : List ℕ) (p k : ℕ) (here : slotAt t p ≡ k) (high : counters ≤ k) (low : k < places * counters) (pending : ℕ → ℕ)
-      (s : Search t counts left marks (λ q. pending q + at (slotAt t) p q)) where
-    account-here : getD left 0 0 ≡ 0 → getD left k 0 + landing (slotAt t) k ≡ getD counts k 0 + landingKept (slotAt t) marks k + pending k + 1
-    account-here z = let a = at-same (slotAt t) p k here (omega arith) in let e = s .account z k (omega arith) low in omega arith
+  module _ (counts : List ℕ) (spared : ℕ) (left marks : List ℕ) (p k : ℕ) (here : slotAt t p ≡ k) (high : counters ≤ k)
+      (low : k < places * counters) (pending : ℕ → ℕ) (s : Search t counts spared left marks (λ q. pending q + at (slotAt t) p q)) where
+    account-here : Accounted t counts left → (k ≡ spared → ⊥) →
+        getD left k 0 + landing (slotAt t) k ≡ getD counts k 0 + landingKept (slotAt t) marks k + pending k + 1
+    account-here z c = let a = at-same (slotAt t) p k here (omega arith) in let e = s .account z k (omega arith) low c in omega arith
 
-    account-there : getD left 0 0 ≡ 0 → (q : ℕ) → 0 < q → q < places * counters → (q ≡ k → ⊥) →
+    account-there : Accounted t counts left → (q : ℕ) → 0 < q → q < places * counters → (q ≡ spared → ⊥) → (q ≡ k → ⊥) →
         getD left q 0 + landing (slotAt t) q ≡ getD counts q 0 + landingKept (slotAt t) marks q + pending q
-    account-there z q d l c = s .account z q d l ∙ (let a = at-other (slotAt t) p k q here c in omega arith)
+    account-there z q d l c n = s .account z q d l c ∙ (let a = at-other (slotAt t) p k q here n in omega arith)
 
-    -- with exact counters this one is not 0
-    pub left-some : Exact t counts → 0 < getD left k 0
-    left-some x = let e = account-here (s .clean x) in let y = x k low in omega arith
+    -- with exact counters this one is not 0, unless it is spared
+    left-some : Exact t counts → (k ≡ spared → ⊥) → 0 < getD left k 0
+    left-some x c = let e = account-here (inr x) c in let y = x k low in omega arith
 
     set-here : (x : ℕ) → getD (set left k x) k 0 ≡ x
     set-here x = getD-set-same left k x 0 (rw (s .left-size) low)
@@ -158,19 +163,28 @@ module _ (t : Table) where
     over-there q c = getD-set-other left 0 q 1 0 c
 
     -- a link too many: counter 0 tells it
-    pub search-over : getD left k 0 ≡ 0 → Search t counts (set left 0 1) marks pending
+    pub search-over : getD left k 0 ≡ 0 → Search t counts spared (set left 0 1) marks pending
     search-over z =
         record {
           left-size = length-set left 0 1 ∙ s .left-size;
           marks-size = s .marks-size;
           binary = s .binary;
           account =
-              λ e.
+              λ a q d l c.
+              ⊎-elim
+              (λ (e : getD (set left 0 1) 0 0 ≡ 0).
               let o : getD (set left 0 1) 0 0 ≡ 1 = getD-set-same left 0 1 0 (rw (s .left-size) (omega arith)) in
-              absurd (omega arith);
+              absurd (omega arith))
+              (λ x.
+              let n : q ≡ k → ⊥ = λ (e : q ≡ k). let some = left-some x (λ y. c (e ∙ y)) in omega arith in
+              let o = over-there q (λ (e : q ≡ 0). omega arith) in
+              let b = account-there (inr x) q d l c n in
+              omega arith)
+              a;
+          dry = λ d. over-there spared (λ e. omega arith) ∙ s .dry d;
           quiet = λ j d m. over-there (ownSlot t j) (λ e. let a = own-slot-above t j d in omega arith) ∙ s .quiet j d m;
           busy = λ j d l m b. rw (over-there (ownSlot t j) (λ e. let a = own-slot-above t j d in omega arith)) (s .busy j d l m b);
-          clean = λ x. let n = left-some x in absurd (omega arith);
+          clean = λ x o. let n = left-some x (λ e. omega arith) in absurd (omega arith);
           rank = s .rank;
           top = s .top;
           low = s .low;
@@ -179,13 +193,23 @@ module _ (t : Table) where
 
     -- the counter falls to n
     module _ (n : ℕ) (e : n + 1 ≡ getD left k 0) where
-      lower-account : getD (set left k n) 0 0 ≡ 0 → (q : ℕ) → 0 < q → q < places * counters →
+      -- it is not the spared one, which is 0
+      unspared : k ≡ spared → ⊥
+      unspared c = let a : getD left k 0 ≡ 0 = ap (λ (x : ℕ). getD left x 0) c ∙ s .dry (omega arith) in omega arith
+
+      accounted-before : Accounted t counts (set left k n) → Accounted t counts left
+      accounted-before = ⊎-elim (λ z. inl (sym (set-first n) ∙ z)) (λ x. inr x)
+
+      lower-account : Accounted t counts (set left k n) → (q : ℕ) → 0 < q → q < places * counters → (q ≡ spared → ⊥) →
           getD (set left k n) q 0 + landing (slotAt t) q ≡ getD counts q 0 + landingKept (slotAt t) marks q + pending q
-      lower-account z q d l =
+      lower-account z q d l f =
           ⊎-elim
-          (λ (c : q ≡ k). rw c (let a = account-here (sym (set-first n) ∙ z) in let b = set-here n in omega arith))
-          (λ (c : q ≡ k → ⊥). let a = account-there (sym (set-first n) ∙ z) q d l c in let b = set-there n q c in omega arith)
+          (λ (c : q ≡ k). rw c (let a = account-here (accounted-before z) unspared in let b = set-here n in omega arith))
+          (λ (c : q ≡ k → ⊥). let a = account-there (accounted-before z) q d l f c in let b = set-there n q c in omega arith)
           (eq-or-ne q k)
+
+      lower-dry : 0 < spared → getD (set left k n) spared 0 ≡ 0
+      lower-dry d = set-there n spared (λ c. unspared (sym c)) ∙ s .dry d
 
       -- it is not that of a marked step's own bit
       lower-unmarked : (j : ℕ) → 0 < j → isMarked marks j ≡ true → ownSlot t j ≡ k → ⊥
@@ -194,17 +218,18 @@ module _ (t : Table) where
       lower-quiet : (j : ℕ) → 0 < j → isMarked marks j ≡ true → getD (set left k n) (ownSlot t j) 0 ≡ 0
       lower-quiet j d m = set-there n (ownSlot t j) (lower-unmarked j d m) ∙ s .quiet j d m
 
-      lower-clean : Exact t counts → getD (set left k n) 0 0 ≡ 0
-      lower-clean x = set-first n ∙ s .clean x
+      lower-clean : Exact t counts → spared ≡ 0 → getD (set left k n) 0 0 ≡ 0
+      lower-clean x o = set-first n ∙ s .clean x o
 
       -- a step that loses its last strong link is not passed over
-      pub search-lower : ((j : ℕ) → n ≡ 0 → ownSlot t j ≡ k → ⊥) → Search t counts (set left k n) marks pending
+      pub search-lower : ((j : ℕ) → n ≡ 0 → ownSlot t j ≡ k → ⊥) → Search t counts spared (set left k n) marks pending
       search-lower more =
           record {
             left-size = length-set left k n ∙ s .left-size;
             marks-size = s .marks-size;
             binary = s .binary;
             account = lower-account;
+            dry = lower-dry;
             quiet = lower-quiet;
             busy =
                 λ j d l m b.
@@ -221,7 +246,7 @@ module _ (t : Table) where
 
       -- the last strong link of step j: it has none left, and no other step is touched
       pub last-zero : n ≡ 0 → (j : ℕ) → 0 < j → j < places → ownSlot t j ≡ k → ((i : ℕ) → ownSlot t i ≡ k → i ≡ j) →
-          AtZero t counts (set left k n) marks pending j
+          AtZero t counts spared (set left k n) marks pending j
       unfolding landingKept
       last-zero z j d l q only =
           record {
@@ -229,6 +254,7 @@ module _ (t : Table) where
             marks-size = s .marks-size;
             binary = s .binary;
             account = lower-account;
+            dry = lower-dry;
             quiet = lower-quiet;
             busy = λ i di li c m b. rw (set-there n (ownSlot t i) (λ y. c (only i y))) (s .busy i di li m b);
             clean = lower-clean;
@@ -240,20 +266,21 @@ module _ (t : Table) where
             fresh = refute _ (λ m. lower-unmarked j d m q);
             zero = λ o. rw q (set-here n ∙ z);
             sources =
-                λ x r lr y.
+                λ x f r lr y.
                 ⊎-elim (λ m. m)
                 (λ m.
                 let yk : lands (slotAt t) r k ≡ true = rw q at y in
                 let c : 0 < landingKept (slotAt t) marks k =
                 count-pos (places * exits) (λ i. lands (slotAt t) i k && not (isMarked marks (i / exits))) r lr (and-intro yk (ap not m)) in
-                let a = account-here (s .clean x) in
+                let a = account-here (inr x) unspared in
                 let b = x k low in
                 absurd (omega arith))
                 (test (isMarked marks (r / exits)));
           }
 
 -- Marking it.
-module _ {t : Table} {counts left marks : List ℕ} {pending : ℕ → ℕ} {k : ℕ} (s : AtZero t counts left marks pending k) where
+module _ {t : Table} {counts : List ℕ} {spared : ℕ} {left marks : List ℕ} {pending : ℕ → ℕ} {k : ℕ}
+    (s : AtZero t counts spared left marks pending k) where
   abbrev h : ℕ → ℕ
   h = slotAt t
 
@@ -324,7 +351,7 @@ module _ {t : Table} {counts left marks : List ℕ} {pending : ℕ → ℕ} {k :
   unfolding raised
   raised-there j m = let e : eqb j k ≡ false = refute (eqb j k) (λ q. clash m (rw (eqb-true j k q) (s .fresh))) in rw (e, raised)
 
-  pub search-mark : Search t counts left (set marks k 1) (λ q. pending q + rest h k 0 q)
+  pub search-mark : Search t counts spared left (set marks k 1) (λ q. pending q + rest h k 0 q)
   search-mark =
       record {
         left-size = s .left-size;
@@ -335,7 +362,8 @@ module _ {t : Table} {counts left marks : List ℕ} {pending : ℕ → ℕ} {k :
             (λ (q : j ≡ k). rw (q, getD-set-same marks k 1 0 mark-place) (omega arith))
             (λ c. rw (getD-set-other marks k j 1 0 c) (s .binary j))
             (eq-or-ne j k);
-        account = λ z q d l. s .account z q d l ∙ (let f = kept-falls q in omega arith);
+        account = λ z q d l c. s .account z q d l c ∙ (let f = kept-falls q in omega arith);
+        dry = s .dry;
         quiet = λ j d m. ⊎-elim (λ (q : j ≡ k). rw q (s .zero (rw q at d))) (λ o. s .quiet j d o) (marked-next j m);
         busy =
             λ j d l m b.
@@ -350,13 +378,13 @@ module _ {t : Table} {counts left marks : List ℕ} {pending : ℕ → ℕ} {k :
             (λ o. rw (raised-there j o) (let l = s .below j o in omega arith))
             (marked-next j m);
         rising =
-            λ x q j l t m.
+            λ x q j l t m c.
             ⊎-elim
             (λ (e : j ≡ k).
-            let o = s .sources x q l (rw e at t) in
+            let o = s .sources x (rw e at c) q l (rw e at t) in
             (mark-grows (q / exits) o, rw (e, raised-here, raised-there (q / exits) o) (s .below (q / exits) o)))
             (λ o.
-            let r = s .rising x q j l t o in
+            let r = s .rising x q j l t o c in
             (mark-grows (q / exits) (r .0), rw (raised-there (q / exits) (r .0), raised-there j o) (r .1)))
             (marked-next j m);
       }
@@ -384,7 +412,7 @@ module _ (t : Table) (r : Ranged t) (p j : ℕ) (ej : j ≡ getD (t .targets) p 
   pub withdrawn-skip : (left marks : List ℕ) → j ≡ 0 → Withdrawn t left marks left marks (at (slotAt t) p)
   withdrawn-skip left marks z =
       record {
-        after = λ counts pending s. search-skip t counts left marks p (slot-empty t p (sym ej ∙ z)) pending s;
+        after = λ counts spared pending s. search-skip t counts spared left marks p (slot-empty t p (sym ej ∙ z)) pending s;
         grown = λ i m. m;
         new = λ i m. inl m;
       }
@@ -414,7 +442,7 @@ module _ (t : Table) (r : Ranged t) (p j : ℕ) (ej : j ≡ getD (t .targets) p 
       pub withdrawn-over : getD left k 0 ≡ 0 → Withdrawn t left marks (set left 0 1) marks (at (slotAt t) p)
       withdrawn-over z =
           record {
-            after = λ counts pending s. search-over t counts left marks p k here high counter-below pending s z;
+            after = λ counts spared pending s. search-over t counts spared left marks p k here high counter-below pending s z;
             grown = λ i m. m;
             new = λ i m. inl m;
           }
@@ -424,8 +452,8 @@ module _ (t : Table) (r : Ranged t) (p j : ℕ) (ej : j ≡ getD (t .targets) p 
       withdrawn-lower some more =
           record {
             after =
-                λ counts pending s.
-                search-lower t counts left marks p k here high counter-below pending s (getD left k 0 - 1) (omega arith)
+                λ counts spared pending s.
+                search-lower t counts spared left marks p k here high counter-below pending s (getD left k 0 - 1) (omega arith)
                 (λ i z e. let o = own-here i e in more (omega arith) (sym (o .1) ∙ ap (ownBit t) (o .0)));
             grown = λ i m. m;
             new = λ i m. inl m;
@@ -433,30 +461,34 @@ module _ (t : Table) (r : Ranged t) (p j : ℕ) (ej : j ≡ getD (t .targets) p 
 
       -- the last strong link of j
       module _ (last : getD left k 0 ≡ 1) (own : b ≡ ownBit t j) where
-        at-zero : (counts : List ℕ) (pending : ℕ → ℕ) → Search t counts left marks (λ q. pending q + at (slotAt t) p q) →
-            AtZero t counts (set left k (getD left k 0 - 1)) marks pending j
+        at-zero : (counts : List ℕ) (spared : ℕ) (pending : ℕ → ℕ) → Search t counts spared left marks (λ q. pending q + at (slotAt t) p q) →
+            AtZero t counts spared (set left k (getD left k 0 - 1)) marks pending j
         unfolding ownSlot
-        at-zero counts pending s =
-            last-zero t counts left marks p k here high counter-below pending s (getD left k 0 - 1) (omega arith)
+        at-zero counts spared pending s =
+            last-zero t counts spared left marks p k here high counter-below pending s (getD left k 0 - 1) (omega arith)
             (omega arith) j (omega arith) target-below
             (ap (counterPlace j) (sym own))
             (λ i e. own-here i e .0)
 
+        at-zero-some : (some : (counts : List ℕ) × Pending t counts left marks (at (slotAt t) p)) →
+            AtZero t (some .0) (some .1 .0) (set left k (getD left k 0 - 1)) marks (some .1 .1) j
+        at-zero-some some = at-zero (some .0) (some .1 .0) (some .1 .1) (some .1 .2)
+
         pub marked-pending : ((counts : List ℕ) × Pending t counts left marks (at (slotAt t) p)) →
             ((counts : List ℕ) × Pending t counts (set left k (getD left k 0 - 1)) (set marks j 1) (rest (slotAt t) j 0))
-        marked-pending some = (some .0, (some .1 .0, search-mark (at-zero (some .0) (some .1 .0) (some .1 .1))))
+        marked-pending some = (some .0, (some .1 .0, some .1 .1, search-mark (at-zero-some some)))
 
         pub marked-falls : ((counts : List ℕ) × Pending t counts left marks (at (slotAt t) p)) → unmarked (set marks j 1) + 1 ≡ unmarked marks
-        marked-falls some = unmarked-falls (at-zero (some .0) (some .1 .0) (some .1 .1))
+        marked-falls some = unmarked-falls (at-zero-some some)
 
         pub withdrawn-mark : p < places * exits → ((counts : List ℕ) × Pending t counts left marks (at (slotAt t) p)) → (left′ marks′ : List ℕ) →
             Withdrawn t (set left k (getD left k 0 - 1)) (set marks j 1) left′ marks′ (rest (slotAt t) j 0) →
             Withdrawn t left marks left′ marks′ (at (slotAt t) p)
         unfolding landing ownSlot
         withdrawn-mark lp some left′ marks′ w =
-            let a = at-zero (some .0) (some .1 .0) (some .1 .1) in
+            let a = at-zero-some some in
             record {
-              after = λ counts pending s. w .after counts pending (search-mark (at-zero counts pending s));
+              after = λ counts spared pending s. w .after counts spared pending (search-mark (at-zero counts spared pending s));
               grown = λ i m. w .grown i (mark-grows a i m);
               new =
                   λ i m.
@@ -475,29 +507,30 @@ module _ (t : Table) (r : Ranged t) (p j : ℕ) (ej : j ≡ getD (t .targets) p 
 
 -- Withdrawing a step, after its first e exits
 pub record Upto (t : Table) (i : ℕ) (left₀ marks₀ : List ℕ) (e : ℕ) (left marks : List ℕ) : Type 0 where
-  pub after : (counts : List ℕ) (pending : ℕ → ℕ) → Search t counts left₀ marks₀ (λ q. pending q + rest (slotAt t) i 0 q) →
-      Search t counts left marks (λ q. pending q + rest (slotAt t) i e q)
+  pub after : (counts : List ℕ) (spared : ℕ) (pending : ℕ → ℕ) → Search t counts spared left₀ marks₀ (λ q. pending q + rest (slotAt t) i 0 q) →
+      Search t counts spared left marks (λ q. pending q + rest (slotAt t) i e q)
   pub grown : (j : ℕ) → isMarked marks₀ j ≡ true → isMarked marks j ≡ true
   pub new : (j : ℕ) → isMarked marks j ≡ true → (isMarked marks₀ j ≡ true) ⊎ ((0 < j) × (0 < landing (slotAt t) (ownSlot t j)))
 
 pub upto-start : (t : Table) (i : ℕ) (left marks : List ℕ) → Upto t i left marks 0 left marks
-upto-start t i left marks = record { after = λ counts pending s. s; grown = λ j m. m; new = λ j m. inl m }
+upto-start t i left marks = record { after = λ counts spared pending s. s; grown = λ j m. m; new = λ j m. inl m }
 
 module _ (t : Table) (i : ℕ) (left₀ marks₀ : List ℕ) (e : ℕ) (left marks : List ℕ) (u : Upto t i left₀ marks₀ e left marks) where
   -- the exit that is next is pending, beside those after it
-  next : e < exits → (counts : List ℕ) (pending : ℕ → ℕ) → Search t counts left₀ marks₀ (λ q. pending q + rest (slotAt t) i 0 q) →
-      Search t counts left marks (λ q. (pending q + rest (slotAt t) i (suc e) q) + at (slotAt t) (exitPlace i e) q)
-  next l counts pending s = search-ext t (λ q. let r = rest-step (slotAt t) i e q l in omega arith) (u .after counts pending s)
+  next : e < exits → (counts : List ℕ) (spared : ℕ) (pending : ℕ → ℕ) →
+      Search t counts spared left₀ marks₀ (λ q. pending q + rest (slotAt t) i 0 q) →
+      Search t counts spared left marks (λ q. (pending q + rest (slotAt t) i (suc e) q) + at (slotAt t) (exitPlace i e) q)
+  next l counts spared pending s = search-ext t (λ q. let r = rest-step (slotAt t) i e q l in omega arith) (u .after counts spared pending s)
 
   pub upto-pending : e < exits → ((counts : List ℕ) × Pending t counts left₀ marks₀ (rest (slotAt t) i 0)) →
       ((counts : List ℕ) × Pending t counts left marks (at (slotAt t) (exitPlace i e)))
-  upto-pending l some = (some .0, (_, next l (some .0) (some .1 .0) (some .1 .1)))
+  upto-pending l some = (some .0, (some .1 .0, _, next l (some .0) (some .1 .0) (some .1 .1) (some .1 .2)))
 
   pub upto-more : (left′ marks′ : List ℕ) → e < exits → Withdrawn t left marks left′ marks′ (at (slotAt t) (exitPlace i e)) →
       Upto t i left₀ marks₀ (suc e) left′ marks′
   upto-more left′ marks′ l w =
       record {
-        after = λ counts pending s. w .after counts (λ q. pending q + rest (slotAt t) i (suc e) q) (next l counts pending s);
+        after = λ counts spared pending s. w .after counts spared (λ q. pending q + rest (slotAt t) i (suc e) q) (next l counts spared pending s);
         grown = λ j m. w .grown j (u .grown j m);
         new = λ j m. ⊎-elim (λ o. u .new j o) (λ v. inr v) (w .new j m);
       }
@@ -506,31 +539,34 @@ module _ (t : Table) (i : ℕ) (left₀ marks₀ : List ℕ) (e : ℕ) (left mar
   upto-done z =
       record {
         after =
-            λ counts pending s.
+            λ counts spared pending s.
             search-ext t
             (λ q.
             let n = rest-none (slotAt t) i q in
             let r : rest (slotAt t) i e q ≡ rest (slotAt t) i exits q = ap (λ (x : ℕ). rest (slotAt t) i x q) z in
             omega arith)
-            (u .after counts pending s);
+            (u .after counts spared pending s);
         grown = u .grown;
         new = u .new;
       }
 
--- A search begins with all counters and no mark, and marks a step that has no strong link.
-pub search-begin : (t : Table) (counts marks : List ℕ) (k : ℕ) → length counts ≡ places * counters → length marks ≡ places →
-    ((j : ℕ) → getD marks j 0 ≡ 0) → k < places → (0 < k → getD counts (ownSlot t k) 0 ≡ 0) →
-    (Exact t counts → (p : ℕ) → p < places * exits → lands (slotAt t) p (ownSlot t k) ≡ true → ⊥) →
-    AtZero t counts counts marks (λ q. 0) k
-search-begin t counts marks k ll lm none low z alone =
+-- A search begins with all counters, but for the spared one, and no mark, and marks a step that has no strong link left.
+pub search-begin : (t : Table) (counts : List ℕ) (spared : ℕ) (left marks : List ℕ) (k : ℕ) → length left ≡ places * counters →
+    length marks ≡ places → ((j : ℕ) → getD marks j 0 ≡ 0) → k < places →
+    ((q : ℕ) → (0 < spared → q ≡ spared → ⊥) → getD left q 0 ≡ getD counts q 0) → (0 < spared → getD left spared 0 ≡ 0) →
+    ((j : ℕ) → (j ≡ k → ⊥) → 0 < spared → ownSlot t j ≡ spared → ⊥) → (0 < k → getD left (ownSlot t k) 0 ≡ 0) →
+    (Exact t counts → (ownSlot t k ≡ spared → ⊥) → (p : ℕ) → p < places * exits → lands (slotAt t) p (ownSlot t k) ≡ true → ⊥) →
+    AtZero t counts spared left marks (λ q. 0) k
+search-begin t counts spared left marks k ll lm none low same dry only z alone =
     record {
       left-size = ll;
       marks-size = lm;
       binary = λ j. rw (none j) (omega arith);
-      account = λ e q d l. let a = kept-all q in omega arith;
+      account = λ e q d l c. let a = kept-all q in let b = same q (λ o. c) in omega arith;
+      dry = dry;
       quiet = λ j d m. clash m (unmarked-at j);
-      busy = λ j d l c m b. b;
-      clean = λ x. x 0 (omega arith) ∙ landing-zero (slotAt t);
+      busy = λ j d l c m b. rw (same (ownSlot t j) (only j c)) b;
+      clean = λ x o. same 0 (λ d e. omega arith) ∙ x 0 (omega arith) ∙ landing-zero (slotAt t);
       rank = λ j. 0;
       top = 0;
       below = λ j m. clash m (unmarked-at j);
@@ -538,7 +574,7 @@ search-begin t counts marks k ll lm none low z alone =
       low = low;
       fresh = unmarked-at k;
       zero = z;
-      sources = λ x p l y. absurd (alone x p l y);
+      sources = λ x c p l y. absurd (alone x c p l y);
     }
   where
     unmarked-at : (j : ℕ) → isMarked marks j ≡ false

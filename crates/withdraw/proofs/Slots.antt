@@ -106,6 +106,10 @@ module _ (t : Table) where
   unfolding ownSlot counterPlace
   own-slot-above j l = omega arith
 
+  -- a step with a strong link is not 0
+  pub own-slot-some : (i j : ℕ) → i < places → stronglyLinked t i j ≡ true → ownSlot t j ≡ 0 → ⊥
+  own-slot-some i j l h = let a = strong-lands i j l h in lands-target (slotAt t) (a .0) (ownSlot t j) (a .3) .1
+
   module _ (r : Ranged t) where
     pub slot-below : (p : ℕ) → slotAt t p < places * counters
     slot-below p =

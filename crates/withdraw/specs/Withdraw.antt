@@ -1,14 +1,20 @@
--- What the search asks when it serves a clearing (document 01, "Clearing an exit", rule 2). Assumes nothing.
---   Emptied u start     the last strong link to step `start` has just been emptied
+-- What the search asks when it serves a clearing, and what it finds (document 01, "Clearing an exit", rules 2 and 3). Assumes nothing.
+--   Losing t i e      exit e of step i holds the last strong link to its target
+--   candidate u k     a first candidate of rule 3: step k of u is doubtful, with a link from a step that is not
 use mathlib.Core.Path.{_≡_}
-use mathlib.Core.Bool.{true, false}
-use Prim.Native.Nat.{ℕ, _<_}
-use Rattle.table.specs.Table.{Table, exits, inUse, targetOf, holds}
+use mathlib.Core.Bool.{Bool, false}
+use Prim.Native.Nat.{ℕ}
+use Rattle.table.specs.Table.{Table}
 use Rattle.table.specs.Sound.{Sound}
-use Rattle.table.specs.Clear.{emptied, stops}
+use Rattle.table.specs.Clear.{stops, doubtful, wanted}
+use Rattle.table.proofs.Calls.{ClearFits}
 
--- u is a sound table in which the last strong link to step `start` has just been emptied
-abbrev pub Emptied : Table → ℕ → Type 0
-Emptied u start =
-    (t : Table) × (i : ℕ) × (e : ℕ) × Sound t × (inUse t i ≡ true) × (e < exits) × (holds t i e ≡ true) × (u ≡ emptied t i e) ×
-    (stops t i e ≡ false) × (start ≡ targetOf t i e)
+-- the clearing of exit e of step i in the sound table t does not stop with rule 1: the exit holds the last strong link to its target
+pub record Losing (t : Table) (i e : ℕ) : Type 0 where
+  pub sound : Sound t
+  pub fits : ClearFits t i e
+  pub goes : stops t i e ≡ false
+
+-- what rule 3 wants first, of the table u with the exit emptied: all its doubtful steps are still doubtful
+abbrev pub candidate : Table → ℕ → Bool
+candidate u k = wanted (record { table = u; doubt = doubtful u }) k

@@ -1,17 +1,17 @@
-// The search by withdrawing, on a copy of the counters: withdrawing a step and withdrawing an exit call each other. It serves rule 2 of clearing
-// and the soundness test.
+// The search by withdrawing, on a copy of the counters: withdrawing a step and withdrawing an exit call each other. It serves rule 2 of clearing,
+// with the first candidates of rule 3, and the soundness test.
 ghost use mathlib.Core.Path.{_≡_};
 ghost use mathlib.Core.List.{List};
 ghost use Prim.Native.Nat.{ℕ, _*_, _<_};
-ghost use lib.ListN.{getD};
+ghost use lib.ListN.{getD, replicate};
 ghost use lib.Dec.{eqb};
 ghost use Rattle.finite.specs.Below.{one, all, tabulate};
 ghost use Rattle.finite.specs.Reach.{marked};
 ghost use Rattle.table.specs.Table.{places, exits, counters, exitPlace};
-ghost use Rattle.table.specs.Clear.{doubtful};
+ghost use Rattle.table.specs.Clear.{emptied, doubtful};
 ghost use Rattle.words.specs.Words.{tableOf};
-ghost use Rattle.withdraw.specs.Search.{slotAt, at, rest, Ranged, Pending, Withdrawn, Spans};
-ghost use Rattle.withdraw.specs.Withdraw.{Emptied};
+ghost use Rattle.withdraw.specs.Search.{slotAt, at, rest, Ranged, Pending, Withdrawn, stillLinked, Spans};
+ghost use Rattle.withdraw.specs.Withdraw.{Losing, candidate};
 use words::COUNTERS;
 use words::COUNTS;
 use words::EXITS;
@@ -82,17 +82,53 @@ fn counters_of(t: &[u16; WORDS]) -> [u16; 256]
     left
 }
 
-// The steps that are doubtful once an exit is emptied that held the last strong link to the step `start`: 1 for each.
-pub fn doubtful_steps(t: &[u16; WORDS], start: u16) -> [u16; 128]
-    requires { ⌜ Emptied (tableOf (now t)) start ⌝ }
-    ensures { λ r. ⌜ r ≡ tabulate places (λ i. one (marked (doubtful (tableOf (now (t .entry)))) i)) ⌝ }
+// Whether step k is marked and links to it are left, in the counter of its weak ones.
+fn still_linked(t: &[u16; WORDS], left: &[u16; 256], doubt: &[u16; 128], k: usize) -> bool
+    requires { ⌜ (k < places) × Ranged (tableOf (now t)) ⌝ }
+    ensures { λ r. ⌜ r ≡ stillLinked (tableOf (now (t .entry))) (now (left .entry)) (now (doubt .entry)) k ⌝ }
 {
+    if doubt[k] != 1 {
+        return false;
+    }
+    left[k * COUNTERS + words::wide(1 - words::own_at(t, k))] != 0
+}
+
+// The candidates, where nothing is pending: `wanted` gets 1 for each marked step that has links left.
+fn mark_wanted(t: &[u16; WORDS], left: &[u16; 256], doubt: &[u16; 128], wanted: &mut [u16; 128])
+    requires { ⌜ Ranged (tableOf (now t)) × (now wanted ≡ replicate places 0) ⌝ }
+    ensures { λ _. ⌜ now (wanted .exit) ≡
+        tabulate places (λ k. one (stillLinked (tableOf (now (t .entry))) (now (left .entry)) (now (doubt .entry)) k)) ⌝ }
+{
+    let mut k = 0usize;
+    // The candidates below k are marked.
+    while k < PLACES {
+        if still_linked(t, left, doubt, k) {
+            wanted[k] = 1;
+        }
+        k += 1;
+    }
+}
+
+// Finds the steps that are doubtful once exit e of step i is emptied, which holds the last strong link to its target: `doubt` gets 1 for each, and
+// `wanted` gets 1 for each of them that has a link from a step that is not doubtful. Both are lent with zeros.
+pub fn find_doubtful(
+    t: &[u16; WORDS],
+    i: usize,
+    e: usize,
+    doubt: &mut [u16; 128],
+    wanted: &mut [u16; 128],
+)
+    requires { ⌜ Losing (tableOf (now t)) i e × (now doubt ≡ replicate places 0) × (now wanted ≡ replicate places 0) ⌝ }
+    ensures doubt { λ _. ⌜ now (doubt .exit) ≡ tabulate places (λ k. one (marked (doubtful (emptied (tableOf (now (t .entry))) i e)) k)) ⌝ }
+    ensures wanted { λ _. ⌜ now (wanted .exit) ≡ tabulate places (λ k. one (candidate (emptied (tableOf (now (t .entry))) i e) k)) ⌝ }
+{
+    let j = words::wide(words::target_at(t, i, e));
     let mut left = counters_of(t);
-    let mut marks = [0u16; 128];
-    let i = words::wide(start);
-    marks[i] = 1;
-    withdraw_step(t, &mut left, &mut marks, i);
-    marks
+    // The counter of the exit's own link, in which no link of a marked step counts: 0, as the search asks of a step that it marks.
+    left[j * COUNTERS + words::wide(words::own_at(t, j))] = 0;
+    doubt[j] = 1;
+    withdraw_step(t, &mut left, doubt, j);
+    mark_wanted(t, &left, doubt, wanted);
 }
 
 // Whether every counter has come to 0.

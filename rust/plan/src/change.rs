@@ -63,6 +63,14 @@ pub fn checked(before: &View, after: &View, answer: (u16, u16)) -> Result<Change
     agreed(change, shown, answer)
 }
 
+/// What a clearing did, where the two numbers of its answer are those that the tables show; else what differs.
+pub fn cleared(before: &View, after: &View, answer: (u16, u16)) -> Result<Clearing, String> {
+    match checked(before, after, answer)? {
+        Change::Cleared(clearing) => Ok(clearing),
+        _ => Err("no exit was cleared".to_string()),
+    }
+}
+
 /// The clearing that a take-back took back, where the two numbers of its answer are those that the tables show; else what differs.
 pub fn taken_back(before: &View, after: &View, answer: (u16, u16)) -> Result<Clearing, String> {
     match change(after, before) {

@@ -5,7 +5,7 @@ use crate::files::{
     input_failed, load, print, refused_image, say, shown, slip_bytes,
 };
 use crate::{number, Failure, Request};
-use plan::change::{checked, taken_back, Change};
+use plan::change::{checked, cleared, taken_back};
 use plan::check::edition;
 use plan::diff::{diff, Verdict};
 use plan::draw::{as_dot, as_svg};
@@ -17,7 +17,7 @@ use std::io::{self, BufRead, BufReader, IsTerminal, Read};
 use std::path::Path;
 use telephone::{
     convert_down, convert_up, raw, slip_length, sole_quotas, Quota, Quotas, Refusal, Table, CABINS,
-    IMAGE_MAX, SLIP_MAX,
+    IMAGE_MAX, PREVIEW_ROOM, SLIP_MAX,
 };
 
 /// A command of the program.
@@ -54,7 +54,7 @@ const STORE: &str = "-o FILE";
 /// Guarantees and limits.
 const LIST: &str = "[G/L ..]";
 
-pub const COMMANDS: [Command; 13] = [
+pub const COMMANDS: [Command; 14] = [
     Command {
         name: "fresh",
         words: &["CAPACITY", LIST],
@@ -102,6 +102,14 @@ pub const COMMANDS: [Command; 13] = [
         gist: "what holds a step in use",
         help: WHY,
         run: why,
+    },
+    Command {
+        name: "preview",
+        words: &["IMAGE", "STEP", "EXIT"],
+        options: &[],
+        gist: "which steps clearing an exit would free",
+        help: PREVIEW,
+        run: preview,
     },
     Command {
         name: "clear",
@@ -186,13 +194,21 @@ itself, or to standard output; at a terminal it goes nowhere. Exits, kinds and
 contents are those of key lines: plan key --help names them.
 ";
 
+const PREVIEW: &str = "\
+Says what clearing the exit would do: how many steps would be doubtful, and
+which of them would go. The image is only read. The same plan clear, made next,
+frees just these steps, and says what holds the others then. Exits: 0 answered,
+1 engaged, 2 no reply, 3 line fault.
+";
+
 const CLEAR: &str = "\
 Says on standard error what clearing the exit does: which steps become
 doubtful, which of them stay and what holds each then, and which go. The new
 image goes to FILE, which may be IMAGE itself, or to standard output; at a
-terminal it goes nowhere, so that one can look before clearing. With --slip, a
-slip of the clearing is stored in the file SLIP, by which plan take-back takes
-it back. Exits: 0 answered, 1 engaged, 2 no reply, 3 line fault.
+terminal it goes nowhere. plan preview says beforehand which steps would go, and
+gives no image. With --slip, a slip of the clearing is stored in the file SLIP,
+by which plan take-back takes it back. Exits: 0 answered, 1 engaged, 2 no reply,
+3 line fault.
 ";
 
 const TAKE_BACK: &str = "\
@@ -373,27 +389,47 @@ fn why(request: &Request) -> Result<u8, Failure> {
     Ok(0)
 }
 
-fn clear(request: &Request) -> Result<u8, Failure> {
-    let (table, before) = viewed(&request.words[0])?;
+/// The table of an image, what stands in it, and the step and the exit of a command line.
+fn exit_of(request: &Request) -> Result<(Table, View, u16, u16), Failure> {
+    let (table, view) = viewed(&request.words[0])?;
     let step = number("the step", &request.words[1])?;
     let exit = number("the exit", &request.words[2])?;
+    Ok((table, view, step, exit))
+}
+
+fn preview(request: &Request) -> Result<u8, Failure> {
+    let (table, view, step, exit) = exit_of(request)?;
+    let mut steps = [0; PREVIEW_ROOM];
+    let told = call(&table, |table| raw::preview_clear(table, step, exit, &mut steps));
+    let (same, answer) = told.map_err(refused)?;
+    // the same clearing, made on a copy
+    let (after, made) = call(&table, |table| raw::clear(table, step, exit)).map_err(refused)?;
+    let clearing = cleared(&view, &View::of(&after), made)?;
+    let freed = steps.iter().take(answer.1.into()).map(|&step| u16::from(step));
+    if same != table || made != answer || !freed.eq(clearing.freed.iter().copied()) {
+        return Err("the clearing does not do what its preview tells".to_string());
+    }
+    print(&pages::preview(&view, &clearing))?;
+    Ok(0)
+}
+
+fn clear(request: &Request) -> Result<u8, Failure> {
+    let (table, before, step, exit) = exit_of(request)?;
     let mut slip = [0; SLIP_MAX];
-    let cleared = call(&table, |table| match request.slip {
+    let made = call(&table, |table| match request.slip {
         Some(_) => raw::clear_with_slip(table, step, exit, &mut slip),
         None => raw::clear(table, step, exit),
     });
-    let (cleared, (doubtful, freed)) = cleared.map_err(refused)?;
+    let (after, answer) = made.map_err(refused)?;
     let slip = &slip[..slip_length(&slip).unwrap_or(0)];
-    let after = View::of(&cleared);
-    let Change::Cleared(clearing) = checked(&before, &after, (doubtful, freed))? else {
-        return Err("no exit was cleared".to_string());
-    };
-    let back = || call(&cleared, |cleared| raw::take_back(cleared, slip));
-    if request.slip.is_some() && back() != Ok((table, (freed, 0))) {
+    let view = View::of(&after);
+    let clearing = cleared(&before, &view, answer)?;
+    let back = || call(&after, |after| raw::take_back(after, slip));
+    if request.slip.is_some() && back() != Ok((table, (answer.1, 0))) {
         return Err("the slip does not take the clearing back".to_string());
     }
-    say(&pages::cleared(&before, &after, &clearing))?;
-    give_cleared(request, &cleared, slip)?;
+    say(&pages::cleared(&before, &view, &clearing))?;
+    give_cleared(request, &after, slip)?;
     Ok(0)
 }
 

@@ -132,11 +132,10 @@ fn leading(view: &View, held: &Held) -> String {
 
 /// What a clearing does, line by line: the steps that become doubtful, which of them stay and what holds each then, and which go.
 pub fn cleared(before: &View, after: &View, clearing: &Clearing) -> String {
-    let held = &clearing.link;
-    let mut page = vec![format!("clearing {}: a {}", exit(held), link(before, held))];
+    let mut page = vec![clearing_of(before, &clearing.link)];
     let doubtful = clearing.doubtful();
     if doubtful.is_empty() {
-        let held = held_by(after, held.link.target, " is held");
+        let held = held_by(after, clearing.link.link.target, " is held");
         page.push(format!("no step becomes doubtful: {held}"));
         return text(&page);
     }
@@ -144,10 +143,28 @@ pub fn cleared(before: &View, after: &View, clearing: &Clearing) -> String {
     page.push(format!("of these stay: {}", some(clearing.stayed.len())));
     page.extend(held_steps(after, &clearing.stayed));
     page.push(format!("of these go: {}", some(clearing.freed.len())));
-    for &step in &clearing.freed {
-        page.push(format!("    {}", named(before, step)));
-    }
+    page.extend(named_steps(before, &clearing.freed));
     text(&page)
+}
+
+/// What a clearing would do: how many steps would be doubtful, and which of them would go; in one line where none would.
+pub fn preview(view: &View, clearing: &Clearing) -> String {
+    const NOT_CHANGED: &str = "the image is not changed";
+    let (start, doubtful) = (clearing_of(view, &clearing.link), clearing.doubtful().len());
+    if clearing.freed.is_empty() {
+        let doubtful = count(doubtful, "step");
+        return format!("{start}; {doubtful} would be doubtful, none would go; {NOT_CHANGED}\n");
+    }
+    let mut page = vec![start, format!("steps that would be doubtful: {doubtful}")];
+    page.push(format!("of these would go: {}", clearing.freed.len()));
+    page.extend(named_steps(view, &clearing.freed));
+    page.push(NOT_CHANGED.to_string());
+    text(&page)
+}
+
+/// The exit that is cleared and what it holds, as `clearing exit 2 of step 1 (no reply): a weak link to step 2 (contact 7)`.
+fn clearing_of(before: &View, held: &Held) -> String {
+    format!("clearing {}: a {}", exit(held), link(before, held))
 }
 
 /// What taking back a clearing does, line by line, given the table after it: the link that is back, the steps that are back in use, and those that are
@@ -178,6 +195,11 @@ fn held_steps<'a>(view: &'a View, numbers: &'a [u16]) -> impl Iterator<Item = St
     let line =
         |&step: &u16| format!("    {} is held by {}", named(view, step), holders(view, step));
     numbers.iter().map(line)
+}
+
+/// A line for each step.
+fn named_steps<'a>(view: &'a View, numbers: &'a [u16]) -> impl Iterator<Item = String> + 'a {
+    numbers.iter().map(|&step| format!("    {}", named(view, step)))
 }
 
 /// A number, or `none`.

@@ -1,21 +1,23 @@
 //! The program `plan` on stored images: what it writes is held to stored outputs. STORE_OUTPUTS=1 writes them anew; read the difference then.
 
+use plan::words::count;
 use std::fs::{self, File};
 use std::os::unix::fs::PermissionsExt;
 use std::path::{Path, PathBuf};
 use std::process::{Command, Output, Stdio};
-use telephone::{Table, IMAGE_MAX};
+use telephone::{Exit, Table, IMAGE_MAX};
 
 /// Each command line, by the name of its output. The images stand in tests/images; those with a file .keys beside them were keyed. They are of edition 1
 /// but for ring-2, which is ring in edition 2, and those of several cabins. The slips are those of clearing exit 0 of step 0 in ring and in cabins;
 /// cleared and cabins-cleared are the images after it.
-const CASES: [(&str, &str); 89] = [
+const CASES: [(&str, &str); 100] = [
     ("help", "--help"),
     ("help-key", "key --help"),
     ("help-add", "add --help"),
     ("help-fresh", "fresh --help"),
     ("help-trial", "trial ring.img --help"),
     ("help-convert", "convert --help"),
+    ("help-preview", "preview --help"),
     ("help-clear", "clear --help"),
     ("help-take-back", "take-back --help"),
     ("no-command", ""),
@@ -53,6 +55,16 @@ const CASES: [(&str, &str); 89] = [
     ("why-chain", "why thirty.img 26"),
     ("why-free", "why ring.img 4"),
     ("why-65535", "why ring.img 65535"),
+    ("preview-all", "preview cabins.img 0 0"),
+    ("preview-some", "preview thirty.img 0 0"),
+    ("preview-none", "preview ring.img 0 0"),
+    ("preview-weak", "preview ring.img 2 2"),
+    ("preview-step-first", "preview ring.img 4 4"),
+    ("preview-bad-exit", "preview ring.img 0 4"),
+    ("preview-empty-exit", "preview ring.img 0 3"),
+    ("preview-no-exit", "preview ring.img 0"),
+    ("preview-not-stored", "preview ring.img 0 0 -o /dev/null"),
+    ("preview-damaged", "preview target.img 0 0"),
     ("clear-held", "clear ring.img 0 0"),
     ("clear-all", "clear cleared.img 0 1"),
     ("clear-weak", "clear ring.img 2 2"),
@@ -374,6 +386,47 @@ fn every_clearing_taken_back() {
     assert_eq!(counts, [15, 5]);
 }
 
+/// Every exit of stored images: a preview names the steps of which the clearing says that they go, or is refused as it is. The image stays.
+#[test]
+fn every_preview() {
+    let path = scratch("every_preview.img");
+    let file = path.to_str().unwrap();
+    // clearings that are refused, that free no step, and that free some
+    let mut seen = [0; 3];
+    for (name, steps) in [("ring", 5), ("cleared", 5), ("cabins", 6), ("thirty", 31), ("full", 2)] {
+        let bytes = image(&format!("{name}.img"));
+        fs::write(&path, &bytes).unwrap();
+        for (step, exit) in (0..steps).flat_map(|step| (0..5).map(move |exit| (step, exit))) {
+            let words = [file, &step.to_string(), &exit.to_string()];
+            let [told, made] = ["preview", "clear"].map(|verb| output(plan(&[verb]).args(words)));
+            assert_eq!(fs::read(&path).unwrap(), bytes);
+            let (said, made) = (text(&told.stdout), text(&made.stderr));
+            let cleared = Exit::try_from(exit)
+                .and_then(|exit| Table::load(&bytes).unwrap().clear(step, exit));
+            let Ok(cleared) = cleared else {
+                assert!(is_failure(&told) && text(&told.stderr) == made, "{name}: {said}");
+                seen[0] += 1;
+                continue;
+            };
+            let doubtful = usize::from(cleared.doubtful);
+            let start = made.lines().next().unwrap();
+            let expected = match made.split_once("of these go: ") {
+                Some((_, go)) if go != "none\n" => format!(
+                    "{start}\nsteps that would be doubtful: {doubtful}\nof these would go: {go}"
+                ),
+                _ => format!(
+                    "{start}; {} would be doubtful, none would go; ",
+                    count(doubtful, "step")
+                ),
+            };
+            seen[if cleared.freed == 0 { 1 } else { 2 }] += 1;
+            assert_eq!(said, expected + "the image is not changed\n", "{name}");
+            assert_eq!((told.status.code(), told.stderr), (Some(0), vec![]), "{name}");
+        }
+    }
+    assert_eq!(seen, [174, 41, 30]);
+}
+
 /// A slip and an image are stored both or not at all, and nothing is left beside them.
 #[test]
 fn stored_slips() {
@@ -456,9 +509,15 @@ fn stored_files() {
 #[test]
 fn reading_and_writing_fail() {
     let full = || File::options().write(true).open("/dev/full").unwrap();
-    for line in
-        ["show ring.img", "draw full.img", "check ring.img", "diff ring.img full.img", "--help"]
-    {
+    for line in [
+        "show ring.img",
+        "draw full.img",
+        "check ring.img",
+        "preview ring.img 0 0",
+        "preview cabins.img 0 0",
+        "diff ring.img full.img",
+        "--help",
+    ] {
         let words: Vec<&str> = line.split(' ').collect();
         assert!(is_failure(&output(plan(&words).stdout(full()))), "{line}");
     }
@@ -509,6 +568,9 @@ fn odd_words() {
             &["convert", "ring.img", word],
             &["convert", word, "2"],
             &["take-back", "cleared.img", word],
+            &["preview", word, "0", "0"],
+            &["preview", "ring.img", word, "0"],
+            &["preview", "ring.img", "0", word],
         ] {
             let given = output(&mut plan(line));
             assert!(is_failure(&given), "{line:?}: {}", text(&given.stderr));
@@ -546,6 +608,7 @@ fn long_files() {
             bytes.resize(length, 0);
             fs::write(&path, &bytes).unwrap();
             assert!(is_failure(&output(&mut plan(&["show", file]))), "{length}");
+            assert!(is_failure(&output(&mut plan(&["preview", file, "0", "0"]))), "{length}");
             assert!(is_failure(&output(&mut plan(&["convert", file, "1"]))), "{length}");
             assert!(is_failure(&output(&mut plan(&["convert", file, "2"]))), "{length}");
             assert_eq!(output(&mut plan(&["check", file])).status.code(), Some(1), "{length}");

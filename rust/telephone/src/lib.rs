@@ -5,7 +5,8 @@
 //!
 //! Eight cabins share a plan: each step is charged to the cabin that added it, within the guarantees and limits of [`Quotas`].
 //!
-//! A clearing can be taken back by its slip: [`Table::clear_with_slip`], [`Table::take_back`].
+//! A clearing can be taken back by its slip: [`Table::clear_with_slip`], [`Table::take_back`]. [`Table::preview_clear`] tells beforehand which steps it
+//! would free.
 //!
 //! Images are written in edition 2 of the format and loaded in both; [`convert_up`] and [`convert_down`] turn an image of one edition into the other.
 //!
@@ -47,6 +48,8 @@ pub const CABINS: usize = 8;
 pub const IMAGE_MAX: usize = 2858;
 /// Bytes of the largest slip of a clearing.
 pub const SLIP_MAX: usize = 5638;
+/// Bytes that the buffer of a preview must have: as many as there are steps that can go.
+pub const PREVIEW_ROOM: usize = 127;
 /// Bytes of stack for any call of the library, with the caller's table.
 pub const STACK_MAX: usize = 16 * 1024;
 
@@ -300,9 +303,9 @@ impl TryFrom<u16> for Exit {
 /// The two counts of a clearing.
 #[derive(Clone, Copy, PartialEq, Eq, Debug)]
 pub struct Cleared {
-    /// Steps that were made doubtful.
+    /// Steps made doubtful.
     pub doubtful: u16,
-    /// Steps that were freed.
+    /// Steps freed.
     pub freed: u16,
 }
 
@@ -515,8 +518,7 @@ impl Table {
 
     /// Empties an exit, and frees the steps that nothing reaches any more.
     pub fn clear(&mut self, step: u16, exit: Exit) -> Result<Cleared, Refusal> {
-        let (doubtful, freed) = two(raw::clear(&mut self.0, step, exit.number()))?;
-        Ok(Cleared { doubtful, freed })
+        cleared(raw::clear(&mut self.0, step, exit.number()))
     }
 
     /// Empties an exit as [`Table::clear`] does, and writes a slip of it to the start of a lent buffer, by which [`Table::take_back`] takes it back. Gives
@@ -540,9 +542,8 @@ impl Table {
         exit: Exit,
         buffer: &mut [u8],
     ) -> Result<(Cleared, usize), Refusal> {
-        let reply = raw::clear_with_slip(&mut self.0, step, exit.number(), buffer);
-        let (doubtful, freed) = two(reply)?;
-        Ok((Cleared { doubtful, freed }, slip_length(buffer).unwrap_or(0)))
+        let cleared = cleared(raw::clear_with_slip(&mut self.0, step, exit.number(), buffer))?;
+        Ok((cleared, slip_length(buffer).unwrap_or(0)))
     }
 
     /// Takes back the clearing of a slip, which is exactly these bytes; gives the number of steps brought back into use. The last number given stays.
@@ -551,6 +552,33 @@ impl Table {
     /// when a cabin has reached its limit meanwhile. Other steps may have changed. Right after it was taken back the slip is refused.
     pub fn take_back(&mut self, slip: &[u8]) -> Result<u16, Refusal> {
         two(raw::take_back(&mut self.0, slip)).map(|(back, _)| back)
+    }
+
+    /// Tells what [`Table::clear`] would do: gives its counts, and writes the numbers of the steps that it would free to the start of a lent buffer,
+    /// ascending, a byte each. The same clearing, made next, frees just these and gives these counts. The buffer must have at least [`PREVIEW_ROOM`]
+    /// bytes, even where nothing would go; its bytes past the numbers stay.
+    ///
+    /// ```
+    /// use telephone::{sole_quotas, Cleared, Exit, Kind, Table, PREVIEW_ROOM};
+    ///
+    /// let mut table = Table::fresh(4, &sole_quotas(4))?;
+    /// table.add(0, Exit::Answered, Kind::Contact(7), 0)?;
+    /// table.add(1, Exit::NoReply, Kind::Wait(60), 0)?;
+    /// table.link(0, Exit::Answered, 2, Exit::Answered)?; // ring again after a minute
+    /// let mut steps = [0; PREVIEW_ROOM];
+    /// let cleared = table.preview_clear(0, Exit::Answered, &mut steps)?;
+    /// assert_eq!(cleared, Cleared { doubtful: 2, freed: 2 });
+    /// assert_eq!(steps[..2], [1, 2]);
+    /// assert_eq!(table.clear(0, Exit::Answered)?, cleared);
+    /// # Ok::<(), telephone::Refusal>(())
+    /// ```
+    pub fn preview_clear(
+        &self,
+        step: u16,
+        exit: Exit,
+        steps: &mut [u8],
+    ) -> Result<Cleared, Refusal> {
+        cleared(raw::preview_clear(&self.0, step, exit.number(), steps))
     }
 
     /// Squeezes the table into that capacity, which may also be larger, and gives it these guarantees and limits. The steps in use are renumbered from
@@ -632,6 +660,11 @@ impl Table {
 fn two(reply: raw::Reply) -> Result<(u16, u16), Refusal> {
     Refusal::check(reply.refusal)?;
     Ok((reply.first, reply.second))
+}
+
+/// The counts of a clearing in a reply that is not refused.
+fn cleared(reply: raw::Reply) -> Result<Cleared, Refusal> {
+    two(reply).map(|(doubtful, freed)| Cleared { doubtful, freed })
 }
 
 /// The length in a reply that is not refused.

@@ -161,6 +161,8 @@ unsafe extern "C" {
         length: usize,
     ) -> Reply;
     fn plan_take_back(t: &mut Table, slip: *const u8, length: usize) -> Reply;
+    fn plan_preview_clear(t: &Table, step: u16, exit: u16, buffer: *mut u8, length: usize)
+        -> Reply;
     fn plan_trial(
         t: &Table,
         limit: u16,
@@ -192,6 +194,12 @@ pub fn clear_with_slip(t: &mut Table, step: u16, exit: u16, buffer: &mut [u8]) -
 pub fn take_back(t: &mut Table, slip: &[u8]) -> Reply {
     // SAFETY: as above.
     unsafe { plan_take_back(t, slip.as_ptr(), slip.len()) }
+}
+
+/// Tells what `clear` would do: writes the numbers of the steps that it would free to the start of a buffer.
+pub fn preview_clear(t: &Table, step: u16, exit: u16, buffer: &mut [u8]) -> Reply {
+    // SAFETY: as above.
+    unsafe { plan_preview_clear(t, step, exit, buffer.as_mut_ptr(), buffer.len()) }
 }
 
 /// Goes through the plan from step 0, where each contact uses up a line result, for at most so many moves; writes the steps entered to the start of

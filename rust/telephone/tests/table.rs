@@ -2,7 +2,7 @@
 
 use telephone::{
     check_edition, convert_down, convert_up, raw, sole_quotas, Cleared, Counts, Ending, Exit, Kind,
-    Link, Quota, Quotas, Refusal, Table, CABINS, IMAGE_MAX, SLIP_MAX,
+    Link, Quota, Quotas, Refusal, Table, CABINS, IMAGE_MAX, PREVIEW_ROOM, SLIP_MAX,
 };
 
 #[test]
@@ -282,16 +282,53 @@ fn cleared(table: &Table, step: u16, exit: Exit) -> (Table, Cleared, Vec<u8>) {
         assert!(other == after && written == slip && past.iter().all(|&byte| byte == 99));
     }
     for room in [0, length - 1] {
-        not_cleared(table.as_raw(), (step, exit.number()), room, Refusal::TooShort);
+        not_cleared(WITH_SLIP, table.as_raw(), (step, exit.number()), room, Refusal::TooShort);
     }
     (after, counts, slip)
 }
 
-/// A clearing with a slip has to be refused so, with no other number, and change nothing.
+/// A preview has to give this number of doubtful steps, write these steps, which go, and leave the bytes past them and the table. The room is just
+/// enough, and then more; 126 bytes, or none, are refused. The clearing, made next, has to give the same counts and free just these steps.
 #[track_caller]
-fn not_cleared(table: &raw::Table, (step, exit): (u16, u16), room: usize, refusal: Refusal) {
+fn foretold(table: &Table, step: u16, exit: Exit, doubtful: u16, steps: &[u8]) {
+    let counts = Cleared { doubtful, freed: steps.len() as u16 };
+    let mut after = table.clone();
+    // the last room has 126 bytes in 16 bits
+    for room in [127, 128, 65_535, 65_536, 65_536 + 126] {
+        let mut buffer = vec![99; room];
+        assert_eq!(after.preview_clear(step, exit, &mut buffer), Ok(counts));
+        let (written, past) = buffer.split_at(steps.len());
+        assert!(written == steps && past.iter().all(|&byte| byte == 99), "{written:?}");
+    }
+    for room in [0, 126] {
+        not_cleared(PREVIEW, table.as_raw(), (step, exit.number()), room, Refusal::TooShort);
+    }
+    assert_eq!(after, *table);
+    assert_eq!((after.clear(step, exit), &gone(table, &after)[..]), (Ok(counts), steps));
+}
+
+/// The steps that are in use before and not after, ascending.
+fn gone(before: &Table, after: &Table) -> Vec<u8> {
+    let in_use = |table: &Table, step: u8| table.read(step.into()).is_ok();
+    (0..128).filter(|&step| in_use(before, step) && !in_use(after, step)).collect()
+}
+
+/// A clearing with a slip, or a preview of it.
+type Clearing = fn(&mut raw::Table, u16, u16, &mut [u8]) -> raw::Reply;
+const WITH_SLIP: Clearing = raw::clear_with_slip;
+const PREVIEW: Clearing = |table, step, exit, buffer| raw::preview_clear(table, step, exit, buffer);
+
+/// Such a call has to be refused so, with no other number, and change nothing.
+#[track_caller]
+fn not_cleared(
+    clear: Clearing,
+    table: &raw::Table,
+    (step, exit): (u16, u16),
+    room: usize,
+    refusal: Refusal,
+) {
     let (mut lent, mut buffer) = (table.clone(), vec![99; room]);
-    let reply = raw::clear_with_slip(&mut lent, step, exit, &mut buffer);
+    let reply = clear(&mut lent, step, exit, &mut buffer);
     assert_eq!(reply, raw::Reply { refusal: refusal.number(), first: 0, second: 0 });
     assert!(lent == *table && buffer.iter().all(|&byte| byte == 99));
 }
@@ -303,7 +340,16 @@ fn not_taken_back(table: &Table, slip: &[u8]) {
     assert_eq!((after.take_back(slip), &after), (Err(Refusal::SlipNotAccepted), table));
 }
 
-/// Every exit of several tables, cleared and taken back, once. A slip cut short, or with a byte more, is refused.
+/// A chain of 127 steps.
+fn full() -> Table {
+    let mut table = fresh(128);
+    for step in 0..127 {
+        table.add(step, Exit::Answered, Kind::Contact(0), 0).unwrap();
+    }
+    table
+}
+
+/// Every exit of several tables, cleared and taken back, once, and told beforehand. A slip cut short, or with a byte more, is refused.
 #[test]
 fn clearings_taken_back() {
     let different = |bits| Table::from_raw(different(bits)).unwrap();
@@ -312,10 +358,13 @@ fn clearings_taken_back() {
         let exits = (0..11).flat_map(|step| Exit::ALL.map(|exit| (step, exit)));
         for (step, exit) in exits {
             if let Err(refusal) = table.clone().clear(step, exit) {
-                not_cleared(table.as_raw(), (step, exit.number()), 50, refusal);
+                for call in [WITH_SLIP, PREVIEW] {
+                    not_cleared(call, table.as_raw(), (step, exit.number()), 50, refusal);
+                }
                 continue;
             }
             let (mut after, counts, slip) = cleared(&table, step, exit);
+            foretold(&table, step, exit, counts.doubtful, &gone(&table, &after));
             for length in 0..slip.len() {
                 not_taken_back(&after, &slip[..length]);
             }
@@ -324,10 +373,7 @@ fn clearings_taken_back() {
             not_taken_back(&after, &slip);
         }
     }
-    let mut full = fresh(128);
-    for step in 0..127 {
-        full.add(step, Exit::Answered, Kind::Contact(0), 0).unwrap();
-    }
+    let full = full();
     let (mut after, _, slip) = cleared(&full, 0, Exit::Answered);
     assert_eq!(slip.len(), SLIP_MAX);
     not_taken_back(&after, &[&slip[..], &[0; 65_536]].concat());
@@ -359,25 +405,87 @@ fn slips() {
     assert_eq!(words(&slip[..6]), [0, 3, 1]);
 }
 
-/// 1 before 3 before 4 before 6 before 11, and 1 before 18. A safe table is sound, so 1 is for the calls on any table.
+/// Steps that would go, by their numbers: of a ring, of a chain against the order of numbers, and all of them.
 #[test]
-fn slips_refused() {
+fn previews() {
+    let table = ring();
+    foretold(&table, 0, Exit::Answered, 6, &[1, 2, 3, 4, 5, 6]);
+    foretold(&table, 2, Exit::Answered, 3, &[3, 4, 5]);
+    foretold(&table, 1, Exit::Answered, 1, &[6]);
+    // weak links back to step 1
+    for (step, exit) in [(4, Exit::NoReply), (2, Exit::Engaged), (3, Exit::NoReply)] {
+        foretold(&table, step, exit, 0, &[]);
+    }
+    // a weak link keeps steps 4 and 5 of four doubtful ones, and then all of them
+    let mut table = ring();
+    table.link(3, Exit::Answered, 0, Exit::NoReply).unwrap();
+    foretold(&table, 1, Exit::Engaged, 4, &[2, 3]);
+    table.link(1, Exit::Engaged, 4, Exit::Answered).unwrap();
+    foretold(&table, 1, Exit::Engaged, 4, &[]);
+    foretold(&table, 0, Exit::NoReply, 0, &[]);
+    // step 3 leads to 1, and 2 stays
+    let mut table = fresh(4);
+    for exit in [Exit::Answered, Exit::Engaged, Exit::NoReply] {
+        table.add(0, exit, Kind::Wait(1), 0).unwrap();
+    }
+    table.link(0, Exit::Answered, 3, Exit::NoReply).unwrap();
+    foretold(&table, 0, Exit::Answered, 1, &[]);
+    table.clear(0, Exit::Answered).unwrap();
+    foretold(&table, 0, Exit::NoReply, 2, &[1, 3]);
+    let three = three_cabins();
+    foretold(&three, 0, Exit::Answered, 2, &[1]);
+    foretold(&three, 0, Exit::LineFault, 0, &[]);
+    // a chain of all steps; then one that stays, held from its end
+    let mut full = full();
+    let all: Vec<u8> = (1..128).collect();
+    assert_eq!(all.len(), PREVIEW_ROOM);
+    foretold(&full, 0, Exit::Answered, 127, &all);
+    foretold(&full, 126, Exit::Answered, 1, &[127]);
+    full.link(126, Exit::Answered, 0, Exit::Engaged).unwrap();
+    foretold(&full, 0, Exit::Answered, 127, &all[..126]);
+    full.link(0, Exit::Answered, 127, Exit::Engaged).unwrap();
+    foretold(&full, 0, Exit::Answered, 127, &[]);
+}
+
+/// 1 before 3 before 4 before 6 before 11, of a clearing with a slip and of a preview. A safe table is sound, so 1 is for the calls on any table.
+#[test]
+fn clearings_refused() {
     let table = three_cabins();
     let unsound = raw::Table { last: 5, ..table.as_raw().clone() };
-    for room in [0, SLIP_MAX] {
+    for (call, room) in [
+        (WITH_SLIP, 0),
+        (WITH_SLIP, SLIP_MAX),
+        (PREVIEW, 0),
+        (PREVIEW, PREVIEW_ROOM - 1),
+        (PREVIEW, PREVIEW_ROOM),
+    ] {
         for place in [(0, 0), (9, 9)] {
-            not_cleared(&unsound, place, room, Refusal::NotSound);
+            not_cleared(call, &unsound, place, room, Refusal::NotSound);
         }
         for (place, refusal) in [
             ((3, 4), Refusal::NotInUse),
             ((65535, 0), Refusal::NotInUse),
+            ((256, 65535), Refusal::NotInUse),
             ((0, 4), Refusal::BadExit),
             ((1, 256), Refusal::BadExit),
+            ((0, 65535), Refusal::BadExit),
             ((0, 1), Refusal::ExitEmpty),
         ] {
-            not_cleared(table.as_raw(), place, room, refusal);
+            not_cleared(call, table.as_raw(), place, room, refusal);
         }
     }
+    // 126 bytes are too few for any table, and even where nothing would go
+    for room in [0, 1, PREVIEW_ROOM - 1] {
+        for place in [(0, 0), (0, 3), (1, 2)] {
+            not_cleared(PREVIEW, table.as_raw(), place, room, Refusal::TooShort);
+        }
+    }
+}
+
+/// 1 before 18, and what no clearing left.
+#[test]
+fn slips_refused() {
+    let table = three_cabins();
     let (after, _, slip) = cleared(&table, 0, Exit::Answered);
     let unsound = raw::Table { last: 5, ..after.as_raw().clone() };
     for slip in [&slip[..], &[]] {
@@ -493,6 +601,8 @@ fn refused_calls_change_nothing() {
     assert_eq!(table.link(0, Exit::Engaged, 1, Exit::Answered), Err(Refusal::ExitEmpty));
     assert_eq!(table.clear(1, Exit::NoReply), Err(Refusal::ExitEmpty));
     assert_eq!(table.clear(65535, Exit::NoReply), Err(Refusal::NotInUse));
+    assert_eq!(table.preview_clear(1, Exit::NoReply, &mut [0; 127]), Err(Refusal::ExitEmpty));
+    assert_eq!(table.preview_clear(0, Exit::Answered, &mut [0; 126]), Err(Refusal::TooShort));
     assert_eq!(table.key_line(b"H*5A"), Err(Refusal::NotKeyLine));
     assert_eq!(table.read(2), Err(Refusal::NotInUse));
     assert_eq!(table.trial(1, &[9], &mut [0]), Err(Refusal::BadResult));
@@ -514,10 +624,7 @@ fn images() {
     assert_eq!((other.reload(&image[..86]), &other), (Ok(()), &table));
     assert_eq!(other.reload(&image), Err(Refusal::NotAccepted));
     assert_eq!((&other, other.quotas()), (&fresh(1), Quotas::default()));
-    let mut full = fresh(128);
-    for step in 0..127 {
-        full.add(step, Exit::Answered, Kind::Contact(0), 0).unwrap();
-    }
+    let full = full();
     assert_eq!(full.write_image(&mut image), Ok(telephone::IMAGE_MAX));
 }
 
@@ -892,6 +999,7 @@ fn deepest_calls_in_a_small_thread() {
             table.add(step, Exit::Answered, Kind::Contact(0), 0)?;
         }
         let mut slip = [0; SLIP_MAX];
+        table.preview_clear(0, Exit::Answered, &mut slip)?;
         let (_, length) = table.clear_with_slip(0, Exit::Answered, &mut slip)?;
         table.take_back(&slip[..length])?;
         table.key_line(b"H*200000001A")?;

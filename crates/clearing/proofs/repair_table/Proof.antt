@@ -5,8 +5,7 @@ use native.Mathlib.Omega.{arith}
 use borrow.Author.Needs.{needs}
 use Rattle.table.specs.Table.{places}
 use Rattle.words.specs.Words.{tableOf}
-use Rattle.withdraw.proofs.Doubtful.{formed-doubt}
-use Rattle.clearing.proofs.Outcomes.{found-able, Mended, repaired-answer, repaired-table, repaired-whole}
+use Rattle.clearing.proofs.Outcomes.{found-able, found-candidates, Mended, repaired-answer, repaired-table, repaired-whole}
 use Rattle.clearing.proofs.repair_table.Statement.{statement}
 use Rattle.clearing.proofs.repair_table.Tie as tie
 
@@ -14,14 +13,11 @@ use Rattle.clearing.proofs.repair_table.Tie as tie
 abbrev begun : tie.After-wide → tie.Start
 begun c = c .before .before .before
 
-abbrev sized : tie.After-doubtful-steps → tie.After-wide
+abbrev sized : tie.After-count-marks → tie.After-wide
 sized c = c .before .before
 
-abbrev found : tie.After-count-marks → tie.After-doubtful-steps
-found c = c .before .before
-
 abbrev counted : tie.After-repair-steps → tie.After-count-marks
-counted c = c .before .before .before
+counted c = c .before .before .before .before
 
 abbrev mended : tie.After-count-marks2 → tie.After-repair-steps
 mended c = c .before .before
@@ -30,28 +26,29 @@ size : (c : tie.After-wide) → c .wide .result ≡ tableOf (begun c .args .t .n
 size c = c .wide .ensures ∙ c .before .capacity .ensures
 
 below : (c : tie.After-wide) → c .wide .result ≤ places
-below c = omega (arith, size c, formed-doubt _ _ (begun c .pre) .most)
+below c = omega (arith, size c, begun c .pre .formed .most)
 
 -- what was found and mended
 facts : (c : tie.After-repair-steps) →
-    let f = found (counted c) in
+    let w = sized (counted c) in
+    let a = begun w .args in
     let l = c .repair-steps .last in
-    Mended (tableOf (begun (sized f) .args .t .now)) (tableOf (l .0)) (sized f .wide .result) (f .doubtful-steps .result) (l .1 .1 .0)
+    Mended (tableOf (a .t .now)) (tableOf (l .0)) (w .wide .result) (a .doubt .now) (a .wanted .now) (l .1 .1 .0)
 facts c =
-    let f = found (counted c) in
+    let w = sized (counted c) in
     record {
-      formed = formed-doubt _ _ (begun (sized f) .pre);
-      size = size (sized f);
-      begun = f .doubtful-steps .ensures;
+      searched = begun w .pre;
+      size = size w;
       same = c .repair-steps .ensures .0;
       capacity = c .repair-steps .ensures .1 .0 .capacity;
     }
 
 repair-steps-requires : tie.Need-repair-steps-requires
 repair-steps-requires c κs =
-    let f = found (c .before .before) in
-    let s = begun (sized f) in
-    found-able (tableOf (s .args .t .now)) _ _ (size (sized f)) (f .doubtful-steps .ensures) (formed-doubt _ _ (s .pre))
+    let w = sized (c .before .before .before) in
+    let s = begun w in
+    let t = tableOf (s .args .t .now) in
+    (found-able t _ _ (size w) (s .pre .doubts) (s .pre .formed), found-candidates t (s .pre) _ (size w))
 
 returns : tie.Need-returns
 returns c =
@@ -76,10 +73,9 @@ repair-table-spec =
     (tie.spec
     (λ c κs. search needs)
     (λ c κs. search needs)
-    (λ c κs. c .before .before .before .before .pre)
-    (λ c κs. below (sized (c .before)))
+    (λ c κs. below (c .before))
     repair-steps-requires
-    (λ c κs. below (sized (found (counted (c .before)))))
+    (λ c κs. below (sized (counted (c .before))))
     (λ c κs. mended (c .before .before .before) .repair-steps .ensures .1 .0)
     returns
     returns-2)

@@ -12,9 +12,9 @@ use Rattle.finite.proofs.Bools.{and-right, not-true-false, not-false-true}
 use Rattle.table.specs.declared.Answer.the-variants.{Refused}
 use Rattle.table.specs.Table.{Table}
 use Rattle.table.specs.Sound.{sound}
-use Rattle.table.specs.Answer.{notAccepted, needsEdition2, first}
+use Rattle.table.specs.Answer.{WriteOutcome, notAccepted, needsEdition2, first}
 use Rattle.table.proofs.Sound.{test-sound}
-use Rattle.image.specs.Image.{Edition, headerKindOf, headerFieldCount, recordSize, WriteOutcome, put, roomTests, wordAt, recordAt, editionIn, stepPlace, imageTable, accepted}
+use Rattle.image.specs.Image.{Edition, headerKindOf, headerFieldCount, recordSize, put, roomTests, wordAt, recordAt, editionIn, stepPlace, imageTable, accepted}
 use Rattle.image.specs.Convert.{sayable, convertRefusal, convertCall}
 use Rattle.image.proofs.Laws.{accepted-sound, put-refused}
 use Rattle.image.proofs.Loaded.{test-accepted}

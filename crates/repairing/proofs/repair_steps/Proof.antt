@@ -3,13 +3,13 @@
 use mathlib.Core.Path.{_≡_, refl, sym, _∙_, subst}
 use Prim.Native.Nat.{_+_, _*_, _-_, _≤_}
 use native.Mathlib.Omega.{arith}
-use lib.ListN.{length, length-set}
+use lib.ListN.{length}
 use Rattle.finite.specs.Below.{count}
 use Rattle.table.specs.Table.{linked}
 use Rattle.table.proofs.Formed.{Formed}
 use Rattle.words.specs.Words.{tableOf}
-use Rattle.repairing.specs.Repairing.{isOne}
-use Rattle.repairing.proofs.Repairs.{Progress, Candidates, able-most, able-standing, able-restored, candidate-doubtful, candidates-begin, candidates-skip, marks-fall, progress-begins, turn, progress-done}
+use Rattle.repairing.specs.Repairing.{isOne, Candidates}
+use Rattle.repairing.proofs.Repairs.{Progress, able-most, able-standing, able-restored, candidate-doubtful, candidates-skip, marks-fall, progress-begins, turn, progress-done}
 use Rattle.repairing.proofs.repair_steps.Statement.{statement}
 use Rattle.repairing.proofs.repair_steps.Tie as tie
 
@@ -20,54 +20,47 @@ Inv-loop t₀ n doubt₀ wanted₀ low₀ t doubt wanted low =
 abbrev μ-loop : tie.MeasureT-loop
 μ-loop t₀ n doubt₀ wanted₀ low₀ t doubt wanted low = 129 * count n (isOne doubt) + (n - low)
 
-first-candidates-requires : tie.Need-first-candidates-requires Inv-loop μ-loop
-first-candidates-requires c κs = let r = c .before .before .pre in (able-most r, r .formed)
-
-loop-holds : tie.Need-loop-holds Inv-loop μ-loop
-loop-holds c =
-    let f = c .first-candidates in
-    (omega arith, refl, progress-begins (c .before .before .before .pre), candidates-begin _ _ _ (f .result) (f .ensures .0) (f .ensures .1))
-
 restore-step-requires : tie.Need-restore-step-requires Inv-loop μ-loop
 restore-step-requires c κs =
-    let l = c .before .before .before .loop in
-    let low = c .before .before .loop-test .taken in
+    let l = c .before .before .before .before .loop in
+    let low = c .before .before .before .loop-test .taken in
     able-standing (l .inv .2 .able) (l .low) low (candidate-doubtful (l .inv .3) low (c .before .if1 .taken))
 
-want-targets-requires : tie.Need-want-targets-requires Inv-loop μ-loop
-want-targets-requires c κs =
+keep-step-requires : tie.Need-keep-step-requires Inv-loop μ-loop
+keep-step-requires c κs =
     let r = c .before .before .before in
-    let l = r .before .before .before .before .loop in
-    let low = r .before .before .before .loop-test .taken in
+    let l = r .before .before .before .before .before .loop in
+    let low = r .before .before .before .before .loop-test .taken in
     let one = r .before .before .if1 .taken in
     let p = l .inv .2 .able in (
       omega (arith, able-most p),
-      length-set (l .wanted) (l .low) 0 ∙ l .inv .3 .size,
+      l .inv .3 .size,
       subst Formed (sym (r .restore-step .ensures .table)) (able-restored p (l .low) low (candidate-doubtful (l .inv .3) low one) .formed),
     )
 
 loop-less : tie.Need-loop-less Inv-loop μ-loop
 loop-less c =
-    let x = c .before .before .before .before .before .before .before .before in
+    let r = c .before .before .before .before .before .before in
+    let x = r .before .before .before in
     let l = x .loop in
-    let low = c .before .before .before .before .before .before .before .loop-test .taken in
-    let here = candidate-doubtful (l .inv .3) low (c .before .before .before .before .before .before .if1 .taken) in
-    omega (arith, marks-fall (l .doubt) (l .low) here (x .before .before .before .before .args .n) low, able-most (l .inv .2 .able))
+    let low = r .before .before .loop-test .taken in
+    let here = candidate-doubtful (l .inv .3) low (r .if1 .taken) in
+    rw (c .keep-step .ensures .0) (omega (arith, marks-fall (l .doubt) (l .low) here (x .before .args .n) low, able-most (l .inv .2 .able)))
 
 loop-again : tie.Need-loop-again Inv-loop μ-loop
 loop-again c =
-    let l = c .before .before .before .before .before .before .before .before .loop in
-    let low = c .before .before .before .before .before .before .before .loop-test .taken in
-    let one = c .before .before .before .before .before .before .if1 .taken in
-    let b = c .before .before .before .before .restore-step .ensures in
-    let w = c .want-targets .ensures in
-    let r = turn (l .inv .2) (l .inv .3) low one _ (b .table) _ _ w in
-    (omega (arith, w .most), b .size ∙ l .inv .1, r .0, r .1)
+    let r = c .before .before .before .before in
+    let l = r .before .before .before .before .before .loop in
+    let b = r .restore-step .ensures in
+    let k = c .keep-step .ensures in
+    let next = turn (l .inv .2) (l .inv .3) (r .before .before .before .before .loop-test .taken) (r .before .before .if1 .taken) _ (b .table) _ _
+    (rw (k .0) at (k .1)) in
+    (omega (arith, k .1 .most), b .size ∙ l .inv .1, rw (k .0) (next .0), rw (k .0) (next .1))
 
 loop-again-2 : tie.Need-loop-again-2 Inv-loop μ-loop
 loop-again-2 c =
-    let l = c .before .before .loop in
-    (omega arith, l .inv .1, l .inv .2, candidates-skip (l .inv .3) (c .before .loop-test .taken) (c .if1 .left))
+    let l = c .before .before .before .loop in
+    (omega arith, l .inv .1, l .inv .2, candidates-skip (l .inv .3) (c .before .before .loop-test .taken) (c .if1 .left))
 
 returns : tie.Need-returns Inv-loop μ-loop
 returns c =
@@ -80,20 +73,14 @@ repair-steps-spec =
     (tie.spec
     Inv-loop
     μ-loop
-    first-candidates-requires
-    loop-holds
+    (λ c. (omega arith, refl, progress-begins (c .pre .0), c .pre .1))
     (λ c. omega (arith, able-most (c .before .loop .inv .2 .able)))
     (λ c. omega (arith, able-most (c .before .loop .inv .2 .able)))
-    (λ c. omega (arith, able-most (c .before .before .loop .inv .2 .able)))
-    (λ c. omega (arith, able-most (c .before .before .loop .inv .2 .able)))
-    (λ c. omega (arith, able-most (c .before .before .loop .inv .2 .able)))
-    (λ c. omega (arith, able-most (c .before .before .loop .inv .2 .able)))
     restore-step-requires
-    (λ c. omega (arith, able-most (c .before .before .before .before .before .loop .inv .2 .able)))
-    want-targets-requires
+    keep-step-requires
     loop-less
     loop-again
-    (λ c. omega (arith, able-most (c .before .before .loop .inv .2 .able)))
+    (λ c. omega (arith, able-most (c .before .before .before .loop .inv .2 .able)))
     (λ c. omega arith)
     loop-again-2
     returns)

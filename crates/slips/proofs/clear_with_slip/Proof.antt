@@ -9,10 +9,10 @@ use Rattle.finite.specs.Below.{count}
 use Rattle.table.specs.declared.Answer.the-variants.{Refused}
 use Rattle.table.specs.Table.{Table}
 use Rattle.table.specs.Clear.{cleared, clearRefusal}
-use Rattle.table.proofs.Calls.{clear-fits}
+use Rattle.table.proofs.Calls.{clear-fits, clear-sound}
 use Rattle.table.proofs.Sound.{sound-test}
 use Rattle.image.specs.Slip.{changed, slip, slipSize, slipLength, SlipOutcome}
-use Rattle.image.proofs.TakenBack.{Led, cleared-led, clear-sound, slip-refused, slip-short, slip-fits, slip-made}
+use Rattle.image.proofs.TakenBack.{Led, cleared-led, slip-refused, slip-short, slip-fits, slip-made}
 use Rattle.words.specs.Words.{words, tableOf, wordsOf}
 use Rattle.words.proofs.Laws.{words-table}
 use Rattle.pairs.specs.Parts.{SoundPair}

@@ -15,12 +15,12 @@ use Rattle.table.specs.Table.{Table, withLinks}
 use Rattle.table.specs.Sound.{Sound}
 use Rattle.table.specs.Answer.{Outcome, slipNotAccepted, secondOf}
 use Rattle.table.specs.Clear.{cleared, clearRefusal}
-use Rattle.table.proofs.Calls.{ClearFits, clear-fits}
+use Rattle.table.proofs.Calls.{ClearFits, clear-fits, clear-sound}
 use Rattle.table.proofs.Sound.{sound-test}
 use Rattle.image.specs.Image.{recordSize, words, counted}
 use Rattle.image.specs.Slip.{changed, pairsBelow, slip, slipStep, slipExit, slipCount, rebuilt, clearedAgain, takeBackRefusal, takeBackCall}
 use Rattle.image.proofs.Slips.{slip-length, slip-count, slip-low, slip-pairs, pairs-slip, head-bytes, length-pairs}
-use Rattle.image.proofs.TakenBack.{Taken, again-made, taken-accepted, not-taken, clear-sound}
+use Rattle.image.proofs.TakenBack.{Taken, again-made, taken-accepted, not-taken}
 use Rattle.words.specs.Words.{words as wordCount, tableOf, wordsOf}
 use Rattle.words.proofs.Laws.{words-table}
 use Rattle.words.proofs.Refusals.{table-passed, table-stopped, refused-answer, refused-words, given-answer, given-words}

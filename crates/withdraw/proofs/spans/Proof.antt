@@ -17,7 +17,7 @@ withdraw-step-requires c κs =
     let t = tableOf (s .args .t .now) in
     let n = c .before .before .counters-of .ensures in
     let size = shape-table (s .args .t .now) (c .before .before .before .sized .ensures) .counts in
-    (omega arith, s .pre, (t .counts, ((λ (q : ℕ). 0), rw n (search-mark (begin-spans t (s .pre) size)))))
+    (omega arith, s .pre, (t .counts, (0, (λ (q : ℕ). 0), rw n (search-mark (begin-spans t (s .pre) size)))))
 
 returns : tie.Need-returns
 returns c =

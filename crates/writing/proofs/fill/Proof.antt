@@ -7,9 +7,9 @@ use lib.ListN.{length, drop}
 use borrow.Author.Needs.{needs}
 use Rattle.table.specs.declared.Answer.the-variants.{Refused, Given}
 use Rattle.table.specs.Table.{Table}
-use Rattle.table.specs.Answer.{tooShort, first}
+use Rattle.table.specs.Answer.{WriteOutcome, tooShort, first}
 use Rattle.table.proofs.Sound.{test-sound}
-use Rattle.image.specs.Image.{Edition, WriteOutcome, image, imageSize, imageLength, put, roomTests}
+use Rattle.image.specs.Image.{Edition, image, imageSize, imageLength, put, roomTests}
 use Rattle.image.proofs.Laws.{put-made, put-refused, room-fits, room-short}
 use Rattle.words.specs.Words.{tableOf}
 use Rattle.records.specs.Parts.{editionOf}

@@ -6,10 +6,10 @@ use lib.ListN.{length}
 use borrow.Author.Needs.{needs}
 use Rattle.table.specs.Table.{Table}
 use Rattle.table.specs.declared.Answer.the-variants.{Refused}
-use Rattle.table.specs.Answer.{first}
+use Rattle.table.specs.Answer.{WriteOutcome, first}
 use Rattle.table.specs.Calls.{tableTests}
 use Rattle.table.proofs.Sound.{sound-test}
-use Rattle.image.specs.Image.{WriteOutcome, writtenEdition, put, roomTests, writeRefusal, writeCall}
+use Rattle.image.specs.Image.{writtenEdition, put, roomTests, writeRefusal, writeCall}
 use Rattle.image.proofs.Laws.{put-refused}
 use Rattle.words.specs.Words.{tableOf}
 use Rattle.words.proofs.Refusals.{table-passed, past-table, table-stopped}

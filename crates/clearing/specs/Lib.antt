@@ -1,0 +1,2 @@
+-- What the functions of clear hand to each other.
+pub mod Clearing
