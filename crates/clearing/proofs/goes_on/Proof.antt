@@ -30,11 +30,14 @@ own : (c : tie.After-own-at) → let a = begun (c .before .before) .args in
     c .own-at .result ≡ ownBit (tableOf (a .t .now)) (targetOf (tableOf (a .t .now)) (a .i) (a .e))
 own c = let r = c .before .before in c .own-at .ensures ∙ ap (ownBit (tableOf (begun r .args .t .now))) (target r)
 
+weak : (c : tie.Then1) → c .before .before .bit-at .result ≡ c .before .own-at .result → ⊥
+weak c = c .if1 .taken
+
 returns : tie.Need-returns
 returns c =
     let b = c .before .before in
     let s = begun (b .before) in
-    sym (weak-stops _ (s .pre .0) _ _ (s .pre .1) (λ q. c .if1 .taken (b .bit-at .ensures ∙ q ∙ sym (own (c .before)))))
+    sym (weak-stops _ (s .pre .0) _ _ (s .pre .1) (λ q. weak c (b .bit-at .ensures ∙ q ∙ sym (own (c .before)))))
 
 counter-at-requires : tie.Need-counter-at-requires
 counter-at-requires c κs =
