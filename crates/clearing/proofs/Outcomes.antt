@@ -9,7 +9,7 @@ use native.Mathlib.Omega.{arith}
 use lib.ListN.{length, getD, drop, List·getD-eq-default}
 use lib.Seq.{getD-set-same}
 use lib.Dec.{eqb, ltb}
-use borrow.Author.Tests.{eq-eqb, ne-eqb, lt-ltb, le-ltb, lt-leb}
+use borrow.Author.Tests.{eq-eqb, ne-eqb, lt-ltb, le-ltb}
 use Rattle.finite.specs.Below.{one, count, tabulate, those}
 use Rattle.finite.specs.Reach.{marked, reach}
 use Rattle.finite.proofs.Bools.{and-left, clash, refute, not-true-false, not-false-true}
@@ -18,9 +18,9 @@ use Rattle.finite.proofs.Select.{tabulate-entries}
 use Rattle.finite.proofs.Those.{length-those, those-ext}
 use Rattle.table.specs.declared.Answer.{Answer}
 use Rattle.table.specs.declared.Answer.the-variants.{Refused, Given}
-use Rattle.table.specs.Table.{Table, places, exits, counterPlace, inUse, ownBit, targetOf, linkBit, counterOf, holds, strong, linked, stronglyLinked, withLinks}
+use Rattle.table.specs.Table.{Table, places, counterPlace, inUse, ownBit, targetOf, linkBit, counterOf, strong, linked, stronglyLinked, withLinks}
 use Rattle.table.specs.Sound.{Sound}
-use Rattle.table.specs.Answer.{WriteOutcome, exitEmpty, tooShort, first}
+use Rattle.table.specs.Answer.{WriteOutcome, tooShort, first}
 use Rattle.table.specs.Calls.{lowered, raised, relink}
 use Rattle.table.specs.Clear.{Repair, emptied, heldStrongly, stops, doubtful, repair, repairOf, unlinked, blanked, eachDoubtful, release, size, repaired, cleared, clearRefusal}
 use Rattle.table.specs.Clear
@@ -28,7 +28,6 @@ use Rattle.table.specs.Preview.{isFreed, wouldGo, previewRoom, previewRefusal, 
 use Rattle.table.proofs.Links.{holds-target, bit-strong}
 use Rattle.table.proofs.Relink.{counter-place-below}
 use Rattle.table.proofs.Formed.{Formed, sound-formed}
-use Rattle.table.proofs.Sound.{sound-test}
 use Rattle.table.proofs.Edits.{weak-bit}
 use Rattle.table.proofs.Calls.{ClearFits}
 use Rattle.table.proofs.Preview.{preview-order, preview-made, preview-refused-as, go-length, go-fits, go-none, go-marked, doubtful-links}
@@ -39,6 +38,7 @@ use Rattle.withdraw.proofs.Doubtful.{losing-formed}
 use Rattle.repairing.specs.Repairing.{underRepair, isOne, asMarks, Repairable, Candidates, Settling}
 use Rattle.repairing.proofs.Laws.{marks-at}
 use Rattle.repairing.proofs.Repairs.{wanted-in, candidates-begin}
+use Rattle.edits.proofs.Laws.{accepted}
 use Rattle.clearing.specs.Clearing.{Searched}
 
 -- The marks that the search hands back are the definition's.
@@ -149,16 +149,6 @@ module _ {u v : Table} {n : ℕ} {doubt₀ wanted doubt : List ℕ} (m : Mended 
   -- where no mark is left, nothing is to be freed
   pub repaired-whole : size (asMarks n doubt) n ≡ 0 → v ≡ repaired u .table
   repaired-whole z = release-none v (asMarks n doubt) (ap (size (asMarks n doubt)) (m .capacity) ∙ z) ∙ repaired-table
-
--- The last refusal, and none.
-module _ (t : Table) (i e : ℕ) (s : Sound t) (p : (inUse t i ≡ true) × (e < exits)) where
-  pub empty-stopped : holds t i e ≡ false → exitEmpty ≡ clearRefusal t i e
-  unfolding clearRefusal first
-  empty-stopped h = rw (sound-test t s, p .0, lt-leb exits e (p .1), h)
-
-  pub accepted : holds t i e ≡ true → 0 ≡ clearRefusal t i e
-  unfolding clearRefusal first
-  accepted h = rw (sound-test t s, p .0, lt-leb exits e (p .1), h)
 
 same-size : (t : Table) (i e : ℕ) {n : ℕ} → n ≡ t .capacity → n ≡ emptied t i e .capacity
 same-size t i e q = q ∙ (unfold emptied relink withLinks in refl)

@@ -5,7 +5,7 @@ ghost use mathlib.Core.List.{_++_};
 ghost use Prim.Native.Nat.{_≤_};
 ghost use lib.ListN.{length, drop};
 ghost use Rattle.table.specs.Sound.{Sound};
-ghost use Rattle.table.specs.Clear.{stops, repaired, cleared, clearRefusal, clearCall};
+ghost use Rattle.table.specs.Clear.{stops, repaired, cleared, clearCall};
 ghost use Rattle.table.specs.Preview.{wouldGo, previewRoom, previewCall};
 ghost use Rattle.table.proofs.Calls.{ClearFits};
 ghost use Rattle.words.specs.Words.{tableOf, wordsOf, Becomes};
@@ -88,24 +88,6 @@ fn preview_exit(t: &[u16; WORDS], i: usize, e: usize, buffer: &mut [u8]) -> Answ
     Answer::Given(doubts, freed)
 }
 
-// The refusal of a clearing, or 0.
-pub fn clear_refusal(t: &[u16; WORDS], step: u16, exit: u16) -> u16
-    ensures { λ r. ⌜ r ≡ clearRefusal (tableOf (now (t .entry))) step exit ⌝ }
-{
-    let unsound = soundness::table_refusal(t);
-    if unsound != 0 {
-        return unsound;
-    }
-    let refusal = edits::exit_refusal(t, step, exit);
-    if refusal != 0 {
-        return refusal;
-    }
-    if words::target_at(t, words::wide(step), words::wide(exit)) == 0 {
-        return words::EXIT_EMPTY;
-    }
-    0
-}
-
 // Clears an exit: the link in it is taken out, and the steps that nothing leads to any more are freed. The answer counts the steps that were
 // doubtful and those that were freed. A refused one leaves the table as it was.
 pub fn clear(t: &mut [u16; WORDS], step: u16, exit: u16) -> Answer
@@ -113,7 +95,7 @@ pub fn clear(t: &mut [u16; WORDS], step: u16, exit: u16) -> Answer
     ensures table { λ r. ⌜ now (t .exit) ≡ wordsOf (clearCall (tableOf (now (t .entry))) step exit .table) ⌝ }
 {
     words::sized(t);
-    let refusal = clear_refusal(t, step, exit);
+    let refusal = edits::clear_refusal(t, step, exit);
     if refusal != 0 {
         return Answer::Refused(refusal);
     }
@@ -126,7 +108,7 @@ pub fn preview_clear(t: &[u16; WORDS], step: u16, exit: u16, buffer: &mut [u8]) 
     ensures answer { λ r. ⌜ r ≡ previewCall (tableOf (now (t .entry))) step exit (now (buffer .entry)) .answer ⌝ }
     ensures written { λ r. ⌜ now (buffer .exit) ≡ previewCall (tableOf (now (t .entry))) step exit (now (buffer .entry)) .buffer ⌝ }
 {
-    let stopped = clear_refusal(t, step, exit);
+    let stopped = edits::clear_refusal(t, step, exit);
     if stopped != 0 {
         return Answer::Refused(stopped);
     }

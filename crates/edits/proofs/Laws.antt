@@ -3,24 +3,28 @@
 --   find-turn find-none find-here   one turn of a search, and where it ends
 --   said-true said-false   a Bool that code found, and tested by `!`
 --   unused-above    no step past the places is in use
+--   empty-stopped accepted   the last refusal of a clearing, and none
+--   link-stopped link-past   the refusals of link: its source's, then the second exit's
 --   exit-passed exit-stopped   what a refusal of a step and its exit that is 0, or is not, says of the conditions
 use mathlib.Core.Path.{_≡_, refl, sym, _∙_, ap}
-use mathlib.Core.Bool.{Bool, true, false, not}
+use mathlib.Core.Bool.{Bool, true, false, not, cond}
 use mathlib.Core.Logic.{⊎-elim}
-use mathlib.Core.List.{List, _∷_}
+use mathlib.Core.List.{List, [], _∷_}
 use Prim.Native.Nat.{ℕ, zero, suc, _+_, _-_, _≤_, _<_}
 use native.Mathlib.Omega.{arith}
-use lib.Dec.{leb, ltb}
-use borrow.Author.Tests.{leb-false, ltb-true}
+use lib.Dec.{eqb, leb, ltb}
+use borrow.Author.Tests.{eq-eqb, ne-eqb, leb-false, lt-leb, ltb-true}
 use Rattle.finite.specs.Below.{find}
 use Rattle.finite.proofs.Bools.{test, refute, not-true-false, not-false-true}
 use Rattle.finite.proofs.Below.{find-hit, find-miss}
-use Rattle.table.specs.Table.{Table, places, exits, inUse}
-use Rattle.table.specs.Sound.{Shape}
-use Rattle.table.specs.Answer.{notInUse, badExit, first}
-use Rattle.table.specs.Calls.{after}
+use Rattle.table.specs.Table.{Table, places, exits, inUse, holds}
+use Rattle.table.specs.Sound.{Shape, Sound}
+use Rattle.table.specs.Answer.{notInUse, badExit, exitFilled, exitEmpty, first}
+use Rattle.table.specs.Calls.{after, linkRefusal}
+use Rattle.table.specs.Clear.{clearConditions, clearRefusal}
 use Rattle.table.proofs.Links.{used-place}
-use Rattle.table.proofs.Calls.{nonzero, first-zero}
+use Rattle.table.proofs.Calls.{nonzero, first-zero, first-append}
+use Rattle.table.proofs.Sound.{sound-test}
 use Rattle.edits.specs.Parts.{exitRefusal}
 
 -- a number of the circle has a place
@@ -73,3 +77,28 @@ exit-stopped t i e xs d =
     ⊎-elim (λ (l : leb exits e ≡ true). rw (u, l)) (λ (l : leb exits e ≡ false). absurd (d (rw (u, l)))) (test (leb exits e)))
     (λ (u : inUse t i ≡ false). rw u)
     (test (inUse t i))
+
+-- a clearing's last refusal, and none
+module _ (t : Table) (i e : ℕ) (s : Sound t) (p : (inUse t i ≡ true) × (e < exits)) where
+  pub empty-stopped : holds t i e ≡ false → exitEmpty ≡ clearRefusal t i e
+  unfolding clearRefusal first
+  empty-stopped h = rw (sound-test t s, p .0, lt-leb exits e (p .1), h)
+
+  pub accepted : holds t i e ≡ true → 0 ≡ clearRefusal t i e
+  unfolding clearRefusal first
+  accepted h = rw (sound-test t s, p .0, lt-leb exits e (p .1), h)
+
+-- link asks of its source what a clearing asks, and then for the second exit
+abbrev secondConditions : Table → ℕ → ℕ → List (Bool × ℕ)
+secondConditions t second f = (not (inUse t second), notInUse) ∷ (leb exits f, badExit) ∷ (holds t second f, exitFilled) ∷ []
+
+module _ (t : Table) (source e second f : ℕ) where
+  link-order : linkRefusal t source e second f ≡ cond (eqb (clearRefusal t source e) 0) (first (secondConditions t second f)) (clearRefusal t source e)
+  unfolding linkRefusal clearRefusal
+  link-order = first-append (clearConditions t source e) (secondConditions t second f) (unfold nonzero in refl)
+
+  pub link-stopped : (clearRefusal t source e ≡ 0 → ⊥) → linkRefusal t source e second f ≡ clearRefusal t source e
+  link-stopped d = link-order ∙ rw (ne-eqb (clearRefusal t source e) 0 d)
+
+  pub link-past : clearRefusal t source e ≡ 0 → linkRefusal t source e second f ≡ first (secondConditions t second f)
+  link-past z = link-order ∙ rw (eq-eqb (clearRefusal t source e) 0 z)

@@ -5,6 +5,7 @@ ghost use Prim.Native.Nat.{_≤_, _<_};
 ghost use Rattle.table.specs.Table.{places, inUse, stepsInUse};
 ghost use Rattle.table.specs.Sound.{Sound};
 ghost use Rattle.table.specs.Calls.{freshTable, refusedTable, freshCall, after, numberGiven, addRefusal, addCall, linkRefusal, linkCall, fieldsOf, noFields, readRefusal, readCall};
+ghost use Rattle.table.specs.Clear.{clearRefusal};
 ghost use Rattle.words.specs.Words.{tableOf, wordsOf};
 ghost use Rattle.edits.specs.Parts.{exitRefusal, stepRefusal};
 use table::Answer;
@@ -83,6 +84,24 @@ pub fn exit_refusal(t: &[u16; WORDS], step: u16, exit: u16) -> u16
     }
     if EXITS <= wide(exit) {
         return BAD_EXIT;
+    }
+    0
+}
+
+// The refusal of a clearing, or 0; link asks the same of its source.
+pub fn clear_refusal(t: &[u16; WORDS], step: u16, exit: u16) -> u16
+    ensures { λ r. ⌜ r ≡ clearRefusal (tableOf (now (t .entry))) step exit ⌝ }
+{
+    let unsound = soundness::table_refusal(t);
+    if unsound != 0 {
+        return unsound;
+    }
+    let refusal = exit_refusal(t, step, exit);
+    if refusal != 0 {
+        return refusal;
+    }
+    if words::target_at(t, wide(step), wide(exit)) == 0 {
+        return EXIT_EMPTY;
     }
     0
 }
@@ -280,16 +299,9 @@ pub fn add(
 fn link_refusal(t: &[u16; WORDS], source: u16, from: u16, second: u16, into: u16) -> u16
     ensures { λ r. ⌜ r ≡ linkRefusal (tableOf (now (t .entry))) source from second into ⌝ }
 {
-    let refusal = soundness::table_refusal(t);
+    let refusal = clear_refusal(t, source, from);
     if refusal != 0 {
         return refusal;
-    }
-    let refusal = exit_refusal(t, source, from);
-    if refusal != 0 {
-        return refusal;
-    }
-    if words::target_at(t, wide(source), wide(from)) == 0 {
-        return EXIT_EMPTY;
     }
     let refusal = exit_refusal(t, second, into);
     if refusal != 0 {

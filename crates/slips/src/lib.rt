@@ -49,7 +49,7 @@ pub fn clear_with_slip(t: &mut [u16; WORDS], step: u16, exit: u16, buffer: &mut 
     ensures written { λ r. ⌜ now (buffer .exit) ≡ clearSlipCall (tableOf (now (t .entry))) step exit (now (buffer .entry)) .buffer ⌝ }
 {
     words::sized(t);
-    let refusal = clearing::clear_refusal(t, step, exit);
+    let refusal = edits::clear_refusal(t, step, exit);
     if refusal != 0 {
         return Answer::Refused(refusal);
     }
@@ -149,7 +149,7 @@ pub fn take_back(t: &mut [u16; WORDS], bytes: &[u8]) -> Answer
     let mut work = *t;
     put_back(&mut work, bytes);
     // The rebuilt table has to be sound, and the exit one that can be cleared.
-    if clearing::clear_refusal(&work, step, exit) != 0 {
+    if edits::clear_refusal(&work, step, exit) != 0 {
         return Answer::Refused(words::SLIP_NOT_ACCEPTED);
     }
     // The bytes have to be the slip of the rebuilt and the present table, so that each new record is the present one.

@@ -1,4 +1,4 @@
--- `clearing::clear_refusal` meets its contract: the refusals in their order. Assumes nothing.
+-- `edits::clear_refusal` meets its contract: the refusals in their order. Assumes nothing.
 use mathlib.Core.Path.{_≡_, sym, _∙_, ap₂}
 use mathlib.Core.Bool.{true}
 use Prim.Native.Nat.{_<_}
@@ -11,10 +11,9 @@ use Rattle.table.specs.Clear.{clearRefusal}
 use Rattle.table.proofs.Links.{used-place, target-holds, target-empty}
 use Rattle.words.specs.Words.{tableOf}
 use Rattle.words.proofs.Refusals.{table-passed, past-table, table-stopped}
-use Rattle.edits.proofs.Laws.{exit-passed, exit-stopped}
-use Rattle.clearing.proofs.Outcomes.{empty-stopped, accepted}
-use Rattle.clearing.proofs.clear_refusal.Statement.{statement}
-use Rattle.clearing.proofs.clear_refusal.Tie as tie
+use Rattle.edits.proofs.Laws.{exit-passed, exit-stopped, empty-stopped, accepted}
+use Rattle.edits.proofs.clear_refusal.Statement.{statement}
+use Rattle.edits.proofs.clear_refusal.Tie as tie
 
 -- The places that a return looks back to: the table was found sound, the step in use and the exit below 4.
 abbrev given : tie.Start → Table
