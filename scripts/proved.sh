@@ -8,14 +8,29 @@ below() {
         END { print n }'
 }
 
+# is_new FILE: whether FILE is there and newer than all sources
+is_new() {
+    [[ -e $1 && -z $(find "$root/crates" "$root/crates.txt" -newer "$1" -type f -print -quit) ]]
+}
+
 # proved FILE NAME COMMAND..: makes FILE, below the root, by the command, which proves the crate NAME; nothing to do where FILE is newer than all
-# sources. Each crate proved is a line on standard error. Where it fails, the end of what the command said is shown.
+# sources. Of two at a time the second waits for the first.
 proved() {
-    local file=$root/$1 name=$2 log
+    local file=$root/$1 lock status
+    shift
+    is_new "$file" && return 0
+    mkdir -p "$root/target" && exec {lock}>"$root/target/proving" && flock "$lock" || return 1
+    is_new "$file" || prove_now "$file" "$@"
+    status=$?
+    exec {lock}>&-
+    return $status
+}
+
+# prove_now FILE NAME COMMAND..: the same without a look at FILE. Each crate proved is a line on standard error. Where it fails, the end of what the
+# command said is shown.
+prove_now() {
+    local file=$1 name=$2 log
     shift 2
-    if [[ -e $file && -z $(find "$root/crates" "$root/crates.txt" -newer "$file" -type f -print -quit) ]]; then
-        return 0
-    fi
     log=$(mktemp) || return 1
     echo "proving $name and what it stands on, $(below "$name") crates: this takes minutes, once" >&2
     if (cd "$root" && set -o pipefail && "$@" 2>&1 | tee "$log" |
