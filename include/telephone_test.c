@@ -782,7 +782,7 @@ static void keyed_cabins(void) {
     REFUSED(15, m, plan_key_line(&m.table, line, 12));
 }
 
-/* What soundness asks of cabins: each of these tables fails one clause. */
+/* What soundness asks of cabins: each of these tables fails one clause, but the last, whose guarantees leave too few free steps too. */
 static void unsound_cabins(void) {
     static const plan_quota quotas[PLAN_CABINS] = {{1, 2}, {2, 3}, {0, 0}, {0, 5}};
     lent m = f4(), tables[9];
@@ -797,7 +797,7 @@ static void unsound_cabins(void) {
     tables[2].table.cabins[0] = 3;
     tables[3].table.cabins[3] = 3;
     tables[4].table.cabins[127] = 1;
-    tables[5].table.quotas[7].guarantee = 1;
+    tables[5].table.quotas[1].limit = 1;
     tables[6].table.quotas[3].limit = 1;
     tables[7].table.quotas[1].guarantee = 3;
     tables[8].table.quotas[2].guarantee = 65533, tables[8].table.quotas[2].limit = 65535;

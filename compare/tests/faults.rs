@@ -178,6 +178,7 @@ fn named() -> Vec<(Fault, Found)> {
         (AlarmCharged, ways(&[Add, KeyLine], &[&[Refusal], added])),
         (LimitPassed, ways(&[Add, KeyLine], &[&[Refusal], added])),
         (ReservedTaken, ways(&[Add, KeyLine], &[added])),
+        (LimitBeforeFull, ways(&[Add, KeyLine], &[&[Refusal]])),
         (ReservedBeforeLimit, ways(&[Add, KeyLine], &[&[Refusal]])),
         (GuaranteeRefused, ways(&[Add, KeyLine], &[added])),
         (SumIn16Bits, &ways(&[Fresh], &[&[Refusal, Table]]) | &ways(&[Squeeze], &[&[Refusal]])),

@@ -110,8 +110,7 @@ fn every_small_table() {
         every_exit(&table, &mut seen);
         tables += 1;
     }
-    println!("{tables} tables");
-    assert!(tables > 5000);
+    assert_eq!(tables, 5184);
     seen.met(400);
 }
 

@@ -292,6 +292,7 @@ pub fn edit_refusal(table: &Table, command: Command, fault: Fault) -> u16 {
             match fault {
                 Fault::SwappedRefusals => order.swap(4, 5),
                 Fault::CabinAfterHolder => order.swap(1, 2),
+                Fault::LimitBeforeFull => order.swap(6, 7),
                 _ => {}
             }
         }

@@ -44,6 +44,8 @@ pub enum Fault {
     LimitPassed,
     /// Add takes a free step that is reserved for other cabins.
     ReservedTaken,
+    /// Add looks at the cabin's limit before the room.
+    LimitBeforeFull,
     /// Add looks at the reserved steps before the limit.
     ReservedBeforeLimit,
     /// A cabin below its guarantee is refused too, where all free steps are guaranteed to some

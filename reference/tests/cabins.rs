@@ -151,7 +151,7 @@ fn which_comes_first() {
     // With a limit of 2, 15 alone is left.
     let mut t = table(3, list(&[[0, 2], [1, 1]]));
     assert_eq!([0, 1].map(|exit| add_at(&mut t, exit, 0)), [0, 15]);
-    // The table is full, and cabin 0 is at its limit.
+    // The table is full, and cabin 1 is at its limit.
     assert_eq!((add_at(&mut t, 1, 1), add_at(&mut t, 2, 0), add_at(&mut t, 2, 1)), (0, 8, 8));
     // At the limit, with places that nobody is guaranteed.
     let mut t = table(8, list(&[[1, 1], [1, 1]]));

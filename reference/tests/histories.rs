@@ -208,6 +208,7 @@ fn every_fault_is_found() {
         Fault::AlarmCharged,
         Fault::LimitPassed,
         Fault::ReservedTaken,
+        Fault::LimitBeforeFull,
         Fault::ReservedBeforeLimit,
         Fault::GuaranteeRefused,
         Fault::SumIn16Bits,

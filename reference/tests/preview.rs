@@ -319,8 +319,7 @@ fn every_small_table() {
             found[3] += usize::from(freed > 0 && freed < doubtful);
         }
     }
-    println!("{tables} tables: {found:?}");
-    assert!(tables > 1000 && found.iter().all(|&found| found > 100), "{tables} {found:?}");
+    assert!(tables == 5184 && found.iter().all(|&found| found > 100), "{tables} {found:?}");
 }
 
 #[test]

@@ -22,65 +22,48 @@ use Rattle.table.proofs.Calls.{unless-zero, unless-refused}
 use Rattle.keyline.specs.declared.Command.the-variants.{Add, Link, Clear, Count}
 use Rattle.keyline.specs.declared.Decoded.{Decoded}
 use Rattle.keyline.specs.declared.Decoded.the-variants.{Line, Nothing}
-use Rattle.keyline.specs.Keys.{decode, callDigit, spokenCounts, perform, performLine, keyCall}
-use Rattle.history.specs.History.{Call, Heard, fresh, keyLine, heardAs, callOf, run, ran, isTold, withTold, heardBy, drawnBy, firstTable, firstPlan}
+use Rattle.keyline.specs.Keys.{decode, spokenCounts, perform, performLine, keyCall}
+use Rattle.history.specs.History.{Call, Said, freed, Heard, fresh, keyLine, saidBy, heardOf, commandSays, lineSays, run, ran, isTold, withTold, heardBy, drawnBy, firstTable, firstPlan}
 use Rattle.history.proofs.Demand3.{demand-3}
 use Rattle.session.specs.Session.{keysTable, linesOf, threeNumbers, printed, answers, keysOutput}
-use Rattle.claims.specs.Keys.{keyed, drawnLine, drawnLines, KeysDemand}
+use Rattle.claims.specs.Keys.{keyed, drawnFirst, drawnSecond, drawnLine, drawnLines, KeysDemand}
 
--- what an answer of the call has beside what is heard of it: the first number of a clearing, and nothing else
-record Told (call : ℕ) (a : Answer) : Type 0 where
-  one : firstOf a ≡ cond (eqb call 3 && eqb (refusalOf a) 0) (firstOf a) (heardAs call a .given + heardAs call a .spokenUsed)
-  two : secondOf a ≡ heardAs call a .freed + heardAs call a .spokenFree
+-- the two numbers of an answer are drawn from what it says: d, which is the first number, serves a clearing only
+record Drawn (says : ℕ → ℕ → Said) (a : Answer) : Type 0 where
+  one : firstOf a ≡ drawnFirst (saidBy says a) (firstOf a)
+  two : secondOf a ≡ drawnSecond (saidBy says a)
 
-told-refused : (call n : ℕ) → Told call (Refused n)
-unfolding heardAs firstOf secondOf refusalOf
-told-refused call n = record { one = zeros (eqb call 3 && eqb n 0) (eqb call 1) (eqb call 4); two = sums (eqb call 3) (eqb call 4) }
-  where
-    sums : (a b : Bool) → 0 ≡ cond a 0 0 + cond b 0 0
-    sums true true = refl
-    sums true false = refl
-    sums false true = refl
-    sums false false = refl
-
-    zeros : (c a b : Bool) → 0 ≡ cond c 0 (cond a 0 0 + cond b 0 0)
-    zeros true a b = refl
-    zeros false a b = sums a b
+drawn-refused : (says : ℕ → ℕ → Said) (n : ℕ) → Drawn says (Refused n)
+unfolding saidBy firstOf secondOf drawnFirst drawnSecond
+drawn-refused says n = record { one = refl; two = refl }
 
 -- a refusal, or the outcome
-told-unless : (call n : ℕ) (t : Table) (o : Outcome) → Told call (o .answer) → Told call (unless n t o .answer)
-told-unless call n t o h =
+drawn-unless : (says : ℕ → ℕ → Said) (n : ℕ) (t : Table) (o : Outcome) → Drawn says (o .answer) → Drawn says (unless n t o .answer)
+drawn-unless says n t o h =
     ⊎-elim
     (λ (z : n ≡ 0). rw (unless-zero n t o z) h)
-    (λ (d : n ≡ 0 → ⊥). rw (unless-refused n t o d) (told-refused call n))
+    (λ (d : n ≡ 0 → ⊥). rw (unless-refused n t o d) (drawn-refused says n))
     (eq-or-ne n 0)
 
-told-line : (t : Table) (d : Decoded) → Told (callOf d) (performLine t d .answer)
-unfolding callOf callDigit performLine perform
-told-line t Nothing = told-refused 0 _
-told-line t (Line (Add holder e kind content)) =
-    (unfold addCall in told-unless 1 _ t _ (unfold heardAs firstOf secondOf refusalOf in record { one = omega arith; two = refl }))
-told-line t (Line (Link source e second f)) =
-    (unfold linkCall in told-unless 2 _ t _ (unfold heardAs firstOf secondOf refusalOf in record { one = refl; two = refl }))
-told-line t (Line (Clear i e)) = clear (clearCall t i e .answer)
+drawn-line : (t : Table) (d : Decoded) → Drawn (lineSays d) (performLine t d .answer)
+unfolding lineSays commandSays performLine perform addCall linkCall spokenCounts saidBy firstOf secondOf drawnFirst drawnSecond
+drawn-line t Nothing = drawn-refused _ _
+drawn-line t (Line (Add holder e kind content)) = drawn-unless _ _ t _ (record { one = refl; two = refl })
+drawn-line t (Line (Link source e second f)) = drawn-unless _ _ t _ (record { one = refl; two = refl })
+drawn-line t (Line (Clear i e)) = clear (clearCall t i e .answer)
   where
-    clear : (a : Answer) → Told 3 a
-    clear (Refused n) = told-refused 3 n
-    clear (Given a b) = unfold heardAs firstOf secondOf refusalOf in record { one = refl; two = omega arith }
-told-line t (Line Count) = unfold spokenCounts heardAs firstOf secondOf refusalOf in record { one = omega arith; two = omega arith }
-
-told-key : (t : Table) (l : List ℕ) → Told (callOf (decode l)) (keyCall t l .answer)
-unfolding keyCall
-told-key t l = told-unless (callOf (decode l)) _ t (performLine t (decode l)) (told-line t (decode l))
+    clear : (a : Answer) → Drawn (λ a b. freed b) a
+    clear (Refused n) = drawn-refused _ n
+    clear (Given a b) = record { one = refl; two = refl }
+drawn-line t (Line Count) = record { one = refl; two = refl }
 
 -- the line printed is the line drawn of what is heard
 line-drawn : (t : Table) (l : List ℕ) →
-    printed (keyCall t l .answer) ≡ drawnLine l (heardAs (callOf (decode l)) (keyCall t l .answer)) (firstOf (keyCall t l .answer))
-unfolding printed drawnLine
+    printed (keyCall t l .answer) ≡ drawnLine (heardOf (lineSays (decode l)) (keyCall t l .answer)) (firstOf (keyCall t l .answer))
+unfolding keyCall printed drawnLine heardOf
 line-drawn t l =
-    let a = keyCall t l .answer in
-    let h = told-key t l in
-    ap₂ (threeNumbers (refusalOf a)) (h .one) (h .two) ∙ (unfold heardAs in refl)
+    let h = drawn-unless (lineSays (decode l)) _ t (performLine t (decode l)) (drawn-line t (decode l)) in
+    ap₂ (threeNumbers (refusalOf (keyCall t l .answer))) (h .one) (h .two)
 
 firsts : Table → List (List ℕ) → List ℕ
 firsts t [] = []
@@ -91,7 +74,7 @@ unfolding firsts
 firsts-size t [] = refl
 firsts-size t (l ∷ ls) = ap suc (firsts-size (keyCall t l .table) ls)
 
-answers-drawn : (t : Table) (ls : List (List ℕ)) → answers t ls ≡ drawnLines ls (heardBy t (map keyLine ls)) (firsts t ls)
+answers-drawn : (t : Table) (ls : List (List ℕ)) → answers t ls ≡ drawnLines (heardBy t (map keyLine ls)) (firsts t ls)
 unfolding answers drawnLines firsts heardBy run ran
 answers-drawn t [] = refl
 answers-drawn t (l ∷ ls) = ap₂ _++_ (line-drawn t l) (answers-drawn (keyCall t l .table) ls)
@@ -119,7 +102,7 @@ keys-demand bs =
       lines = firsts-size keysTable (linesOf bs);
       printed =
           answers-drawn keysTable (linesOf bs) ∙
-          ap (λ (hs : List Heard). drawnLines (linesOf bs) hs (firsts keysTable (linesOf bs)))
+          ap (λ (hs : List Heard). drawnLines hs (firsts keysTable (linesOf bs)))
           (ap (λ (u : Table). heardBy u (map keyLine (linesOf bs))) (sym t) ∙ d .heard
           ∙ ap₂ drawnBy p (nothing-told (firstTable (fresh places list)) (linesOf bs)));
     }

@@ -18,7 +18,7 @@ use Rattle.table.specs.Table.{Table}
 use Rattle.table.specs.Calls.{refusedTable}
 use Rattle.table.specs.Clear.{Repair, wanted, repair}
 use Rattle.table.proofs.Same.{table-same}
-use Rattle.history.specs.History.{First, fresh, load, Call, add, link, clear, read, trial, write, keyLine, squeeze, clearSlip, takeBack, preview, onlyRefusal, heardAs, ran, run, tableAfter, firstTable}
+use Rattle.history.specs.History.{First, fresh, load, Call, add, link, clear, read, trial, write, keyLine, squeeze, clearSlip, takeBack, preview, onlyRefusal, heardOf, ran, run, tableAfter, firstTable}
 use Rattle.history.specs.Acts.{Act, begin, call, convert, Done, told, wrote, callDone, doneBy, refusedBy}
 use Rattle.examples.specs.Examples.{takeOne, taken, takeAll, Fact, _is_, seen, Entry, accepts, refuses, actOf, Run, tableLeft, Holds, Shown, doneTests, factsHold, passed, walk, everyRun}
 
@@ -119,7 +119,7 @@ done-run t (takeBack bs) = refl
 done-run t (preview i e buffer) = refl
 
 pub done-refusal : (t : Table) (c : Call) → doneBy t (call c) .refusal ≡ run t c .heard .refusal
-unfolding doneBy callDone told wrote run ran heardAs onlyRefusal
+unfolding doneBy callDone told wrote run ran heardOf onlyRefusal
 done-refusal t (add holder e kind content cabin) = refl
 done-refusal t (link source e second f) = refl
 done-refusal t (clear i e) = refl

@@ -13,13 +13,15 @@ use borrow.Author.Tests.{eq-eqb, ne-eqb, lt-leb}
 use Rattle.finite.specs.Below.{one, count}
 use Rattle.finite.proofs.Bools.{and-intro, and-left, and-right, clash, refute, same-test, not-true-false}
 use Rattle.finite.proofs.Below.{eq-or-ne, count-ext, count-none, count-split, count-same, count-change}
-use Rattle.table.specs.declared.Answer.the-variants.{Given}
+use Rattle.table.specs.declared.Answer.{Answer}
+use Rattle.table.specs.declared.Answer.the-variants.{Refused, Given}
 use Rattle.table.specs.Table.{Table, inUse, cabinOf, stepsInUse, withLinks}
 use Rattle.table.specs.Cabins.{guaranteeOf, limitOf, atLimit, noneToSpare, charged, charge, freeSteps}
 use Rattle.table.specs.Sound.{Sound}
 use Rattle.table.specs.Answer.{Outcome, notSound, notInUse, badExit, exitFilled, exitEmpty, badKind, notKeyLine, full, cabinAtLimit, stepsReserved, badCabins, first, unless, refusalOf, firstOf, secondOf}
 use Rattle.table.specs.Calls.{numberGiven, relink, addConditions, addRefusal, addCall, linkTable, linkCall}
 use Rattle.table.specs.Clear.{emptied, cleared, clearRefusal, clearCall}
+use Rattle.table.specs.Preview.{previewCall}
 use Rattle.table.specs.Squeeze.{squeezeRefusal, squeezeCall}
 use Rattle.table.proofs.Formed.{sound-formed, formed-wired}
 use Rattle.table.proofs.Cabins.{sound-shares, formed-charges, guarantee-free, charged-used, used-charged, Adds, charge-more, charge-stays}
@@ -32,78 +34,61 @@ use Rattle.image.proofs.TakenBack.{slip-outcome, slip-cleared, accepted-taken, 
 use Rattle.keyline.specs.declared.Command.the-variants.{Add, Link, Clear, Count}
 use Rattle.keyline.specs.declared.Decoded.{Decoded}
 use Rattle.keyline.specs.declared.Decoded.the-variants.{Line, Nothing}
-use Rattle.keyline.specs.Keys.{keyCabin, decode, callDigit, spokenCounts, perform, callConditions, lineConditions, performLine, keyCall}
-use Rattle.history.specs.History.{First, Call, add, link, clear, read, trial, write, keyLine, squeeze, clearSlip, takeBack, preview, Heard, onlyRefusal, heardAs, callOf, ran, run, tableAfter, heardBy, firstTable}
+use Rattle.keyline.specs.Keys.{keyCabin, decode, spokenCounts, perform, callConditions, lineConditions, performLine, keyCall}
+use Rattle.history.specs.History.{First, Call, add, link, clear, read, trial, write, keyLine, squeeze, clearSlip, takeBack, preview, Said, silent, number, freed, back, foreseen, spoken, onlyRefusal, saidBy, heardOf, commandSays, lineSays, ran, run, tableAfter, heardBy, firstTable}
 use Rattle.history.specs.Acts.{told}
-use Rattle.history.specs.Accounts.{cabinFor, gave, gone, account, tally}
+use Rattle.history.specs.Accounts.{cabinFor, gone, booked, account, summed, tally}
 use Rattle.history.specs.Demands.{NotFull, GuaranteeDemand, ChargesDemand}
 use Rattle.history.proofs.Demand1.{told-refusal, performed}
-use Rattle.history.proofs.Agree.{cond-same, heard-refused, call-agrees}
+use Rattle.history.proofs.Agree.{call-agrees}
 use Rattle.history.proofs.Demand3.{begun, after-sound}
 
--- what a call did to the charges and to the steps in use, beside what was heard
-record Counts (cabin : ℕ) (t : Table) (h : Heard) (u : Table) : Type 0 where
-  each : (c : ℕ) → charge u c + cond (eqb (h .freed) 0) 0 (gone t u c) ≡ charge t c + cond (eqb cabin c) (gave h) 0 + cond (eqb (h .back) 0) 0 (gone u t c)
-  steps : stepsInUse u + h .freed ≡ stepsInUse t + gave h + h .back
+-- what a call did to the charges and to the steps in use, beside what it said
+record Counts (cabin : ℕ) (t : Table) (s : Said) (u : Table) : Type 0 where
+  each : (c : ℕ) → charge u c ≡ booked c cabin t u (charge t c) s
+  steps : (n : ℕ) → n + 1 ≡ stepsInUse t → summed n s + 1 ≡ stepsInUse u
 
-counts-still : (cabin : ℕ) (t u : Table) (h : Heard) → h .given ≡ 0 → h .freed ≡ 0 → h .back ≡ 0 → ((c : ℕ) → charge u c ≡ charge t c) →
-    stepsInUse u ≡ stepsInUse t → Counts cabin t h u
-unfolding gave
-counts-still cabin t u h g f b same steps =
-    record {
-      each =
-          λ c.
-          let gaves : one (not (eqb (h .given) 0)) ≡ 0 = ap (λ (b : Bool). one (not b)) (eq-eqb _ 0 g) in
-          let left : cond (eqb (h .freed) 0) 0 (gone t u c) ≡ 0 = ap (λ (b : Bool). cond b 0 (gone t u c)) (eq-eqb _ 0 f) in
-          let right : cond (eqb cabin c) (one (not (eqb (h .given) 0))) 0 ≡ 0 =
-          ap (λ (n : ℕ). cond (eqb cabin c) n 0) gaves ∙ cond-same (eqb cabin c) in
-          let none : cond (eqb (h .back) 0) 0 (gone u t c) ≡ 0 = ap (λ (b : Bool). cond b 0 (gone u t c)) (eq-eqb _ 0 b) in
-          let s = same c in
-          omega arith;
-      steps = let gaves : one (not (eqb (h .given) 0)) ≡ 0 = ap (λ (b : Bool). one (not b)) (eq-eqb _ 0 g) in omega arith;
-    }
+-- a call that says nothing leaves both
+counts-still : (cabin : ℕ) (t u : Table) → ((c : ℕ) → charge u c ≡ charge t c) → stepsInUse u ≡ stepsInUse t → Counts cabin t silent u
+unfolding booked summed
+counts-still cabin t u same steps = record { each = same; steps = λ n q. q ∙ sym steps }
 
--- a call that is refused changes nothing
-counts-unless : (cabin digit n : ℕ) (t : Table) (o : Outcome) → (n ≡ 0 → Counts cabin t (heardAs digit (o .answer)) (o .table)) →
-    Counts cabin t (heardAs digit (unless n t o .answer)) (unless n t o .table)
-counts-unless cabin digit n t o f =
+-- and so does one that is refused
+counts-unless : (cabin n : ℕ) (says : ℕ → ℕ → Said) (t : Table) (o : Outcome) → (n ≡ 0 → Counts cabin t (saidBy says (o .answer)) (o .table)) →
+    Counts cabin t (saidBy says (unless n t o .answer)) (unless n t o .table)
+counts-unless cabin n says t o f =
     ⊎-elim (λ (z : n ≡ 0). rw (unless-zero n t o z) (f z))
-    (λ (d : n ≡ 0 → ⊥). rw (unless-refused n t o d, heard-refused digit n) (counts-refused n))
+    (λ (d : n ≡ 0 → ⊥). rw (unless-refused n t o d) (unfold saidBy in counts-still cabin t t (λ c. refl) refl))
     (eq-or-ne n 0)
-  where
-    counts-refused : (n : ℕ) → Counts cabin t (onlyRefusal n) t
-    counts-refused n = unfold onlyRefusal in counts-still cabin t t _ refl refl refl (λ c. refl) refl
 
 module _ {t : Table} (s : Sound t) where
   counts-add : (holder e kind content cabin : ℕ) →
-      Counts cabin t (heardAs 1 (addCall t holder e kind content cabin .answer)) (addCall t holder e kind content cabin .table)
-  unfolding addCall
+      Counts cabin t (saidBy (λ a b. number a) (addCall t holder e kind content cabin .answer)) (addCall t holder e kind content cabin .table)
+  unfolding addCall booked summed
   counts-add holder e kind content cabin =
-      counts-unless cabin 1 (addRefusal t holder e kind content cabin) t _
+      counts-unless cabin (addRefusal t holder e kind content cabin) _ t _
       (λ z.
       let f = add-fits t holder e kind content cabin z in
       let g = number-given s (f .room) in
       let n = numberGiven (t .capacity) (t .last) (λ k. not (inUse t k)) in
+      unfold saidBy in
       made _ _ _
       (adds t s holder e kind content cabin n (f .used) (f .exit) (f .empty) (f .fits) (f .shared) (f .limit) (f .spare) (g .2) (g .1) (g .0)))
     where
-      made : (u : Table) (n cabin : ℕ) → Adds t u n cabin → Counts cabin t (heardAs 1 (Given n 0)) u
-      made u n cabin a =
-          unfold heardAs refusalOf firstOf secondOf gave in
-          let gaves : one (not (eqb n 0)) ≡ 1 = ap (λ (b : Bool). one (not b)) (ne-eqb n 0 (a .nonzero)) in
-          record { each = λ c. charged-more c gaves; steps = more gaves }
+      made : (u : Table) (n cabin : ℕ) → Adds t u n cabin → Counts cabin t (number n) u
+      made u n cabin a = record { each = charged-more; steps = λ m q. let x = more in omega arith }
         where
-          charged-more : (c : ℕ) → one (not (eqb n 0)) ≡ 1 → charge u c + 0 ≡ charge t c + cond (eqb cabin c) (one (not (eqb n 0))) 0 + 0
-          charged-more c gaves =
+          charged-more : (c : ℕ) → charge u c ≡ charge t c + one (eqb cabin c)
+          charged-more c =
               ⊎-elim
               (λ (q : cabin ≡ c).
               let more : charge u c ≡ charge t c + 1 = ap (charge u) (sym q) ∙ charge-more a ∙ ap (λ (k : ℕ). charge t k + 1) q in
-              rw (eq-eqb cabin c q) (omega arith))
+              rw (eq-eqb cabin c q) more)
               (λ (d : cabin ≡ c → ⊥). let stays = charge-stays a c (λ q. d (sym q)) in rw (ne-eqb cabin c d) (omega arith))
               (eq-or-ne cabin c)
 
-          more : one (not (eqb n 0)) ≡ 1 → stepsInUse u + 0 ≡ stepsInUse t + one (not (eqb n 0)) + 0
-          more gaves =
+          more : stepsInUse u ≡ stepsInUse t + 1
+          more =
               unfold stepsInUse in
               let size : count (u .capacity) (inUse u) ≡ count (t .capacity) (inUse u) = ap (λ (k : ℕ). count k (inUse u)) (a .size) in
               let change = count-change (t .capacity) (inUse t) (inUse u) n (a .low) (λ i _ d. a .used-other i d) in
@@ -111,13 +96,14 @@ module _ {t : Table} (s : Sound t) where
               let is : one (inUse u n) ≡ 1 = ap one (a .used) in
               omega arith
 
-  counts-link : (cabin source e second f : ℕ) → Counts cabin t (heardAs 2 (linkCall t source e second f .answer)) (linkCall t source e second f .table)
+  counts-link : (cabin source e second f : ℕ) →
+      Counts cabin t (saidBy (λ a b. silent) (linkCall t source e second f .answer)) (linkCall t source e second f .table)
   unfolding linkCall
   counts-link cabin source e second f =
-      counts-unless cabin 2 _ t _
+      counts-unless cabin _ _ t _
       (λ z.
-      unfold heardAs refusalOf firstOf secondOf in
-      counts-still cabin t _ _ refl refl refl (λ c. unfold charge charged inUse cabinOf linkTable relink withLinks in refl)
+      unfold saidBy in
+      counts-still cabin t _ (λ c. unfold charge charged inUse cabinOf linkTable relink withLinks in refl)
       (unfold stepsInUse inUse linkTable relink withLinks in refl))
 
   -- the steps that a clearing frees leave their cabins' charges
@@ -166,108 +152,94 @@ module _ {t : Table} (s : Sound t) where
             let r = charged-used t c k (and-left (charged t c k) _ y) in
             used-charged v c k u (r .1) (cabin-kept k u ∙ r .2))
 
-    -- where none is freed, none is gone
-    none-gone : clear-cleared s i e g .1 ≡ 0 → (c : ℕ) → gone t v c ≡ 0
-    unfolding gone stepsInUse
-    none-gone f c =
-        let size′ : count (v .capacity) (inUse v) ≡ count (t .capacity) (inUse v) = ap (λ (n : ℕ). count n (inUse v)) size in
-        let even : count (t .capacity) (inUse t) ≤ count (t .capacity) (inUse v) = (unfold stepsInUse in (let x = fall in omega arith)) in
-        count-none (t .capacity) _
-        (λ k l.
-        refute _
-        (λ y.
-        let u = charged-used t c k (and-left (charged t c k) _ y) .0 in
-        clash (count-same (t .capacity) (inUse v) (inUse t) (λ j _. still j) even k l u) (not-true-false _ (and-right (charged t c k) _ y))))
-
-    freed-left : (c : ℕ) → charge v c + cond (eqb (clear-cleared s i e g .1) 0) 0 (gone t v c) ≡ charge t c
-    freed-left c =
-        let all = left c in
-        ⊎-elim
-        (λ (f : clear-cleared s i e g .1 ≡ 0). let none = none-gone f c in rw (eq-eqb _ 0 f) (omega arith))
-        (λ (f : clear-cleared s i e g .1 ≡ 0 → ⊥). rw (ne-eqb _ 0 f) all)
-        (eq-or-ne (clear-cleared s i e g .1) 0)
-
-    counts-cleared : (cabin : ℕ) → Counts cabin t (heardAs 3 (cleared t i e .answer)) (cleared t i e .table)
-    unfolding v
+    counts-cleared : (cabin : ℕ) → Counts cabin t (saidBy (λ a b. freed b) (cleared t i e .answer)) (cleared t i e .table)
+    unfolding v booked summed
     counts-cleared cabin =
         rw (clear-cleared s i e g .2)
-        (unfold heardAs refusalOf firstOf secondOf gave in
+        (unfold saidBy in
         record {
-          each = λ c. let right = cond-same (eqb cabin c) in let all = freed-left c in omega arith;
-          steps = let x = fall in omega arith;
+          each = λ c. let all = left c in omega arith;
+          steps = λ n q. let x = fall in let some = formed-charges (sound-formed (c3 .sound)) in omega arith;
         })
 
     -- W7: and where the clearing is taken back, they are charged again
-    counts-restored : (cabin : ℕ) → Counts cabin (cleared t i e .table) (heardAs 5 (Given (secondOf (cleared t i e .answer)) 0)) t
-    unfolding v
+    counts-restored : (cabin : ℕ) → Counts cabin (cleared t i e .table) (back (secondOf (cleared t i e .answer))) t
+    unfolding v booked summed
     counts-restored cabin =
         rw (clear-cleared s i e g .2)
-        (unfold heardAs refusalOf firstOf secondOf gave in
+        (unfold secondOf in
         record {
-          each = λ c. let right = cond-same (eqb cabin c) in let all = freed-left c in omega arith;
-          steps = let x = fall in omega arith;
+          each = λ c. let all = left c in omega arith;
+          steps = λ n q. let x = fall in omega arith;
         })
 
-  counts-clear : (cabin i e : ℕ) → Counts cabin t (heardAs 3 (clearCall t i e .answer)) (clearCall t i e .table)
+  counts-clear : (cabin i e : ℕ) → Counts cabin t (saidBy (λ a b. freed b) (clearCall t i e .answer)) (clearCall t i e .table)
   unfolding clearCall
-  counts-clear cabin i e = counts-unless cabin 3 (clearRefusal t i e) t (cleared t i e) (λ z. counts-cleared i e z cabin)
+  counts-clear cabin i e = counts-unless cabin (clearRefusal t i e) _ t (cleared t i e) (λ z. counts-cleared i e z cabin)
 
-  counts-count : (cabin : ℕ) → Counts cabin t (heardAs 4 (spokenCounts t .answer)) (spokenCounts t .table)
-  unfolding spokenCounts heardAs refusalOf firstOf secondOf
-  counts-count cabin = counts-still cabin t t _ refl refl refl (λ c. refl) refl
+  counts-count : (cabin : ℕ) → Counts cabin t (saidBy (λ a b. spoken a b) (spokenCounts t .answer)) (spokenCounts t .table)
+  unfolding spokenCounts saidBy booked summed
+  counts-count cabin = record { each = λ c. refl; steps = λ n q. q }
 
-  counts-squeeze : (cabin c : ℕ) (q : List ℕ) → Counts cabin t (heardAs 0 (squeezeCall t c q .answer)) (squeezeCall t c q .table)
+  counts-squeeze : (cabin c : ℕ) (q : List ℕ) → Counts cabin t (saidBy (λ a b. silent) (squeezeCall t c q .answer)) (squeezeCall t c q .table)
   unfolding squeezeCall
   counts-squeeze cabin c q =
-      counts-unless cabin 0 (squeezeRefusal t c q) t _
+      counts-unless cabin (squeezeRefusal t c q) _ t _
       (λ z.
       let f = squeeze-fits s c q z in
-      unfold heardAs refusalOf firstOf secondOf in
-      counts-still cabin t _ _ refl refl refl (λ d. ap (λ (h : ℕ → ℕ). h d) (charge-same s c q (f .roomy))) (used-same s c q (f .roomy)))
+      unfold saidBy in
+      counts-still cabin t _ (λ d. ap (λ (h : ℕ → ℕ). h d) (charge-same s c q (f .roomy))) (used-same s c q (f .roomy)))
 
-  counts-line : (d : Decoded) → Counts keyCabin t (heardAs (callOf d) (performLine t d .answer)) (performLine t d .table)
-  unfolding callOf performLine perform callDigit
-  counts-line Nothing = unfold heardAs refusalOf firstOf secondOf in counts-still keyCabin t t _ refl refl refl (λ c. refl) refl
+  counts-line : (d : Decoded) → Counts keyCabin t (saidBy (lineSays d) (performLine t d .answer)) (performLine t d .table)
+  unfolding lineSays commandSays performLine perform
+  counts-line Nothing = unfold saidBy in counts-still keyCabin t t (λ c. refl) refl
   counts-line (Line (Add holder e kind content)) = counts-add holder e kind content keyCabin
   counts-line (Line (Link source e second f)) = counts-link keyCabin source e second f
   counts-line (Line (Clear i e)) = counts-clear keyCabin i e
   counts-line (Line Count) = counts-count keyCabin
 
-  counts-keys : (bs : List ℕ) → Counts keyCabin t (heardAs (callOf (decode bs)) (keyCall t bs .answer)) (keyCall t bs .table)
+  counts-keys : (bs : List ℕ) → Counts keyCabin t (saidBy (lineSays (decode bs)) (keyCall t bs .answer)) (keyCall t bs .table)
   unfolding keyCall
   counts-keys bs = rw (unless-zero _ t (performLine t (decode bs)) (past-sound s [] ∙ (unfold first in refl))) (counts-line (decode bs))
 
-  counts-slip : (cabin i e : ℕ) (buffer : List ℕ) → Counts cabin t (heardAs 3 (clearSlipCall t i e buffer .answer)) (clearSlipCall t i e buffer .table)
+  counts-slip : (cabin i e : ℕ) (buffer : List ℕ) →
+      Counts cabin t (saidBy (λ a b. freed b) (clearSlipCall t i e buffer .answer)) (clearSlipCall t i e buffer .table)
   counts-slip cabin i e buffer =
-      subst (λ (o : Outcome). Counts cabin t (heardAs 3 (o .answer)) (o .table)) (sym (slip-outcome t i e buffer))
-      (counts-unless cabin 3 (clearSlipRefusal t i e (length buffer)) t (cleared t i e)
+      subst (λ (o : Outcome). Counts cabin t (saidBy (λ a b. freed b) (o .answer)) (o .table)) (sym (slip-outcome t i e buffer))
+      (counts-unless cabin (clearSlipRefusal t i e (length buffer)) _ t (cleared t i e)
       (λ z. counts-cleared i e (slip-cleared t i e buffer z .0) cabin))
 
+  -- what a preview says is not booked
+  counts-preview : (cabin i e : ℕ) (a : Answer) → Counts cabin t (saidBy (λ a b. foreseen b) a) t
+  unfolding saidBy booked summed
+  counts-preview cabin i e (Refused n) = record { each = λ c. refl; steps = λ n q. q }
+  counts-preview cabin i e (Given a b) = record { each = λ c. refl; steps = λ n q. q }
+
 module _ {t : Table} (s : Sound t) where
-  counts-back : (cabin : ℕ) (bs : List ℕ) → Counts cabin t (heardAs 5 (takeBackCall t bs .answer)) (takeBackCall t bs .table)
-  unfolding takeBackCall
+  counts-back : (cabin : ℕ) (bs : List ℕ) → Counts cabin t (saidBy (λ a b. back a) (takeBackCall t bs .answer)) (takeBackCall t bs .table)
+  unfolding takeBackCall saidBy
   counts-back cabin bs =
-      counts-unless cabin 5 (takeBackRefusal t bs) t _
+      counts-unless cabin (takeBackRefusal t bs) _ t _
       (λ z.
       let x = accepted-taken t bs z in
       let freed = ap (λ (o : Outcome). secondOf (o .answer)) (again-made t bs (x .fits)) in
-      subst (λ (n : ℕ). Counts cabin t (heardAs 5 (Given n 0)) (rebuilt t bs)) (sym freed)
-      (subst (λ (v : Table). Counts cabin v (heardAs 5 (Given (secondOf (cleared (rebuilt t bs) (slipStep bs) (slipExit bs) .answer)) 0)) (rebuilt t bs)) (x .table)
+      subst (λ (n : ℕ). Counts cabin t (back n) (rebuilt t bs)) (sym freed)
+      (subst (λ (v : Table). Counts cabin v (back (secondOf (cleared (rebuilt t bs) (slipStep bs) (slipExit bs) .answer))) (rebuilt t bs)) (x .table)
       (counts-restored (x .sound) (slipStep bs) (slipExit bs) (x .fits) cabin)))
 
-  call-counts : (k : Call) → Counts (cabinFor k) t (run t k .heard) (run t k .table)
-  unfolding cabinFor run ran onlyRefusal
+  call-counts : (k : Call) → Counts (cabinFor k) t (run t k .heard .said) (run t k .table)
+  unfolding cabinFor run ran onlyRefusal heardOf
   call-counts (add holder e kind content cabin) = counts-add s holder e kind content cabin
   call-counts (link source e second f) = counts-link s keyCabin source e second f
   call-counts (clear i e) = counts-clear s keyCabin i e
-  call-counts (read i) = counts-still keyCabin t t _ refl refl refl (λ c. refl) refl
-  call-counts (trial limit results trace) = counts-still keyCabin t t _ refl refl refl (λ c. refl) refl
-  call-counts (write buffer) = counts-still keyCabin t t _ refl refl refl (λ c. refl) refl
+  call-counts (read i) = counts-still keyCabin t t (λ c. refl) refl
+  call-counts (trial limit results trace) = counts-still keyCabin t t (λ c. refl) refl
+  call-counts (write buffer) = counts-still keyCabin t t (λ c. refl) refl
   call-counts (keyLine bs) = counts-keys s bs
   call-counts (squeeze c q) = counts-squeeze s keyCabin c q
   call-counts (clearSlip i e buffer) = counts-slip s keyCabin i e buffer
   call-counts (takeBack bs) = counts-back keyCabin bs
-  call-counts (preview i e buffer) = unfold heardAs in counts-still keyCabin t t _ refl refl refl (λ c. refl) refl
+  call-counts (preview i e buffer) = counts-preview s keyCabin i e (previewCall t i e buffer .answer)
 
 -- along the list
 after-account : (c : ℕ) (t : Table) → Sound t → (cs : List Call) → charge (tableAfter t cs) c ≡ account c (charge t c) t cs
@@ -275,19 +247,12 @@ unfolding tableAfter account
 after-account c t s [] = refl
 after-account c t s (k ∷ cs) =
     let u = run t k .table in
-    let one-call = call-counts s k .each c in
-    after-account c u (call-agrees s k .sound) cs ∙ ap (λ (n : ℕ). account c n u cs) (omega arith)
+    after-account c u (call-agrees s k .sound) cs ∙ ap (λ (n : ℕ). account c n u cs) (call-counts s k .each c)
 
-after-tally : (t : Table) → Sound t → (cs : List Call) → tally (stepsInUse t - 1) (heardBy t cs) + 1 ≡ stepsInUse (tableAfter t cs)
+after-tally : (t : Table) → Sound t → (n : ℕ) → n + 1 ≡ stepsInUse t → (cs : List Call) → tally n (heardBy t cs) + 1 ≡ stepsInUse (tableAfter t cs)
 unfolding tableAfter heardBy tally
-after-tally t s [] = let n = formed-charges (sound-formed s) in omega arith
-after-tally t s (k ∷ cs) =
-    let u = run t k .table in
-    let v = call-agrees s k .sound in
-    let one-call = call-counts s k .steps in
-    let was = formed-charges (sound-formed s) in
-    let is = formed-charges (sound-formed v) in
-    ap (λ (n : ℕ). tally n (heardBy u cs) + 1) (omega arith) ∙ after-tally u v cs
+after-tally t s n q [] = q
+after-tally t s n q (k ∷ cs) = after-tally (run t k .table) (call-agrees s k .sound) _ (call-counts s k .steps n q) cs
 
 pub charges-demand : (f : First) (cs : List Call) → ChargesDemand f cs
 charges-demand f cs =
@@ -295,7 +260,7 @@ charges-demand f cs =
     record {
       each = λ c. after-account c (firstTable f) s cs;
       together = formed-charges (sound-formed (after-sound (firstTable f) s cs));
-      kept = after-tally (firstTable f) s cs;
+      kept = after-tally (firstTable f) s _ (let some = formed-charges (sound-formed s) in omega arith) cs;
     }
 
 -- a number that no condition of an order gives: each has another number, or does not hold

@@ -35,7 +35,7 @@ use Rattle.image.specs.Image.{Edition, edition1, headerKindOf, writtenEdition, 
 use Rattle.image.specs.Convert.{sayable, convertRefusal, convertCall}
 use Rattle.image.proofs.RoundTrip.{Says, accepted-says}
 use Rattle.image.proofs.Converted.{sayable-says, says-sayable, refusal-converts, convert-put, converts-back, refusal-bad, refusal-same, refusal-unsaid, Verdict, unaccepted, already, unsayable, short, done, verdict}
-use Rattle.image.proofs.Laws.{image-length, image-edition, edition1-says, put-made, put-refusal, room-enough, decode-encode, encode-accepted, load-encode, accepted-sound, accepted-rewritten, image-ascending, image-equal, accepted-only, loaded-equal}
+use Rattle.image.proofs.Laws.{image-length, image-most, image-edition, edition1-says, put-made, put-refusal, room-enough, decode-encode, encode-accepted, load-encode, accepted-sound, accepted-rewritten, image-ascending, image-equal, accepted-only, loaded-equal}
 use Rattle.keyline.specs.Keys.{spokenCounts}
 use Rattle.keyline.proofs.Laws.{spoken-plan}
 use Rattle.history.specs.Demands.{AddDemand, LinkDemand, ClearDemand, CountDemand, SqueezeDemand, TwiceDemand, WriteDemand, EqualDemand, SortedDemand, OldDemand, ConvertDemand, Counterpart, RefusalDemand, SameTableDemand}
@@ -159,6 +159,7 @@ put-demand v t s p buffer l =
     let m = put-made 0 refl v t buffer in
     record {
       answer = ap (λ (o : WriteOutcome). o .answer) m ∙ ap (λ (k : ℕ). Given k 0) (sym w);
+      most = rw w (image-most v t s);
       loads = ap loadCall made ∙ load-encode v t s p;
       edition = ap editionIn made ∙ image-edition v t;
       ascending = rw made (image-ascending v t);

@@ -10,6 +10,7 @@ use lib.Seq.{take-at, drop-at}
 use borrow.Author.Tests.{eqb-true, eq-eqb}
 use Rattle.finite.specs.Below.{count}
 use Rattle.finite.proofs.Bools.{clash, test}
+use Rattle.finite.proofs.Below.{count-le}
 use Rattle.finite.proofs.Select.{same-lists}
 use Rattle.table.specs.Table.{Table, inUse}
 use Rattle.table.specs.Sound.{Sound}
@@ -79,6 +80,10 @@ module _ (t : Table) (i e : ℕ) (buffer : List ℕ) (z : clearSlipRefusal t i e
   unfolding slipLength recordSize
   fields = let c = slip-head i e t v (drop n buffer) .2 in omega arith
 
+  most : n ≤ 5638
+  unfolding slipLength recordSize
+  most = let c = count-le (t .capacity) (changed t v) in let m = clear-sound t i e accepted .most in omega arith
+
   unchanged : (k : ℕ) → recordIn t k ≡ recordIn v k → changed t v k ≡ false
   unfolding changed
   unchanged k q = ap not (same-lists (record-fields t v k q))
@@ -109,6 +114,7 @@ module _ (t : Table) (i e : ℕ) (buffer : List ℕ) (z : clearSlipRefusal t i e
         step = slip-head i e t v (drop n buffer) .0;
         exit = slip-head i e t v (drop n buffer) .1;
         long = fields;
+        most = most;
         zeros = λ k l f. blank-record (led .to .free k l f);
         used = λ k l c. changed-used i e t v led k l c;
         regret = λ cs q. ap₂ takeBackCall q written ∙ regret (clear-sound t i e accepted) i e accepted;

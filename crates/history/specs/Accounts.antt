@@ -2,10 +2,9 @@
 -- frees since." (document 02, W5). Assumes nothing.
 --   cabinFor            the cabin that a call adds for
 --   gone t u c          the steps of cabin c that are in use in t and not in u
---   account c n t cs    the account of cabin c that stood at n before the calls cs on the table t: each step that was given to it counts one more, each
---                       step of its that was freed one less; W7: "Steps brought back count as added again by their cabins."
---   tally n hs          the accounts together, kept from the answers alone
-use mathlib.Core.Bool.{_&&_, not, cond}
+--   booked c d t u n s  the account of cabin c that stood at n, after a call for cabin d that made u of t and said s; account, after a list of calls
+--   summed n s          the accounts together, from what is said alone; tally, along a list
+use mathlib.Core.Bool.{_&&_, not}
 use mathlib.Core.List.{List, [], _∷_}
 use Prim.Native.Nat.{ℕ, _+_, _-_}
 use lib.Dec.{eqb}
@@ -13,9 +12,9 @@ use Rattle.finite.specs.Below.{one, count}
 use Rattle.table.specs.Table.{Table, inUse}
 use Rattle.table.specs.Cabins.{charged}
 use Rattle.keyline.specs.Keys.{keyCabin}
-use Rattle.history.specs.History.{Call, add, link, clear, read, trial, write, keyLine, squeeze, clearSlip, takeBack, preview, Heard, run}
+use Rattle.history.specs.History.{Call, add, link, clear, read, trial, write, keyLine, squeeze, clearSlip, takeBack, preview, Said, silent, number, freed, back, foreseen, spoken, Heard, run}
 
--- a key line adds for cabin 0; the other calls give no number, and steps brought back are counted by their own cabins, below
+-- a key line adds for cabin 0; the other calls give no number, and steps brought back are booked to their own cabins, below
 unfoldable pub cabinFor : Call → ℕ
 cabinFor (add holder e kind content cabin) = cabin
 cabinFor (link source e second f) = keyCabin
@@ -29,20 +28,33 @@ cabinFor (clearSlip i e buffer) = keyCabin
 cabinFor (takeBack bs) = keyCabin
 cabinFor (preview i e buffer) = keyCabin
 
--- a number was given: no add gives 0, and no other call gives one
-unfoldable pub gave : Heard → ℕ
-gave h = one (not (eqb (h .given) 0))
-
 unfoldable pub gone : Table → Table → ℕ → ℕ
 gone t u c = count (t .capacity) (λ i. charged t c i && not (inUse u i))
+
+-- a step that was given to the cabin is one more, each of its steps that was freed one less; W7: "Steps brought back count as added again by their
+-- cabins."
+unfoldable pub booked : ℕ → ℕ → Table → Table → ℕ → Said → ℕ
+booked c d t u n silent = n
+booked c d t u n (number m) = n + one (eqb d c)
+booked c d t u n (freed m) = n - gone t u c
+booked c d t u n (back m) = n + gone u t c
+booked c d t u n (foreseen m) = n
+booked c d t u n (spoken a b) = n
 
 unfoldable pub account : ℕ → ℕ → Table → List Call → ℕ
 account c n t [] = n
 account c n t (k ∷ cs) =
-    let h = run t k .heard in
     let u = run t k .table in
-    account c (n + cond (eqb (cabinFor k) c) (gave h) 0 + cond (eqb (h .back) 0) 0 (gone u t c) - cond (eqb (h .freed) 0) 0 (gone t u c)) u cs
+    account c (booked c (cabinFor k) t u n (run t k .heard .said)) u cs
+
+unfoldable pub summed : ℕ → Said → ℕ
+summed n silent = n
+summed n (number m) = n + 1
+summed n (freed m) = n - m
+summed n (back m) = n + m
+summed n (foreseen m) = n
+summed n (spoken a b) = n
 
 unfoldable pub tally : ℕ → List Heard → ℕ
 tally n [] = n
-tally n (h ∷ hs) = tally (n + gave h + h .back - h .freed) hs
+tally n (h ∷ hs) = tally (summed n (h .said)) hs

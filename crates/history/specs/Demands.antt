@@ -31,7 +31,7 @@ use Rattle.table.specs.Clear.{emptied, clearCall}
 use Rattle.table.specs.Squeeze.{newNumber, squeezeRefusal, squeezeCall, Renumbered}
 use Rattle.table.specs.Plan.{planOf, planCount, planNumber, planAdd, planLink, planClear, planSqueeze}
 use Rattle.keyline.specs.Keys.{keyCabin, keyCall}
-use Rattle.image.specs.Image.{Edition, edition1, words, image, editionIn, written, accepted, loadCall, Bytes, SameRecords, Ascending}
+use Rattle.image.specs.Image.{Edition, edition1, words, image, largest, editionIn, written, accepted, loadCall, Bytes, SameRecords, Ascending}
 use Rattle.image.specs.Slip.{recordIn, changed, slip, slipLength, SlipOutcome, clearSlipCall, slipStep, slipExit, slipCount, takeBackCall, planTakenBack}
 use Rattle.history.specs.History.{First, Call, add, link, clear, read, trial, write, keyLine, squeeze, clearSlip, takeBack, preview, run, withTold, tableAfter, heardBy, planAfter, drawnBy, firstRefusal, planFirstRefusal, firstTable, firstPlan}
 use Rattle.history.specs.Accounts.{account, tally}
@@ -173,10 +173,11 @@ pub record SlipDemand (t : Table) (i e : ℕ) (buffer : List ℕ) (o : SlipOutco
       take 44 (drop (6 + 44 * count k (changed t (o .table))) (o .buffer)) ≡ recordIn t k ++ recordIn (o .table) k
   pub past : drop (slipLength t i e) (o .buffer) ≡ drop (slipLength t i e) buffer
   pub size : length (o .buffer) ≡ length buffer
-  -- "three two-byte fields, the step, the exit and the number of changed steps", and 44 bytes for each of these
+  -- "three two-byte fields, the step, the exit and the number of changed steps", and 44 bytes for each of these; no slip is longer than 5,638 bytes
   pub step : slipStep (o .buffer) ≡ i
   pub exit : slipExit (o .buffer) ≡ e
   pub long : slipLength t i e ≡ 6 + 44 * slipCount (o .buffer)
+  pub most : slipLength t i e ≤ 5638
   -- "A free step's record has length 22, kind 4, its number and zeros"
   pub zeros : (k : ℕ) → k < places → inUse (o .table) k ≡ false → recordIn (o .table) k ≡ words (22 ∷ 4 ∷ k ∷ replicate 8 0)
   -- it has no step that was free before
@@ -235,8 +236,9 @@ pub record PreviewRefusalDemand (t : Table) (i e : ℕ) (buffer : List ℕ) (o :
 
 -- "A sound table written as an image loads as the same table": the bytes that were written in the edition v, in a buffer with the room
 pub record WriteDemand (v : Edition) (t : Table) (buffer : List ℕ) (o : WriteOutcome) : Type 0 where
-  -- "the answer is the image's length"
+  -- "the answer is the image's length"; "The largest is 2,570 bytes.", or 2,858 (W5)
   pub answer : o .answer ≡ Given (length (written o)) 0
+  pub most : length (written o) ≤ largest v
   pub loads : loadCall (written o) ≡ record { answer = Given 0 0; table = t }
   pub edition : editionIn (written o) ≡ v
   -- "in ascending step number" (W1)

@@ -1,7 +1,8 @@
 -- Histories (traces): a list of calls, run on the table and drawn on the plain plan (document 01, "A history"; document 02, W2, W3, W5, W7, W8).
 -- Assumes nothing.
 --   First, Call        what a history begins with, and a call with its arguments
---   Heard              what demand 3 compares of a call: refusal, number given, freed count, spoken counts, steps brought back, freed count foreseen
+--   Said, Heard        what demand 3 compares of a call: what an accepted one says, and the refusal
+--   says a b           what a call says by the two numbers a and b of its answer; lineSays, of a key line
 --   run, draw          one call, on the table and on the plan
 --   isTold, withTold   what the plan is told of a call, and of each call of a list
 --   firstTable firstPlan  what a history begins with
@@ -14,8 +15,9 @@ use lib.ListN.{length}
 use lib.Dec.{eqb, ltb}
 use Rattle.table.specs.Table.{Table}
 use Rattle.table.specs.declared.Answer.{Answer}
+use Rattle.table.specs.declared.Answer.the-variants.{Refused, Given}
 use Rattle.table.specs.Cabins.{listFits, soleQuotas}
-use Rattle.table.specs.Answer.{Outcome, badCapacity, tooShort, notKeyLine, notAccepted, badCabins, slipNotAccepted, first, refusalOf, firstOf, secondOf, triedRefusal}
+use Rattle.table.specs.Answer.{Outcome, badCapacity, tooShort, notKeyLine, notAccepted, badCabins, slipNotAccepted, first, refusalOf, triedRefusal}
 use Rattle.table.specs.Sound.{capacityFits}
 use Rattle.table.specs.Calls.{freshCall, addCall, linkCall, readCall}
 use Rattle.table.specs.Clear.{clearCall}
@@ -29,7 +31,7 @@ use Rattle.keyline.specs.declared.Command.{Command}
 use Rattle.keyline.specs.declared.Decoded.{Decoded}
 use Rattle.keyline.specs.declared.Decoded.the-variants.{Line, Nothing}
 use Rattle.keyline.specs.declared.Command.the-variants.{Add, Link, Clear, Count}
-use Rattle.keyline.specs.Keys.{keyCabin, decode, callDigit, keyCall}
+use Rattle.keyline.specs.Keys.{keyCabin, decode, keyCall}
 
 -- "Its first call gets a table from fresh or load": any number as capacity, any list of quotas, any bytes
 pub data First : Type 0 where
@@ -52,61 +54,65 @@ pub data Call : Type 0 where
   takeBack : List ℕ → Call
   preview : ℕ → ℕ → List ℕ → Call
 
--- what demand 3 compares along the list; a number that a call does not give is zero
+-- what demand 3 compares of an accepted call: "numbers given, freed counts and spoken counts", the steps that a take-back brings back (W7), the freed count
+-- that a preview foresees (W8); of any other call nothing
+pub data Said : Type 0 where
+  silent : Said
+  number freed back foreseen : ℕ → Said
+  spoken : ℕ → ℕ → Said
+
+-- and of every call the refusal or 0
 pub record Heard : Type 0 where
   pub refusal : ℕ
-  pub given : ℕ
-  pub freed : ℕ
-  pub spokenUsed : ℕ
-  pub spokenFree : ℕ
-  pub back : ℕ
-  pub foreseen : ℕ
+  pub said : Said
 
--- of a call that gives no number, the refusal or 0
 unfoldable pub onlyRefusal : ℕ → Heard
-onlyRefusal n = record { refusal = n; given = 0; freed = 0; spokenUsed = 0; spokenFree = 0; back = 0; foreseen = 0 }
+onlyRefusal n = record { refusal = n; said = silent }
 
--- the answer of a call of the keys' number: 1 add, 2 link, 3 clear, 4 counts; 5 is taking back and 6 previewing a clearing, which no key makes; of any
--- other number, the refusal alone
-unfoldable pub heardAs : ℕ → Answer → Heard
-heardAs call a =
-    record {
-      refusal = refusalOf a;
-      given = cond (eqb call 1) (firstOf a) 0;
-      freed = cond (eqb call 3) (secondOf a) 0;
-      spokenUsed = cond (eqb call 4) (firstOf a) 0;
-      spokenFree = cond (eqb call 4) (secondOf a) 0;
-      back = cond (eqb call 5) (firstOf a) 0;
-      foreseen = cond (eqb call 6) (secondOf a) 0;
-    }
+unfoldable pub saying : Said → Heard
+saying s = record { refusal = 0; said = s }
 
--- the call's number of a key line, or 0
-unfoldable pub callOf : Decoded → ℕ
-callOf Nothing = 0
-callOf (Line c) = callDigit c
+-- of an answer, whose two numbers say something of an accepted call only
+unfoldable pub saidBy : (ℕ → ℕ → Said) → Answer → Said
+saidBy says (Refused n) = silent
+saidBy says (Given a b) = says a b
+
+unfoldable pub heardOf : (ℕ → ℕ → Said) → Answer → Heard
+heardOf says a = record { refusal = refusalOf a; said = saidBy says a }
+
+-- "new step and 0 for H*1; 0 and 0 for H*2; the two counts for H*3; in use and free for H*4": the first count of a clearing is not compared
+unfoldable pub commandSays : Command → ℕ → ℕ → Said
+commandSays (Add holder e kind content) = λ a b. number a
+commandSays (Link source e second f) = λ a b. silent
+commandSays (Clear i e) = λ a b. freed b
+commandSays Count = λ a b. spoken a b
+
+unfoldable pub lineSays : Decoded → ℕ → ℕ → Said
+lineSays Nothing = λ a b. silent
+lineSays (Line c) = commandSays c
 
 -- one call on the table
 pub record Ran : Type 0 where
   pub heard : Heard
   pub table : Table
 
-unfoldable pub ran : ℕ → Outcome → Ran
-ran call o = record { heard = heardAs call (o .answer); table = o .table }
+unfoldable pub ran : (ℕ → ℕ → Said) → Outcome → Ran
+ran says o = record { heard = heardOf says (o .answer); table = o .table }
 
 unfoldable pub run : Table → Call → Ran
-run t (add holder e kind content cabin) = ran 1 (addCall t holder e kind content cabin)
-run t (link source e second f) = ran 2 (linkCall t source e second f)
-run t (clear i e) = ran 3 (clearCall t i e)
+run t (add holder e kind content cabin) = ran (λ a b. number a) (addCall t holder e kind content cabin)
+run t (link source e second f) = ran (λ a b. silent) (linkCall t source e second f)
+run t (clear i e) = ran (λ a b. freed b) (clearCall t i e)
 run t (read i) = record { heard = onlyRefusal (readCall t i .refusal); table = t }
 run t (trial limit results trace) = record { heard = onlyRefusal (triedRefusal (trialCall t limit results trace .answer)); table = t }
 run t (write buffer) = record { heard = onlyRefusal (refusalOf (writeCall t buffer .answer)); table = t }
-run t (keyLine bs) = ran (callOf (decode bs)) (keyCall t bs)
-run t (squeeze c quotas) = ran 0 (squeezeCall t c quotas)
+run t (keyLine bs) = ran (lineSays (decode bs)) (keyCall t bs)
+run t (squeeze c quotas) = ran (λ a b. silent) (squeezeCall t c quotas)
 run t (clearSlip i e buffer) =
     let o = clearSlipCall t i e buffer in
-    record { heard = heardAs 3 (o .answer); table = o .table }
-run t (takeBack bs) = ran 5 (takeBackCall t bs)
-run t (preview i e buffer) = record { heard = heardAs 6 (previewCall t i e buffer .answer); table = t }
+    record { heard = heardOf (λ a b. freed b) (o .answer); table = o .table }
+run t (takeBack bs) = ran (λ a b. back a) (takeBackCall t bs)
+run t (preview i e buffer) = record { heard = heardOf (λ a b. foreseen b) (previewCall t i e buffer .answer); table = t }
 
 -- one call on the plan
 pub record Drawn : Type 0 where
@@ -120,31 +126,18 @@ drawUnless n p d = cond (eqb n 0) d (record { heard = onlyRefusal n; plan = p })
 unfoldable pub drawAdd : Plan → ℕ → ℕ → ℕ → ℕ → ℕ → Drawn
 drawAdd p holder e kind content cabin =
     drawUnless (planAddRefusal p holder e kind content cabin) p
-    (record {
-      heard = record { refusal = 0; given = planNumber p; freed = 0; spokenUsed = 0; spokenFree = 0; back = 0; foreseen = 0 };
-      plan = planAdd p holder e kind content cabin;
-    })
+    (record { heard = saying (number (planNumber p)); plan = planAdd p holder e kind content cabin })
 
 unfoldable pub drawLink : Plan → ℕ → ℕ → ℕ → ℕ → Drawn
 drawLink p source e second f =
-    drawUnless (planLinkRefusal p source e second f) p (record { heard = onlyRefusal 0; plan = planLink p source e second f })
+    drawUnless (planLinkRefusal p source e second f) p (record { heard = saying silent; plan = planLink p source e second f })
 
 -- "these are the freed ones": the fall in the number of steps
+abbrev pub planFall : Plan → ℕ → ℕ → ℕ
+planFall p i e = planCount p - planCount (planClear p i e)
+
 abbrev pub drawnCleared : Plan → ℕ → ℕ → Drawn
-drawnCleared p i e =
-    record {
-      heard =
-          record {
-            refusal = 0;
-            given = 0;
-            freed = planCount p - planCount (planClear p i e);
-            spokenUsed = 0;
-            spokenFree = 0;
-            back = 0;
-            foreseen = 0;
-          };
-      plan = planClear p i e;
-    }
+drawnCleared p i e = record { heard = saying (freed (planFall p i e)); plan = planClear p i e }
 
 unfoldable pub drawClear : Plan → ℕ → ℕ → Drawn
 drawClear p i e = drawUnless (planClearRefusal p i e) p (drawnCleared p i e)
@@ -155,53 +148,22 @@ drawClearSlip p short i e = drawUnless (planClearIntoRefusal p short i e) p (dra
 
 -- W8: "which does not change the plain plan": it says what a clearing would free
 unfoldable pub drawPreview : Plan → Bool → ℕ → ℕ → Drawn
-drawPreview p short i e =
-    drawUnless (planClearIntoRefusal p short i e) p
-    (record {
-      heard =
-          record {
-            refusal = 0;
-            given = 0;
-            freed = 0;
-            spokenUsed = 0;
-            spokenFree = 0;
-            back = 0;
-            foreseen = planCount p - planCount (planClear p i e);
-          };
-      plan = p;
-    })
+drawPreview p short i e = drawUnless (planClearIntoRefusal p short i e) p (record { heard = saying (foreseen (planFall p i e)); plan = p })
 
 -- W7: "an accepted one puts the slip's old records, without bits, into the plain plan"; the steps brought back are the rise in the number of steps
 unfoldable pub drawTakeBack : Plan → Bool → List ℕ → Drawn
 drawTakeBack p refused bs =
-    drawUnless (first ((refused, slipNotAccepted) ∷ [])) p
-    (record {
-      heard =
-          record {
-            refusal = 0;
-            given = 0;
-            freed = 0;
-            spokenUsed = 0;
-            spokenFree = 0;
-            back = planCount (planTakenBack p bs) - planCount p;
-            foreseen = 0;
-          };
-      plan = planTakenBack p bs;
-    })
+    let q = planTakenBack p bs in
+    drawUnless (first ((refused, slipNotAccepted) ∷ [])) p (record { heard = saying (back (planCount q - planCount p)); plan = q })
 
 -- "The spoken counts are its steps, and its capacity less those."
 unfoldable pub drawCount : Plan → Drawn
-drawCount p =
-    record {
-      heard =
-          record { refusal = 0; given = 0; freed = 0; spokenUsed = planCount p; spokenFree = p .capacity - planCount p; back = 0; foreseen = 0 };
-      plan = p;
-    }
+drawCount p = record { heard = saying (spoken (planCount p) (p .capacity - planCount p)); plan = p }
 
 -- "after which the plain plan is the renumbered one"
 unfoldable pub drawSqueeze : Plan → ℕ → List ℕ → Drawn
 drawSqueeze p c quotas =
-    drawUnless (planSqueezeRefusal p c quotas) p (record { heard = onlyRefusal 0; plan = planSqueeze p c quotas })
+    drawUnless (planSqueezeRefusal p c quotas) p (record { heard = saying silent; plan = planSqueeze p c quotas })
 
 unfoldable pub unchanged : ℕ → Plan → Drawn
 unchanged n p = record { heard = onlyRefusal n; plan = p }

@@ -6,19 +6,20 @@ use mathlib.Core.Bool.{true}
 use mathlib.Core.Logic.{_↔_, ⊎-elim}
 use mathlib.Core.List.{List, _++_}
 use Prim.Native.Nat.{ℕ, _≤_, _<_}
+use native.Mathlib.Omega.{arith}
 use lib.ListN.{length, drop}
 use borrow.Author.Tests.{eq-eqb, ne-eqb, lt-ltb, le-ltb}
 use Rattle.finite.specs.Below.{count}
-use Rattle.finite.proofs.Below.{eq-or-ne}
+use Rattle.finite.proofs.Below.{eq-or-ne, count-le}
 use Rattle.table.specs.declared.Answer.the-variants.{Refused, Given}
-use Rattle.table.specs.Table.{Table, inUse}
+use Rattle.table.specs.Table.{Table, inUse, stepsInUse}
 use Rattle.table.specs.Cabins.{soleQuotas}
 use Rattle.table.specs.Sound.{Sound, sound}
 use Rattle.table.specs.Answer.{tooShort, first, refusalOf}
 use Rattle.table.specs.Plan.{planOf}
 use Rattle.table.proofs.Sound.{sound-test}
 use Rattle.table.proofs.Calls.{past-sound}
-use Rattle.image.specs.Image.{Edition, edition1, image, imageLength, writtenEdition, put, roomTests, writeRefusal, editionIn, countIn, numberIn, imageTable, accepted, loadCall, imagePlan, Bytes, Once, SameRecords, Ascending}
+use Rattle.image.specs.Image.{Edition, edition1, edition2, recordSize, image, largest, imageLength, writtenEdition, put, roomTests, writeRefusal, editionIn, countIn, numberIn, imageTable, accepted, loadCall, imagePlan, Bytes, Once, SameRecords, Ascending}
 use Rattle.image.proofs.Written
 use Rattle.image.proofs.Loaded
 use Rattle.image.proofs.RoundTrip
@@ -30,6 +31,12 @@ use Rattle.image.proofs.Order
 pub image-length : (v : Edition) (t : Table) → length (image v t) ≡ imageLength v t
 unfolding imageLength
 image-length = Written.image-length
+
+-- and of a sound table no image is longer than the largest
+pub image-most : (v : Edition) (t : Table) → Sound t → imageLength v t ≤ largest v
+unfolding imageLength stepsInUse recordSize
+image-most edition1 t s = omega (arith, count-le (t .capacity) (inUse t), s .most)
+image-most edition2 t s = omega (arith, count-le (t .capacity) (inUse t), s .most)
 
 -- an image says its edition
 pub image-edition : (v : Edition) (t : Table) → editionIn (image v t) ≡ v

@@ -4,7 +4,7 @@
 --   headerKindOf headerFieldCount headerFieldsOf   the header record of an edition; stepKindOf stepFieldCount stepFieldsOf, its step records
 --   word n, wordAt bs at        two bytes, little-endian, written and read
 --   recordBytes kind fields     a record: its length in bytes, its kind, its fields, each a word
---   imageSize e n               the length in bytes of an image of edition e with n step records
+--   imageSize e n               the length in bytes of an image of edition e with n step records; largest e, of the largest
 --   image e t                   the image of edition e: the header, then a record for each step in use, in ascending step number
 --   imageLength e t             its length
 --   lengthCall t                the length of the image that is written, asked for by itself
@@ -111,6 +111,11 @@ image e t = recordBytes (headerKindOf e) (headerFieldsOf e t) ++ stepsBelow e t 
 
 abbrev pub imageSize : Edition → ℕ → ℕ
 imageSize e n = recordSize (headerFieldCount e) + recordSize (stepFieldCount e) * n
+
+-- "The largest is 2,570 bytes."; in edition 2 it has 42 and 22 for each of 128 steps
+abbrev pub largest : Edition → ℕ
+largest edition1 = 2570
+largest edition2 = 2858
 
 unfoldable pub imageLength : Edition → Table → ℕ
 imageLength e t = imageSize e (stepsInUse t)

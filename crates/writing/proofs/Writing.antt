@@ -2,7 +2,7 @@
 --   Written v t start bytes at i   the bytes from start on, with those records before the place at
 --   written-more written-same      a step in use adds its record, a free step adds nothing
 --   written-all                    past the last step it is the image
---   image-small                    no image is longer than 2,858 bytes
+--   image-small                    no image, of either edition, is longer than 2,858 bytes
 use mathlib.Core.Path.{_≡_, refl, sym, _∙_, ap, ap₂}
 use mathlib.Core.Bool.{true, false}
 use mathlib.Core.List.{List, [], _∷_, _++_, append-assoc, append-nil}
@@ -12,13 +12,13 @@ use native.Mathlib.Omega.{arith}
 use lib.ListN.{length, getD, take, drop, length-drop, length-append}
 use lib.Seq.{length-take-le, take-all, take-at, drop-at, drop-drop, drop-length}
 use Rattle.finite.specs.Below.{count}
-use Rattle.finite.proofs.Below.{count-le}
 use Rattle.finite.proofs.Select.{count-grows, tabulate-entries}
 use Rattle.finite.proofs.Loops.{count-hit}
 use Rattle.table.specs.Table.{Table, quotaNumbers, inUse, stepsInUse}
 use Rattle.table.specs.Sound.{Sound}
 use Rattle.image.specs.Image.{Edition, edition1, edition2, recordSize, recordBytes, headerKindOf, stepKindOf, headerAdds, headerFieldsOf, stepAdds, stepFieldsOf, stepsBelow, image, imageSize, imageLength}
 use Rattle.image.proofs.Words.{headerSize, stepSize, image-next, length-record}
+use Rattle.image.proofs.Laws.{image-most}
 use Rattle.image.proofs.Written.{length-header, length-fields, length-steps}
 use Rattle.records.specs.declared.StepRecord.{StepRecord}
 use Rattle.records.specs.Parts.{added, recordFields}
@@ -31,9 +31,8 @@ image-grows edition2 m n l = omega arith
 
 -- the image of a sound table
 pub image-small : (v : Edition) (t : Table) → Sound t → imageLength v t ≤ 2858
-unfolding imageLength stepsInUse recordSize
-image-small edition1 t s = omega (arith, count-le (t .capacity) (inUse t), s .most)
-image-small edition2 t s = omega (arith, count-le (t .capacity) (inUse t), s .most)
+image-small edition1 t s = omega (arith, image-most edition1 t s)
+image-small edition2 t s = image-most edition2 t s
 
 pub record Written (v : Edition) (t : Table) (start bytes : List ℕ) (at i : ℕ) : Type 0 where
   pub behind : at ≡ headerSize v + length (stepsBelow v t i)
