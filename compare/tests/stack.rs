@@ -135,8 +135,8 @@ fn calls(exit: u16) -> Vec<Taken> {
         taken("fresh", &chain, 0, |t| raw::fresh(t, 128, &most).refusal),
         taken("fresh, refused", &chain, 2, |t| raw::fresh(t, 129, &most).refusal),
         taken("fresh, refused for its list", &chain, 16, |t| raw::fresh(t, 128, &bad).refusal),
-        taken("soundness test", &chain, 1, |t| raw::is_sound(t)),
-        taken("soundness test that fails", &unsound, 0, |t| raw::is_sound(t)),
+        taken("is sound", &chain, 1, |t| raw::is_sound(t)),
+        taken("is sound, not so", &unsound, 0, |t| raw::is_sound(t)),
         taken("counts", &chain, 128, |t| raw::counts(t).first),
         taken("image length", &chain, IMAGE, |t| raw::image_length(t).length),
         taken("read", &chain, 1, |t| raw::read(t, 127).kind),
@@ -238,21 +238,56 @@ fn calls(exit: u16) -> Vec<Taken> {
     ]
 }
 
-#[test]
-fn every_call_keeps_to_the_limit() {
-    assert_eq!(LIMIT, telephone::STACK_MAX);
+/// Every call, with the most that it takes on chains along some exit.
+fn deepest() -> Vec<Taken> {
     let mut deepest = calls(0);
     for exit in 1..4 {
         for (most, taken) in deepest.iter_mut().zip(calls(exit)) {
             most.stack = most.stack.max(taken.stack);
         }
     }
+    deepest
+}
+
+#[test]
+fn every_call_keeps_to_the_limit() {
+    assert_eq!(LIMIT, telephone::STACK_MAX);
+    let mut deepest = deepest();
     println!("bytes of stack: with the caller's table, without");
     for Taken { name, table, stack } in &deepest {
         println!("{:6} {stack:6}  {name}", stack + table);
     }
     deepest.retain(|taken| taken.stack + taken.table > LIMIT);
     assert!(deepest.is_empty(), "more than {LIMIT} bytes: {deepest:?}");
+}
+
+/// The bytes of stack that the header tells of each function, by the function's name in words.
+fn told() -> Vec<(String, usize)> {
+    let header = include_str!("../../include/telephone.h");
+    let mut told = Vec::new();
+    for line in header.lines().filter_map(|line| line.strip_prefix(" *     plan_")) {
+        let (names, bytes) = line.trim_end_matches(" bytes").rsplit_once(' ').unwrap();
+        // other lines are those of an example
+        let Ok(bytes) = bytes.replace(',', "").parse() else { continue };
+        told.extend(names.trim().split(", plan_").map(|name| (name.replace('_', " "), bytes)));
+    }
+    told
+}
+
+/// The header tells what is measured, but for the frames of the closures here, which a compiler may or may not inline.
+#[test]
+fn the_header_tells_the_stack() {
+    let (deepest, mut told) = (deepest(), told());
+    // a call is that of the longest name that it begins with
+    told.sort_by_key(|(name, _)| usize::MAX - name.len());
+    let function = |taken: &Taken| told.iter().position(|(name, _)| taken.name.starts_with(name));
+    assert_eq!(told.len(), 20);
+    assert!(deepest.iter().all(|taken| function(taken).is_some()));
+    for (at, (name, bytes)) in told.iter().enumerate() {
+        let its = deepest.iter().filter(|taken| function(taken) == Some(at));
+        let most = its.map(|taken| taken.stack).max().expect(name);
+        assert!(most.abs_diff(*bytes) <= 96, "{name}: {most} bytes, and the header tells {bytes}");
+    }
 }
 
 /// The measure sees what a function takes: this one keeps 100 kB on its stack, and would fail the test above.
