@@ -5,20 +5,20 @@ use mathlib.Core.Path.{_≡_, refl, sym, _∙_, ap, subst}
 use mathlib.Core.Bool.{Bool, true, false, _&&_, not, cond}
 use mathlib.Core.Logic.{⊎-elim}
 use mathlib.Core.List.{List, [], _∷_}
-use Prim.Native.Nat.{ℕ, _+_, _-_, _≤_, _<_}
+use Prim.Native.Nat.{ℕ, _+_, _-_, _<_}
 use native.Mathlib.Omega.{arith}
 use lib.ListN.{length}
 use lib.Dec.{eqb}
 use borrow.Author.Tests.{eq-eqb, ne-eqb, lt-leb}
 use Rattle.finite.specs.Below.{one, count}
-use Rattle.finite.proofs.Bools.{and-intro, and-left, and-right, clash, refute, same-test, not-true-false}
-use Rattle.finite.proofs.Below.{eq-or-ne, count-ext, count-none, count-split, count-same, count-change}
+use Rattle.finite.proofs.Bools.{and-intro, and-left, and-right, clash, same-test}
+use Rattle.finite.proofs.Below.{eq-or-ne, count-ext, count-split, count-change}
 use Rattle.table.specs.declared.Answer.{Answer}
 use Rattle.table.specs.declared.Answer.the-variants.{Refused, Given}
 use Rattle.table.specs.Table.{Table, inUse, cabinOf, stepsInUse, withLinks}
 use Rattle.table.specs.Cabins.{guaranteeOf, limitOf, atLimit, noneToSpare, charged, charge, freeSteps}
 use Rattle.table.specs.Sound.{Sound}
-use Rattle.table.specs.Answer.{Outcome, notSound, notInUse, badExit, exitFilled, exitEmpty, badKind, notKeyLine, full, cabinAtLimit, stepsReserved, badCabins, first, unless, refusalOf, firstOf, secondOf}
+use Rattle.table.specs.Answer.{Outcome, notSound, notInUse, badExit, exitFilled, exitEmpty, badKind, notKeyLine, full, cabinAtLimit, stepsReserved, badCabins, first, unless, refusalOf, secondOf}
 use Rattle.table.specs.Calls.{numberGiven, relink, addConditions, addRefusal, addCall, linkTable, linkCall}
 use Rattle.table.specs.Clear.{emptied, cleared, clearRefusal, clearCall}
 use Rattle.table.specs.Preview.{previewCall}

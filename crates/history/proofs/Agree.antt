@@ -3,7 +3,7 @@
 --   Agrees t c      the three facts of the call c on t
 --   call-agrees     every call with any arguments
 use mathlib.Core.Path.{_≡_, refl, sym, _∙_, ap, ap₂, subst}
-use mathlib.Core.Bool.{Bool, true, false, cond}
+use mathlib.Core.Bool.{cond}
 use mathlib.Core.Logic.{⊎-elim}
 use mathlib.Core.List.{List, [], _∷_, _++_}
 use Prim.Native.Nat.{ℕ, _-_, _≤_, _<_}
@@ -20,7 +20,7 @@ use Rattle.table.specs.Calls.{addCall, linkCall, readCall}
 use Rattle.table.specs.Trial.{trialCall}
 use Rattle.table.specs.Clear.{cleared, clearRefusal, clearCall}
 use Rattle.table.specs.Preview.{previewRoom, previewRefusal, previewCall}
-use Rattle.table.specs.Plan.{planOf, planCount, planClear, planClearConditions, planClearRefusal, planClearIntoRefusal, planReadRefusal, planTrialRefusal}
+use Rattle.table.specs.Plan.{planOf, planCount, planClearConditions, planClearRefusal, planClearIntoRefusal, planReadRefusal, planTrialRefusal}
 use Rattle.table.proofs.Links.{sound-wired}
 use Rattle.table.proofs.Plan.{plan-capacity, plan-count}
 use Rattle.table.proofs.Clear.{emptied-steps}

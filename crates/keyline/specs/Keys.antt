@@ -2,7 +2,6 @@
 --   isLine bs call n     H, star, the call's digit, n digits, A, and nothing else
 --   decimal bs k w       the number that w digits spell from place k
 --   decode bs            the command of a key line
---   callDigit            the digit after the star
 --   keyConditions        the conditions of its refusals with their numbers, in their order
 --   countsCall t         the counts alone: what H*4A answers
 --   perform, keyCall     the call that a command makes, and the call of a key line
@@ -61,12 +60,6 @@ decode bs =
     (cond (isLine bs 2 8) (Line (Link (decimal bs 3 3) (decimal bs 6 1) (decimal bs 7 3) (decimal bs 10 1)))
     (cond (isLine bs 3 4) (Line (Clear (decimal bs 3 3) (decimal bs 6 1)))
     (cond (isLine bs 4 0) (Line Count) Nothing)))
-
-unfoldable pub callDigit : Command → ℕ
-callDigit (Add holder e kind content) = 1
-callDigit (Link source e second f) = 2
-callDigit (Clear i e) = 3
-callDigit Count = 4
 
 -- "in use and free for H*4"
 unfoldable pub spokenCounts : Table → Outcome
