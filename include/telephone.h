@@ -8,6 +8,12 @@
  *     plan_reply r = plan_add(&t, 0, PLAN_ANSWERED, PLAN_CONTACT, 7, 0);
  *     if (r.refusal == PLAN_DONE) printf("step %d\n", r.first); else puts(plan_refusal_words(r.refusal));
  *
+ * Terms. A plan has steps, 0 to 127, of which step 0, the alarm, is always in use. Each step has four exits; an exit is empty or holds a link to a step.
+ * A link is strong if its bit equals that of the step which it leads to, else weak; plan_add makes a strong one, plan_link a weak one. A table is sound
+ * if all numbers are in range, the counters are exact, strong links form no ring and lead from step 0 to every step in use, and the cabins keep to
+ * their guarantees and limits. Every call keeps a sound table sound. After an exit is emptied, the steps that no row of strong links leads to from step
+ * 0 are doubtful: those that links of either strength still lead to stay, and are held by strong links again; the others are freed.
+ *
  * Cabins. Eight cabins share a plan. Each step is charged to the cabin, 0 to 7, that added it, until it is freed; step 0 is charged to none. A table
  * has a guarantee and a limit for each cabin. No cabin has more steps than its limit, and one that has fewer than its guarantee is never refused for
  * want of a step (8, 14, 15), whatever the others add or keep. A list of guarantees and limits is good if no guarantee is above its limit and all
@@ -21,7 +27,8 @@
  * Threads. The library keeps no state between calls: any number of threads may call it at once, with each table in one call at a time. Calls that
  * take a const table only read it, and may share one that nobody changes.
  *
- * Any bytes may stand in a table: every field is a number. A call that is lent a table that is not sound answers refusal 1. All calls end.
+ * Any bytes may stand in a table: every field is a number. A call on a table that is not sound answers refusal 1; plan_is_sound says so by 0, and
+ * plan_fresh and plan_load_image do not look at what stood there. All calls end.
  *
  * Refusals. `refusal` is PLAN_DONE, or the number of the first condition of the call's order that holds. All other numbers of the reply are then 0,
  * every byte of the table is as it was, and no lent byte was written. Only plan_fresh and plan_load_image differ: refused, they leave a fresh table of
@@ -42,9 +49,11 @@
  *     plan_trial, plan_write_image                                              7,280
  *     plan_load_image                                                           7,312
  *     plan_convert_up, plan_convert_down                                       11,280
- *     plan_key_line                                                             7,392
+ *     plan_key_line                                                             7,440
  *
  * `cargo test --release --test stack -- --nocapture` in compare/ prints them.
+ *
+ * Linking. The library is freestanding but for memcpy and memset, which the host has.
  */
 #ifndef TELEPHONE_H
 #define TELEPHONE_H
@@ -221,8 +230,8 @@ plan_reply plan_clear(plan_table *t, uint16_t step, uint16_t exit);
 
 /* Empties an exit as plan_clear does, and writes a slip of it to the start of the buffer, for plan_take_back. A slip is made of words of two bytes,
  * the low one first: the step, the exit and the number of changed steps; then of each changed step, in ascending number, the old and the new record
- * as in an image of edition 2. The record of a free step is 22, 4, its number and zeros. So the slip has 6 bytes and 44 for each changed step, whose
- * number is its third word, and PLAN_SLIP_MAX bytes are room enough for any. Bytes past it are not touched.
+ * as in an image of edition 2. The record of a free step is 22, 4, its number and zeros. So the slip has 6 + 44 * (buffer[4] + 256 * buffer[5]) bytes,
+ * and PLAN_SLIP_MAX bytes are room enough for any. Bytes past it are not touched.
  * first: steps made doubtful; second: steps freed. Refusals, in order: 1, 3, 4, 6, 11 where the buffer is shorter than this slip. */
 plan_reply plan_clear_with_slip(plan_table *t, uint16_t step, uint16_t exit, uint8_t *buffer, size_t length);
 
@@ -256,7 +265,7 @@ plan_reply plan_counts(const plan_table *t);
  * and where the moves made equal the limit, 0 to 65535, it ends stopped. So a trial round a ring of waits ends too.
  * The number of each step entered is written to the trace, a byte each, from its start; bytes past the moves are not touched. The trace must have at
  * least as many bytes as the limit, whatever the trial does, and all results must be 0 to 3, used up or not; there may be more of them than moves.
- * Refusals, in order: 1, 10, 11. */
+ * Refusals, in order: 1, 10, 11; a refused one has 0 in ending too, which is PLAN_OPEN, so look at refusal first. */
 plan_trial_reply plan_trial(const plan_table *t, uint16_t limit, const uint8_t *results, size_t results_length, uint8_t *trace, size_t trace_length);
 
 /* The length of the table's image: 42 bytes and 22 for each step in use. Refusal: 1. */
@@ -275,16 +284,22 @@ plan_reply plan_load_image(plan_table *t, const uint8_t *bytes, size_t length);
 /* Converts an image of edition 1, which is exactly these bytes, to edition 2 and writes it to the start of the buffer, with no table of the caller's.
  * The plan and its strengths stay; all steps are of cabin 0, and the list is that of plan_sole_quotas for the capacity. The step records may come in
  * any order and are written in ascending step number; bytes past the image are not touched. PLAN_IMAGE_MAX bytes are room enough for any image.
- * length: 42 bytes and 22 for each step in use. Refusals, in order: 12, also for an image of edition 2; 11. */
+ * length in the reply: 42 bytes and 22 for each step in use. Refusals, in order: 12, also for an image of edition 2; 11. */
 plan_write_reply plan_convert_up(const uint8_t *bytes, size_t length, uint8_t *buffer, size_t room);
 
 /* Converts an image of edition 2 to edition 1 in the same way; up and down again is the first image, its step records sorted. Edition 1 has no cabins:
  * all steps have to be of cabin 0, and the list that of plan_sole_quotas for the capacity.
- * length: 10 bytes and 20 for each step in use. Refusals, in order: 12, also for an image of edition 1; 17; 11. */
+ * length in the reply: 10 bytes and 20 for each step in use. Refusals, in order: 12, also for an image of edition 1; 17; 11. */
 plan_write_reply plan_convert_down(const uint8_t *bytes, size_t length, uint8_t *buffer, size_t room);
 
-/* Carries out a key line, given without its byte 10; any bytes of any length. It adds for cabin 0.
- * first and second: the two numbers that the program `keys` prints. Refusals: 1, 9, then those of its call. */
+/* Carries out a key line, given without its byte 10; any bytes of any length. ASCII; steps and contents have three digits, exits and kinds one:
+ *
+ *     H*1 step exit kind content A    adds, for cabin 0          first: the new step
+ *     H*2 step exit step exit A       links
+ *     H*3 step exit A                 clears                     first: steps made doubtful; second: steps freed
+ *     H*4A                            counts                     first: steps in use; second: free ones
+ *
+ * with no space between; "H*100001007A" adds contact 7 at exit 0 of step 0. Other numbers are 0. Refusals: 1, 9, then those of its call. */
 plan_reply plan_key_line(plan_table *t, const uint8_t *line, size_t length);
 
 /* The words of a refusal. */

@@ -112,6 +112,7 @@ fn calls(exit: u16) -> Vec<Taken> {
     let (mut longest, rings) = (vec![0; 65535], [CONTACT, WAIT].map(|kind| ring(&[kind; 127])));
     let rounds = rounds(&[CONTACT; 127], 70_000);
     let adds = format!("H*1126{exit}1099A").into_bytes();
+    let filled = format!("H*1000{exit}1099A").into_bytes();
     let links = format!("H*2000{exit}127{exit}A").into_bytes();
     let clears = format!("H*3000{exit}A").into_bytes();
     let ((empty, freed), (turned, kept)) = (cleared(&chain, exit), cleared(&held, exit));
@@ -142,11 +143,13 @@ fn calls(exit: u16) -> Vec<Taken> {
         taken("read", &chain, 1, |t| raw::read(t, 127).kind),
         taken("add", &open, 127, |t| raw::add(t, 126, exit, 1, 0, 0).first),
         taken("add, refused as full", &chain, 8, |t| raw::add(t, 127, exit, 1, 0, 0).refusal),
+        taken("add, exit filled", &chain, 5, |t| raw::add(t, 0, exit, 1, 0, 0).refusal),
         taken("add for cabin 7", &shared, 127, |t| raw::add(t, 126, exit, 1, 0, 7).first),
         taken("add at a limit", &shared, 14, |t| raw::add(t, 126, exit, 1, 0, 6).refusal),
         taken("add, steps reserved", &shared, 15, |t| raw::add(t, 126, exit, 1, 0, 0).refusal),
         taken("add for no cabin", &shared, 16, |t| raw::add(t, 126, exit, 1, 0, 8).refusal),
         taken("link", &chain, 0, |t| raw::link(t, 0, exit, 127, exit).refusal),
+        taken("link, exit filled", &chain, 5, |t| raw::link(t, 0, exit, 1, exit).refusal),
         taken("clear, 127 freed", &chain, 127, |t| raw::clear(t, 0, exit).second),
         taken("clear, 127 taken back", &held, 127, |t| raw::clear(t, 0, exit).first),
         taken("clear with slip, 127 freed", &chain, 127, |t| {
@@ -230,6 +233,7 @@ fn calls(exit: u16) -> Vec<Taken> {
             raw::convert_down(&image, &mut buffer[..2569]).refusal
         }),
         taken("key line that adds", &open, 127, |t| raw::key_line(t, &adds).first),
+        taken("key line, exit filled", &chain, 5, |t| raw::key_line(t, &filled).refusal),
         taken("key line that links", &chain, 0, |t| raw::key_line(t, &links).refusal),
         taken("key line, 127 freed", &chain, 127, |t| raw::key_line(t, &clears).second),
         taken("key line, 127 taken back", &held, 127, |t| raw::key_line(t, &clears).first),
@@ -274,7 +278,7 @@ fn told() -> Vec<(String, usize)> {
     told
 }
 
-/// The header tells what is measured, but for the frames of the closures here, which a compiler may or may not inline.
+/// The header tells no less than what is measured, and not much more: functions stand in one line of it, and closures here may or may not be inlined.
 #[test]
 fn the_header_tells_the_stack() {
     let (deepest, mut told) = (deepest(), told());
@@ -286,7 +290,10 @@ fn the_header_tells_the_stack() {
     for (at, (name, bytes)) in told.iter().enumerate() {
         let its = deepest.iter().filter(|taken| function(taken) == Some(at));
         let most = its.map(|taken| taken.stack).max().expect(name);
-        assert!(most.abs_diff(*bytes) <= 96, "{name}: {most} bytes, and the header tells {bytes}");
+        assert!(
+            most <= *bytes && *bytes <= most + 96,
+            "{name}: {most}, and the header tells {bytes}"
+        );
     }
 }
 

@@ -9,7 +9,7 @@
 use mathlib.Core.Path.{_≡_, refl, sym, _∙_, ap}
 use mathlib.Core.Bool.{Bool, true, false, not, cond}
 use mathlib.Core.Logic.{⊎-elim}
-use mathlib.Core.List.{List, [], _∷_}
+use mathlib.Core.List.{List, _∷_}
 use Prim.Native.Nat.{ℕ, zero, suc, _+_, _-_, _≤_, _<_}
 use native.Mathlib.Omega.{arith}
 use lib.Dec.{eqb, leb, ltb}
@@ -19,8 +19,8 @@ use Rattle.finite.proofs.Bools.{test, refute, not-true-false, not-false-true}
 use Rattle.finite.proofs.Below.{find-hit, find-miss}
 use Rattle.table.specs.Table.{Table, places, exits, inUse, holds}
 use Rattle.table.specs.Sound.{Shape, Sound}
-use Rattle.table.specs.Answer.{notInUse, badExit, exitFilled, exitEmpty, first}
-use Rattle.table.specs.Calls.{after, linkRefusal}
+use Rattle.table.specs.Answer.{notInUse, badExit, exitEmpty, first}
+use Rattle.table.specs.Calls.{after, fillTests, linkRefusal}
 use Rattle.table.specs.Clear.{clearConditions, clearRefusal}
 use Rattle.table.proofs.Links.{used-place}
 use Rattle.table.proofs.Calls.{nonzero, first-zero, first-append}
@@ -89,16 +89,13 @@ module _ (t : Table) (i e : ℕ) (s : Sound t) (p : (inUse t i ≡ true) × (e <
   accepted h = rw (sound-test t s, p .0, lt-leb exits e (p .1), h)
 
 -- link asks of its source what a clearing asks, and then for the second exit
-abbrev secondConditions : Table → ℕ → ℕ → List (Bool × ℕ)
-secondConditions t second f = (not (inUse t second), notInUse) ∷ (leb exits f, badExit) ∷ (holds t second f, exitFilled) ∷ []
-
 module _ (t : Table) (source e second f : ℕ) where
-  link-order : linkRefusal t source e second f ≡ cond (eqb (clearRefusal t source e) 0) (first (secondConditions t second f)) (clearRefusal t source e)
+  link-order : linkRefusal t source e second f ≡ cond (eqb (clearRefusal t source e) 0) (first (fillTests t second f)) (clearRefusal t source e)
   unfolding linkRefusal clearRefusal
-  link-order = first-append (clearConditions t source e) (secondConditions t second f) (unfold nonzero in refl)
+  link-order = first-append (clearConditions t source e) (fillTests t second f) (unfold nonzero in refl)
 
   pub link-stopped : (clearRefusal t source e ≡ 0 → ⊥) → linkRefusal t source e second f ≡ clearRefusal t source e
   link-stopped d = link-order ∙ rw (ne-eqb (clearRefusal t source e) 0 d)
 
-  pub link-past : clearRefusal t source e ≡ 0 → linkRefusal t source e second f ≡ first (secondConditions t second f)
+  pub link-past : clearRefusal t source e ≡ 0 → linkRefusal t source e second f ≡ first (fillTests t second f)
   link-past z = link-order ∙ rw (eq-eqb (clearRefusal t source e) 0 z)

@@ -20,7 +20,7 @@ use Rattle.table.specs.Calls.{addCall, linkCall, readCall}
 use Rattle.table.specs.Trial.{trialCall}
 use Rattle.table.specs.Clear.{cleared, clearRefusal, clearCall}
 use Rattle.table.specs.Preview.{previewRoom, previewRefusal, previewCall}
-use Rattle.table.specs.Plan.{planOf, planCount, planClearConditions, planClearRefusal, planClearIntoRefusal, planReadRefusal, planTrialRefusal}
+use Rattle.table.specs.Plan.{planOf, planCount, planHoldTests, planClearRefusal, planClearIntoRefusal, planReadRefusal, planTrialRefusal}
 use Rattle.table.proofs.Links.{sound-wired}
 use Rattle.table.proofs.Plan.{plan-capacity, plan-count}
 use Rattle.table.proofs.Clear.{emptied-steps}
@@ -151,8 +151,8 @@ module _ {t : Table} (s : Sound t) where
   slip-refusal i e buffer =
       let n = clearSlipRefusal t i e (length buffer) in
       let told = eqb (refusalOf (clearSlipCall t i e buffer .answer)) tooShort in
-      let plan : first (planClearConditions (planOf t) i e ++ ((told, tooShort) ∷ [])) ≡ cond (eqb (clearRefusal t i e) 0) (cond told tooShort 0) (clearRefusal t i e) =
-      first-append (planClearConditions (planOf t) i e) ((told, tooShort) ∷ []) (unfold nonzero in refl)
+      let plan : first (planHoldTests (planOf t) i e ++ ((told, tooShort) ∷ [])) ≡ cond (eqb (clearRefusal t i e) 0) (cond told tooShort 0) (clearRefusal t i e) =
+      first-append (planHoldTests (planOf t) i e) ((told, tooShort) ∷ []) (unfold nonzero in refl)
       ∙ ap (λ (m : ℕ). cond (eqb m 0) (first ((told, tooShort) ∷ [])) m) (sym (clear-refusal s i e)) ∙ (unfold first in refl) in
       ⊎-elim
       (λ (z : clearRefusal t i e ≡ 0).

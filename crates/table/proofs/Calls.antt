@@ -25,7 +25,7 @@ use Rattle.table.specs.Answer.{Outcome, notSound, tooShort, first, refus
 use Rattle.table.specs.Calls.{numberGiven, withStep, addRefusal, addTable, weakBit, linkRefusal, linkTable, noFields, readRefusal, readCall}
 use Rattle.table.specs.Trial.{tryFrom, trialRefusal, trialCall}
 use Rattle.table.specs.Clear.{emptied, stops, repairOf, repaired, clearConditions, cleared, clearRefusal, clearCall}
-use Rattle.table.specs.Plan.{Plan, planOf, planNumber, replan, withTarget, planAdd, planLink, pruned, planClear, planAddRefusal, planLinkRefusal, planClearConditions, planClearRefusal, planClearIntoRefusal, planReadRefusal, planTrialRefusal}
+use Rattle.table.specs.Plan.{Plan, planOf, planNumber, replan, withTarget, planAdd, planLink, pruned, planClear, planAddRefusal, planLinkRefusal, planHoldTests, planClearRefusal, planClearIntoRefusal, planReadRefusal, planTrialRefusal}
 use Rattle.table.proofs.Links.{Wired, sound-wired}
 use Rattle.table.proofs.Sound.{test-sound, sound-test}
 use Rattle.table.proofs.Formed.{sound-formed, formed-wired}
@@ -204,7 +204,7 @@ module _ {t : Table} (s : Sound t) where
   into-refusal i e short =
       into-order t i e short
       ∙ ap (λ (n : ℕ). cond (eqb n 0) (cond short tooShort 0) n) (clear-refusal i e)
-      ∙ sym (first-append (planClearConditions (planOf t) i e) ((short, tooShort) ∷ []) (unfold nonzero in refl))
+      ∙ sym (first-append (planHoldTests (planOf t) i e) ((short, tooShort) ∷ []) (unfold nonzero in refl))
 
   pub read-refusal : (i : ℕ) → readRefusal t i ≡ planReadRefusal (planOf t) i
   unfolding readRefusal planReadRefusal

@@ -1,6 +1,7 @@
 -- The calls fresh, add, link and read (document 01, "Calls"; document 02, W5); clear is in Clear, the trial in Trial. Each is the answer and the
 -- table handed back, for every input; the refused ones too. Assumes nothing.
 --   tableTests t    what every call on a table asks first: 1
+--   exitTests t i e   what is asked of a step and its exit: 3, 4; fillTests, of an exit to be filled; holdTests, of one to be copied or cleared
 --   addConditions .. the conditions of a call's refusals with their numbers, in the documents' order; addRefusal .. the first that holds
 --   stepConditions  those of add in document 01, after 1
 --   freshTable c q  only step 0 in use, all bits 0, last number 0
@@ -25,6 +26,21 @@ use Rattle.table.specs.Answer.{Outcome, notSound, badCapacity, notInUse,
 -- what is asked of the table itself, before all else: that it is sound
 abbrev pub tableTests : Table → List (Bool × ℕ)
 tableTests t = (not (sound t), notSound) ∷ []
+
+-- "step not in use", "exit above 3"
+abbrev pub exitTests : Table → ℕ → ℕ → List (Bool × ℕ)
+exitTests t i e =
+    (not (inUse t i), notInUse) ∷
+    (leb exits e, badExit) ∷
+    []
+
+-- "exit to be filled holds a link"
+abbrev pub fillTests : Table → ℕ → ℕ → List (Bool × ℕ)
+fillTests t i e = exitTests t i e ++ ((holds t i e, exitFilled) ∷ [])
+
+-- "exit to copy or clear is empty"
+abbrev pub holdTests : Table → ℕ → ℕ → List (Bool × ℕ)
+holdTests t i e = exitTests t i e ++ ((not (holds t i e), exitEmpty) ∷ [])
 
 -- Fresh: "a capacity; only step 0 in use, all bits 0, last number 0". Step 0 is of kind 0 with content 0. W5: it "is given for each cabin a guarantee
 -- and a limit"; step 0 has no cabin, "its field is zero".
@@ -82,12 +98,10 @@ numberGiven capacity last free = find capacity (after capacity) (after capacity 
 -- what document 01 asks of the holder, its exit, the kind and the room; W5 has 16 before it, 14 and 15 after it
 abbrev pub stepConditions : Table → ℕ → ℕ → ℕ → ℕ → List (Bool × ℕ)
 stepConditions t holder e kind content =
-    (not (inUse t holder), notInUse) ∷
-    (leb exits e, badExit) ∷
-    (holds t holder e, exitFilled) ∷
-    (not (contentFits kind content), badKind) ∷
+    fillTests t holder e ++
+    ((not (contentFits kind content), badKind) ∷
     (eqb (stepsInUse t) (t .capacity), full) ∷
-    []
+    [])
 
 abbrev pub addConditions : Table → ℕ → ℕ → ℕ → ℕ → ℕ → List (Bool × ℕ)
 addConditions t holder e kind content cabin =
@@ -116,16 +130,9 @@ addCall t holder e kind content cabin =
     unless (addRefusal t holder e kind content cabin) t
     (record { answer = Given n 0; table = addTable t holder e kind content cabin n })
 
+-- "link 1, source 3, 4, 6, second 3, 4, 5"
 abbrev pub linkConditions : Table → ℕ → ℕ → ℕ → ℕ → List (Bool × ℕ)
-linkConditions t source e second f =
-    tableTests t ++
-    ((not (inUse t source), notInUse) ∷
-    (leb exits e, badExit) ∷
-    (not (holds t source e), exitEmpty) ∷
-    (not (inUse t second), notInUse) ∷
-    (leb exits f, badExit) ∷
-    (holds t second f, exitFilled) ∷
-    [])
+linkConditions t source e second f = tableTests t ++ (holdTests t source e ++ fillTests t second f)
 
 unfoldable pub linkRefusal : Table → ℕ → ℕ → ℕ → ℕ → ℕ
 linkRefusal t source e second f = first (linkConditions t source e second f)

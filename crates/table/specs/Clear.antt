@@ -10,16 +10,16 @@
 --   cleared t i e     the four rules together
 --   clearCall         the call
 use mathlib.Core.Bool.{Bool, true, false, _&&_, _||_, not, cond}
-use mathlib.Core.List.{List, [], _∷_, _++_}
+use mathlib.Core.List.{List, _++_}
 use Prim.Native.Nat.{ℕ, zero, suc, _-_}
 use lib.ListN.{set}
-use lib.Dec.{leb, ltb}
+use lib.Dec.{ltb}
 use Rattle.finite.specs.Below.{any, count, lowest, rounds, tabulate}
 use Rattle.finite.specs.Reach.{marked, reach}
 use Rattle.table.specs.declared.Answer.the-variants.{Given}
-use Rattle.table.specs.Table.{Table, exits, exitsOf, counterPlace, inUse, ownBit, targetOf, counterOf, holds, strong, linked, stronglyLinked, withLinks, withSteps}
-use Rattle.table.specs.Answer.{Outcome, notInUse, badExit, exitEmpty, first, unless}
-use Rattle.table.specs.Calls.{tableTests, relink, weakBit}
+use Rattle.table.specs.Table.{Table, exitsOf, counterPlace, inUse, ownBit, targetOf, counterOf, strong, linked, stronglyLinked, withLinks, withSteps}
+use Rattle.table.specs.Answer.{Outcome, first, unless}
+use Rattle.table.specs.Calls.{tableTests, holdTests, relink, weakBit}
 
 -- 1. "Empty the exit and lower the counter."
 unfoldable pub emptied : Table → ℕ → ℕ → Table
@@ -108,13 +108,9 @@ repaired t =
       table = release (r .table) (r .doubt);
     }
 
+-- "clear 1, 3, 4, 6"
 abbrev pub clearConditions : Table → ℕ → ℕ → List (Bool × ℕ)
-clearConditions t i e =
-    tableTests t ++
-    ((not (inUse t i), notInUse) ∷
-    (leb exits e, badExit) ∷
-    (not (holds t i e), exitEmpty) ∷
-    [])
+clearConditions t i e = tableTests t ++ holdTests t i e
 
 unfoldable pub clearRefusal : Table → ℕ → ℕ → ℕ
 clearRefusal t i e = first (clearConditions t i e)

@@ -154,44 +154,40 @@ planSqueeze p c quotas =
       quotas = quotas;
     }
 
+-- of a step and its exit; of an exit to be filled; of one to be copied or cleared
+abbrev pub planExitTests : Plan → ℕ → ℕ → List (Bool × ℕ)
+planExitTests p i e =
+    (not (planInUse p i), notInUse) ∷
+    (leb exits e, badExit) ∷
+    []
+
+abbrev pub planFillTests : Plan → ℕ → ℕ → List (Bool × ℕ)
+planFillTests p i e = planExitTests p i e ++ ((planHolds p i e, exitFilled) ∷ [])
+
+abbrev pub planHoldTests : Plan → ℕ → ℕ → List (Bool × ℕ)
+planHoldTests p i e = planExitTests p i e ++ ((not (planHolds p i e), exitEmpty) ∷ [])
+
 unfoldable pub planAddRefusal : Plan → ℕ → ℕ → ℕ → ℕ → ℕ → ℕ
 planAddRefusal p holder e kind content cabin =
     first
     ((leb cabinCount cabin, badCabins) ∷
-    (not (planInUse p holder), notInUse) ∷
-    (leb exits e, badExit) ∷
-    (planHolds p holder e, exitFilled) ∷
-    (not (contentFits kind content), badKind) ∷
+    (planFillTests p holder e ++
+    ((not (contentFits kind content), badKind) ∷
     (eqb (planCount p) (p .capacity), full) ∷
     (atLimit (p .quotas) (planCharge p) cabin, cabinAtLimit) ∷
     (noneToSpare (p .quotas) (planCharge p) (p .capacity - planCount p) cabin, stepsReserved) ∷
-    [])
+    [])))
 
 unfoldable pub planLinkRefusal : Plan → ℕ → ℕ → ℕ → ℕ → ℕ
-planLinkRefusal p source e second f =
-    first
-    ((not (planInUse p source), notInUse) ∷
-    (leb exits e, badExit) ∷
-    (not (planHolds p source e), exitEmpty) ∷
-    (not (planInUse p second), notInUse) ∷
-    (leb exits f, badExit) ∷
-    (planHolds p second f, exitFilled) ∷
-    [])
-
-abbrev pub planClearConditions : Plan → ℕ → ℕ → List (Bool × ℕ)
-planClearConditions p i e =
-    (not (planInUse p i), notInUse) ∷
-    (leb exits e, badExit) ∷
-    (not (planHolds p i e), exitEmpty) ∷
-    []
+planLinkRefusal p source e second f = first (planHoldTests p source e ++ planFillTests p second f)
 
 unfoldable pub planClearRefusal : Plan → ℕ → ℕ → ℕ
-planClearRefusal p i e = first (planClearConditions p i e)
+planClearRefusal p i e = first (planHoldTests p i e)
 
 -- the same and 11 last, where the lent buffer is short: W7's, of which the plan is told, since it "has no strengths to find" the length of a slip by, and
 -- W8's, which the buffer's length alone decides
 unfoldable pub planClearIntoRefusal : Plan → Bool → ℕ → ℕ → ℕ
-planClearIntoRefusal p short i e = first (planClearConditions p i e ++ ((short, tooShort) ∷ []))
+planClearIntoRefusal p short i e = first (planHoldTests p i e ++ ((short, tooShort) ∷ []))
 
 unfoldable pub planReadRefusal : Plan → ℕ → ℕ
 planReadRefusal p i = first ((not (planInUse p i), notInUse) ∷ [])
