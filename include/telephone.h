@@ -104,7 +104,7 @@ enum plan_refusal {
     PLAN_BAD_RESULT = 10,       /* some line result above 3 */
     PLAN_TOO_SHORT = 11,        /* lent buffer shorter than needed */
     PLAN_NOT_ACCEPTED = 12,     /* image not accepted; of a conversion also: image of the other edition */
-    PLAN_DOES_NOT_FIT = 13,     /* capacity below the steps in use, or the charges do not fit the new quotas */
+    PLAN_DOES_NOT_FIT = 13,     /* capacity below the steps in use, or the charges do not fit the new list */
     PLAN_CABIN_AT_LIMIT = 14,   /* cabin at its limit */
     PLAN_STEPS_RESERVED = 15,   /* only steps reserved for other cabins are free */
     PLAN_BAD_CABINS = 16,       /* cabin above 7, or bad list of guarantees and limits */
@@ -318,7 +318,7 @@ static inline const char *plan_refusal_words(uint16_t refusal) {
     case PLAN_BAD_RESULT: return "some line result above 3";
     case PLAN_TOO_SHORT: return "lent buffer shorter than needed";
     case PLAN_NOT_ACCEPTED: return "image not accepted";
-    case PLAN_DOES_NOT_FIT: return "capacity below the steps in use, or the charges do not fit the new quotas";
+    case PLAN_DOES_NOT_FIT: return "capacity below the steps in use, or the charges do not fit the new list";
     case PLAN_CABIN_AT_LIMIT: return "cabin at its limit";
     case PLAN_STEPS_RESERVED: return "only steps reserved for other cabins are free";
     case PLAN_BAD_CABINS: return "cabin above 7, or bad list of guarantees and limits";

@@ -75,7 +75,7 @@ static void names(void) {
         "done", "table not sound", "capacity not 1 to 128", "step not in use", "exit above 3", "exit to be filled holds a link",
         "exit to copy or clear is empty", "kind not 1 to 3, or content out of range", "steps in use equal the capacity", "not a key line",
         "some line result above 3", "lent buffer shorter than needed", "image not accepted",
-        "capacity below the steps in use, or the charges do not fit the new quotas", "cabin at its limit",
+        "capacity below the steps in use, or the charges do not fit the new list", "cabin at its limit",
         "only steps reserved for other cabins are free", "cabin above 7, or bad list of guarantees and limits",
         "image needs edition 2: a cabin, guarantee or limit that edition 1 cannot say", "slip not accepted"};
     static const int refusals[KNOWN] = {

@@ -67,7 +67,28 @@ fn rules(image: &[u8]) -> Result<(), Fault> {
     strong_links(&records, &view)?;
     list(&view)?;
     cabins(&records)?;
-    charges(&records, &view)
+    limits(&records, &view)?;
+    reserve(&view)
+}
+
+/// What does not fit in a table with these numbers, guarantees, limits and steps: the list, the steps, a charge or what is owed; nothing where all do.
+pub fn unfit(view: &View) -> Option<String> {
+    let (used, capacity) = (view.steps.len(), view.capacity);
+    let full = || {
+        let words = format!("{} in use, and the capacity is {capacity}", count(used, "step"));
+        (used > capacity.into()).then_some(words)
+    };
+    let over = |cabin: &usize| view.charged(*cabin).count() > view.quotas[*cabin].limit.into();
+    let charge = || (0..CABINS).find(over).map(|cabin| cabin_line(view, cabin));
+    let listed = list(view).err().map(|fault| fault.words);
+    let owed = || reserve(view).err().map(|fault| fault.words);
+    listed.or_else(full).or_else(charge).or_else(owed)
+}
+
+/// What a cabin has, is guaranteed and may have.
+pub fn cabin_line(view: &View, cabin: usize) -> String {
+    let (has, Quota { guarantee, limit }) = (view.charged(cabin).count(), view.quotas[cabin]);
+    format!("cabin {cabin} has {}, guarantee {guarantee} and limit {limit}", count(has, "step"))
 }
 
 /// The word at a byte; 0 past the end.
@@ -155,6 +176,25 @@ fn guarantee_byte(cabin: usize) -> usize {
 /// The byte of the limit of a cabin.
 fn limit_byte(cabin: usize) -> usize {
     guarantee_byte(cabin) + 2
+}
+
+/// Bytes of a slip before its records: the step, the exit, and the number of pairs of an old and a new record.
+const SLIP_HEADER: usize = 6;
+
+/// The first step of a slip that is not as its new record says, in the table of an image of edition 2, where a step with no record is free.
+pub fn changed_since(image: &[u8], slip: &[u8]) -> Option<u16> {
+    let Edition { header, step, step_kind, .. } = EDITIONS[1];
+    let records = || image.get(header..).unwrap_or_default().chunks(step);
+    let free = |number: u16| {
+        let fields = [step as u16, step_kind, number].map(u16::to_le_bytes).concat();
+        [fields, vec![0; step - 6]].concat()
+    };
+    let changed = |new: &[u8]| {
+        let (number, present) = (word(new, 4), records().find(|of| word(of, 4) == word(new, 4)));
+        (present.map_or_else(|| free(number), <[u8]>::to_vec) != new).then_some(number)
+    };
+    let pairs = slip.get(SLIP_HEADER..).unwrap_or_default().chunks(2 * step);
+    pairs.filter_map(|pair| pair.get(step..)).find_map(changed)
 }
 
 /// A step record, by the byte where it begins.
@@ -348,8 +388,8 @@ fn cabins(records: &[Record]) -> Result<(), Fault> {
     Ok(())
 }
 
-/// Rules 13 and 14: no cabin has more steps than its limit, and the free steps are enough for what is still owed.
-fn charges(records: &[Record], view: &View) -> Result<(), Fault> {
+/// Rule 13: no cabin has more steps than its limit.
+fn limits(records: &[Record], view: &View) -> Result<(), Fault> {
     for (cabin, &Quota { limit, .. }) in view.quotas.iter().enumerate() {
         let over: Vec<u16> = view.charged(cabin).skip(limit.into()).collect();
         if let Some(record) = records.iter().find(|record| over.contains(&record.number)) {
@@ -358,6 +398,11 @@ fn charges(records: &[Record], view: &View) -> Result<(), Fault> {
             return fault(13, record.at + CABIN, words);
         }
     }
+    Ok(())
+}
+
+/// Rule 14: the free steps are enough for what is still owed.
+fn reserve(view: &View) -> Result<(), Fault> {
     let mut left = view.free();
     for cabin in 0..CABINS {
         let owed = view.owed(cabin);

@@ -1,23 +1,24 @@
 //! The commands. Each reads what it is given, asks the library, and only then writes.
 
 use crate::files::{
-    broken_rule, give, give_cleared, give_image, give_table, goes_nowhere, image_bytes, input,
-    input_failed, load, print, refused_image, say, shown, slip_bytes,
+    apart, broken_rule, give, give_cleared, give_image, give_table, goes_nowhere, image_bytes,
+    input, input_failed, load, print, refused_image, say, shown, slip_bytes,
 };
 use crate::{number, Failure, Request};
 use plan::change::{checked, cleared, taken_back};
-use plan::check::edition;
+use plan::check::{cabin_line, changed_since, edition, unfit};
 use plan::diff::{diff, Verdict};
 use plan::draw::{as_dot, as_svg};
 use plan::pages;
 use plan::view::View;
 use plan::words::{count, refused};
+use std::collections::BTreeMap;
 use std::ffi::{OsStr, OsString};
 use std::io::{self, BufRead, BufReader, IsTerminal, Read};
 use std::path::Path;
 use telephone::{
-    convert_down, convert_up, raw, slip_length, sole_quotas, Quota, Quotas, Refusal, Table, CABINS,
-    IMAGE_MAX, PREVIEW_ROOM, SLIP_MAX,
+    convert_down, convert_up, raw, slip_length, sole_quotas, Ending, Quota, Quotas, Refusal, Table,
+    CABINS, IMAGE_MAX, PLACES, PREVIEW_ROOM, SLIP_MAX,
 };
 
 /// A command of the program.
@@ -197,18 +198,19 @@ contents are those of key lines: plan key --help names them.
 const PREVIEW: &str = "\
 Says what clearing the exit would do: how many steps would be doubtful, and
 which of them would go. The image is only read. The same plan clear, made next,
-frees just these steps, and says what holds the others then. Exits: 0 answered,
+frees just these steps, and says what holds the others then. Where another
+contact would be rung first, or nobody, that is said too. Exits: 0 answered,
 1 engaged, 2 no reply, 3 line fault.
 ";
 
 const CLEAR: &str = "\
 Says on standard error what clearing the exit does: which steps become
-doubtful, which of them stay and what holds each then, and which go. The new
-image goes to FILE, which may be IMAGE itself, or to standard output; at a
-terminal it goes nowhere. plan preview says beforehand which steps would go, and
-gives no image. With --slip, a slip of the clearing is stored in the file SLIP,
-by which plan take-back takes it back. Exits: 0 answered, 1 engaged, 2 no reply,
-3 line fault.
+doubtful, which of them stay and what holds each then, which go, and who is rung
+first now where that is another. The new image goes to FILE, which may be IMAGE
+itself, or to standard output; at a terminal it goes nowhere. plan preview says
+beforehand which steps would go, and gives no image. With --slip, a slip of the
+clearing is stored in the file SLIP, by which plan take-back takes it back.
+Exits: 0 answered, 1 engaged, 2 no reply, 3 line fault.
 ";
 
 const TAKE_BACK: &str = "\
@@ -256,13 +258,15 @@ links solid, weak ones dashed. A step says its cabin where that is not 0. With
 const DIFF: &str = "\
 Whether two images are one table, one plan with other strengths, or two plans;
 then cabin by cabin and step by step how they differ. A link is strong if its
-bit is the own bit of the step that it leads to. Status 0 where they are one
-table, whatever the editions of the images, 1 where not.
+bit is the own bit of the step that it leads to; bits may differ where strengths
+do not. Status 0 where they are one table, whatever the editions of the images,
+1 where not, 2 where one could not be read or is not accepted.
 ";
 
 const CHECK: &str = "\
 Accepted, with its edition, or the first rule of docs/IMAGE.md that is broken,
-with the byte to look at. Status 0 where it is accepted, 1 where not.
+with the byte to look at. Status 0 where it is accepted, 1 where not, 2 where it
+could not be read.
 ";
 
 const FRESH: &str = "\
@@ -334,6 +338,18 @@ fn pair(word: &OsStr) -> Result<Quota, Failure> {
     Ok(Quota { guarantee, limit: number("the limit", OsStr::new(limit))? })
 }
 
+/// A refusal for the sake of the cabins, and the numbers of the cabin that stand against it, or what does not fit in the table asked for.
+fn refused_for(refusal: Refusal, view: &View, cabin: Option<usize>) -> Failure {
+    let why = match refusal {
+        Refusal::CabinAtLimit | Refusal::StepsReserved => {
+            cabin.map(|cabin| cabin_line(view, cabin))
+        }
+        Refusal::DoesNotFit | Refusal::BadCabins if cabin.is_none() => unfit(view),
+        _ => None,
+    };
+    [Some(refused(refusal)), why].into_iter().flatten().collect::<Vec<_>>().join("; ")
+}
+
 /// The cabins, where the command line says what they get.
 fn said_cabins(view: &View, words: &[OsString]) -> String {
     if words.is_empty() {
@@ -345,7 +361,11 @@ fn said_cabins(view: &View, words: &[OsString]) -> String {
 
 fn fresh(request: &Request) -> Result<u8, Failure> {
     let (capacity, pairs) = (number("the capacity", &request.words[0])?, &request.words[1..]);
-    let table = Table::fresh(capacity, &list(pairs, sole_quotas(capacity))?).map_err(refused)?;
+    let quotas = list(pairs, sole_quotas(capacity))?;
+    let table = Table::fresh(capacity, &quotas).map_err(|refusal| {
+        let view = View { capacity, last: 0, quotas, steps: BTreeMap::new() };
+        refused_for(refusal, &view, None)
+    })?;
     let view = View::of(&table);
     say(&format!("{}\n{}", pages::numbers(&view), said_cabins(&view, pairs)))?;
     give_table(request, &table)?;
@@ -360,7 +380,8 @@ fn add(request: &Request) -> Result<u8, Failure> {
     let content = number("the content", &request.words[4])?;
     let cabin = number("the cabin", &request.words[5])?;
     let added = call(&table, |table| raw::add(table, step, exit, kind, content, cabin));
-    let (table, answer) = added.map_err(refused)?;
+    let (table, answer) =
+        added.map_err(|refusal| refused_for(refusal, &before, Some(cabin.into())))?;
     let after = View::of(&table);
     say(&format!("{}\n", pages::answered(&after, &checked(&before, &after, answer)?)))?;
     give_table(request, &table)?;
@@ -374,6 +395,7 @@ fn show(request: &Request) -> Result<u8, Failure> {
 }
 
 fn draw(request: &Request) -> Result<u8, Failure> {
+    apart("a picture", &request.output, Path::new(&request.words[0]))?;
     let (_, view) = viewed(&request.words[0])?;
     let name = Path::new(&request.words[0]).file_name().unwrap_or_default().to_string_lossy();
     let picture = if request.dot { as_dot(&name, &view) } else { as_svg(&name, &view) };
@@ -409,8 +431,16 @@ fn preview(request: &Request) -> Result<u8, Failure> {
     if same != table || made != answer || !freed.eq(clearing.freed.iter().copied()) {
         return Err("the clearing does not do what its preview tells".to_string());
     }
-    print(&pages::preview(&view, &clearing))?;
+    let rung = [&table, &after].map(first_rung);
+    print(&(pages::preview(&view, &clearing) + &pages::rung(&view, rung, ["now", "then"])))?;
     Ok(0)
+}
+
+/// The step that rings first: where a trial with no line result is spent.
+fn first_rung(table: &Table) -> Option<u16> {
+    let mut trace = [0; PLACES];
+    let trial = table.trial(PLACES as u16, &[], &mut trace).ok()?;
+    (trial.ending == Ending::Spent).then_some(trial.last)
 }
 
 fn clear(request: &Request) -> Result<u8, Failure> {
@@ -425,10 +455,11 @@ fn clear(request: &Request) -> Result<u8, Failure> {
     let view = View::of(&after);
     let clearing = cleared(&before, &view, answer)?;
     let back = || call(&after, |after| raw::take_back(after, slip));
-    if request.slip.is_some() && back() != Ok((table, (answer.1, 0))) {
+    if request.slip.is_some() && back() != Ok((table.clone(), (answer.1, 0))) {
         return Err("the slip does not take the clearing back".to_string());
     }
-    say(&pages::cleared(&before, &view, &clearing))?;
+    let rung = pages::rung(&before, [&after, &table].map(first_rung), ["now", "before"]);
+    say(&(pages::cleared(&before, &view, &clearing) + &rung))?;
     give_cleared(request, &after, slip)?;
     Ok(0)
 }
@@ -436,14 +467,30 @@ fn clear(request: &Request) -> Result<u8, Failure> {
 fn take_back(request: &Request) -> Result<u8, Failure> {
     let (table, before) = viewed(&request.words[0])?;
     let name = &request.words[1];
+    apart("an image", &request.output, Path::new(name))?;
     let slip = slip_bytes(Path::new(name))?;
     let taken = call(&table, |table| raw::take_back(table, &slip));
-    let (table, answer) =
-        taken.map_err(|refusal| format!("{}: {}", shown(name), refused(refusal)))?;
+    let (table, answer) = taken.map_err(|refusal| {
+        format!("{}: {}; {}", shown(name), refused(refusal), why_not_taken_back(&table, &slip))
+    })?;
     let after = View::of(&table);
     say(&pages::taken_back(&after, &taken_back(&before, &after, answer)?))?;
     give_table(request, &table)?;
     Ok(0)
+}
+
+/// What to look at where a slip is not accepted: its length, or the first step that is not as its new record says.
+fn why_not_taken_back(table: &Table, slip: &[u8]) -> String {
+    let wanted = slip_length(slip);
+    if wanted != Some(slip.len()) {
+        return format!("it has {}, and is no whole slip", count(slip.len(), "byte"));
+    }
+    let mut image = [0; IMAGE_MAX];
+    let length = table.write_image(&mut image).unwrap_or(0);
+    match changed_since(&image[..length], slip) {
+        Some(step) => format!("step {step} is not as the clearing left it"),
+        None => "the table from before the clearing does not fit any more".to_string(),
+    }
 }
 
 fn trial(request: &Request) -> Result<u8, Failure> {
@@ -473,7 +520,9 @@ fn squeeze(request: &Request) -> Result<u8, Failure> {
     let (capacity, pairs) = (number("the capacity", &request.words[1])?, &request.words[2..]);
     let quotas = list(pairs, kept_list(&before, capacity))?;
     let squeezed = call(&table, |table| raw::squeeze(table, capacity, &quotas));
-    let (table, _) = squeezed.map_err(refused)?;
+    let (table, _) = squeezed.map_err(|refusal| {
+        refused_for(refusal, &View { capacity, quotas, ..before.clone() }, None)
+    })?;
     let after = View::of(&table);
     say(&(pages::squeezed(&before, &after) + &said_cabins(&after, pairs)))?;
     give_table(request, &table)?;
@@ -556,8 +605,9 @@ fn key(request: &Request) -> Result<u8, Failure> {
     let mut input = BufReader::new(input);
     let mut line = Vec::new();
     let mut refusals = 0;
+    let mut ended = false;
     // each time round: the table and the view are as the lines so far left them
-    while next_line(&mut input, &mut line).map_err(input_failed)? {
+    while !ended && next_line(&mut input, &mut line, &mut ended).map_err(input_failed)? {
         let words = match call(&table, |table| raw::key_line(table, &line)) {
             Ok((after, answer)) => {
                 let before = std::mem::replace(&mut view, View::of(&after));
@@ -581,10 +631,11 @@ fn key(request: &Request) -> Result<u8, Failure> {
 /// Bytes of a line that are kept: more than a key line has, so that what is dropped of a longer one changes no answer.
 const KEPT: u64 = 64;
 
-/// Reads a line, without its byte 10, in place of the one before; false where there is none.
-fn next_line(input: &mut impl BufRead, line: &mut Vec<u8>) -> io::Result<bool> {
+/// Reads a line, without its byte 10, in place of the one before; false where there is none. Says whether the input ended: past its end nothing is read,
+/// since a terminal would go on.
+fn next_line(input: &mut impl BufRead, line: &mut Vec<u8>, ended: &mut bool) -> io::Result<bool> {
     line.clear();
-    input.take(KEPT).read_until(b'\n', line)?;
+    *ended = !part(input, line, KEPT)?;
     let some = !line.is_empty();
     if line.last() == Some(&b'\n') {
         line.pop();
@@ -592,11 +643,57 @@ fn next_line(input: &mut impl BufRead, line: &mut Vec<u8>) -> io::Result<bool> {
     }
     // the rest of a long line, a part at a time
     let mut rest = Vec::new();
-    while some && rest.last() != Some(&b'\n') {
+    while !*ended && rest.last() != Some(&b'\n') {
         rest.clear();
-        if input.take(4096).read_until(b'\n', &mut rest)? == 0 {
-            break;
-        }
+        *ended = !part(input, &mut rest, 4096)?;
     }
     Ok(some)
+}
+
+/// Reads so many bytes, or up to a byte 10; false where the input ended before.
+fn part(input: &mut impl BufRead, bytes: &mut Vec<u8>, most: u64) -> io::Result<bool> {
+    input.take(most).read_until(b'\n', bytes)?;
+    Ok(bytes.last() == Some(&b'\n') || bytes.len() as u64 == most)
+}
+
+#[cfg(test)]
+mod tests {
+    use super::*;
+
+    /// A terminal: it gives these bytes, a part at each reading, and goes on after an end.
+    struct Terminal(Vec<&'static [u8]>);
+
+    impl Read for Terminal {
+        fn read(&mut self, buffer: &mut [u8]) -> io::Result<usize> {
+            let part = self.0.remove(0);
+            buffer[..part.len()].copy_from_slice(part);
+            Ok(part.len())
+        }
+    }
+
+    /// The lines of an input up to its end, and the parts that are left.
+    fn lines(parts: Vec<&'static [u8]>) -> (Vec<Vec<u8>>, usize) {
+        let (mut input, mut ended) = (BufReader::new(Terminal(parts)), false);
+        let (mut line, mut lines) = (Vec::new(), Vec::new());
+        while !ended && next_line(&mut input, &mut line, &mut ended).unwrap() {
+            lines.push(line.clone());
+        }
+        (lines, input.into_inner().0.len())
+    }
+
+    #[test]
+    fn nothing_is_read_past_the_end() {
+        let told = |parts| {
+            let (lines, left) = lines(parts);
+            (lines.iter().map(|line| line.len()).collect::<Vec<_>>(), left)
+        };
+        assert_eq!(told(vec![b"", b"H*4A\n"]), (vec![], 1));
+        assert_eq!(told(vec![b"H*4A", b"", b"H*4A\n"]), (vec![4], 1));
+        assert_eq!(told(vec![b"H*4A\n", b"\nH*", b"5A", b"", b"1"]), (vec![4, 0, 4], 1));
+        // as long as what is kept of a line, a byte less and a byte more
+        assert_eq!(told(vec![&[b'1'; 64], b"", b"1"]), (vec![64], 1));
+        assert_eq!(told(vec![&[b'1'; 63], b"\n", b"", b"1"]), (vec![63], 1));
+        assert_eq!(told(vec![&[b'1'; 65], b"\n2\n", b"", b"1"]), (vec![64, 1], 1));
+        assert_eq!(told(vec![&[b'1'; 5000], b"", b"1"]), (vec![64], 1));
+    }
 }

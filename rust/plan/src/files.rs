@@ -55,11 +55,7 @@ pub fn refused_image(path: &OsStr, refusal: Refusal, why: &str) -> Failure {
 
 /// The first rule that bytes break which the library refused.
 pub fn broken_rule(bytes: &[u8]) -> String {
-    let empty = if bytes.is_empty() {
-        " (> FILE empties FILE before it is read; -o FILE does not)"
-    } else {
-        ""
-    };
+    let empty = if bytes.is_empty() { " (> FILE empties FILE before it is read)" } else { "" };
     match first_fault(bytes) {
         Some(fault) => format!("rule {}, byte {}: {}{empty}", fault.rule, fault.byte, fault.words),
         None => "no broken rule was found".to_string(),
@@ -138,7 +134,8 @@ fn give_both(request: &Request, image: &[u8], slip: &[u8]) -> Result<(), Failure
     begun.map_or(Ok(()), end)?;
     for (what, path) in [("", output), ("slip ", slip_path)] {
         if let Some(path) = path {
-            say(&format!("{what}stored in {}\n", shown(path.as_os_str())))?;
+            // it is stored, whether or not somebody hears of it
+            let _ = say(&format!("{what}stored in {}\n", shown(path.as_os_str())));
         }
     }
     Ok(())
@@ -160,9 +157,14 @@ pub fn can_store(request: &Request) -> Result<(), Failure> {
         tried.map_err(|error| failed(path, error))?;
     }
     let others = [request.output.as_deref(), request.words.first().map(Path::new)];
-    match &request.slip {
-        Some(slip) if others.into_iter().flatten().any(|other| full(other) == full(slip)) => {
-            Err(format!("{}: a slip has to go to a file of its own", shown(slip.as_os_str())))
+    others.into_iter().flatten().try_for_each(|other| apart("a slip", &request.slip, other))
+}
+
+/// Whether what goes to a file leaves another file alone, which holds something else.
+pub fn apart(what: &str, stored: &Option<PathBuf>, other: &Path) -> Result<(), Failure> {
+    match stored {
+        Some(path) if full(path) == full(other) => {
+            Err(format!("{}: {what} has to go to a file of its own", shown(path.as_os_str())))
         }
         _ => Ok(()),
     }

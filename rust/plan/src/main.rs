@@ -82,6 +82,7 @@ fn overview() -> String {
 /// Takes options and words apart. An option that the command does not have is an error.
 fn request(command: &Command, words: &[OsString]) -> Result<Request, Failure> {
     let mut request = Request::default();
+    let mut seen = Vec::new();
     let mut words = words.iter();
     while let Some(word) = words.next() {
         let text = word.to_str().unwrap_or_default();
@@ -92,7 +93,10 @@ fn request(command: &Command, words: &[OsString]) -> Result<Request, Failure> {
         } else if !command.options.iter().any(|option| option.split(' ').next() == Some(text)) {
             let option = files::shown(word);
             return Err(format!("no option {option}; usage: plan {}", command.usage()));
+        } else if seen.contains(&text) {
+            return Err(format!("{text} is given twice; usage: plan {}", command.usage()));
         } else {
+            seen.push(text);
             match text {
                 "--dot" => request.dot = true,
                 "--skip-refused" => request.skip_refused = true,

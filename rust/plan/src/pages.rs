@@ -140,9 +140,9 @@ pub fn cleared(before: &View, after: &View, clearing: &Clearing) -> String {
         return text(&page);
     }
     page.push(format!("doubtful: {}", steps(&doubtful)));
-    page.push(format!("of these stay: {}", some(clearing.stayed.len())));
+    page.push(format!("of these stay: {}", some_steps(clearing.stayed.len())));
     page.extend(held_steps(after, &clearing.stayed));
-    page.push(format!("of these go: {}", some(clearing.freed.len())));
+    page.push(format!("of these go: {}", some_steps(clearing.freed.len())));
     page.extend(named_steps(before, &clearing.freed));
     text(&page)
 }
@@ -150,16 +150,26 @@ pub fn cleared(before: &View, after: &View, clearing: &Clearing) -> String {
 /// What a clearing would do: how many steps would be doubtful, and which of them would go; in one line where none would.
 pub fn preview(view: &View, clearing: &Clearing) -> String {
     const NOT_CHANGED: &str = "the image is not changed";
-    let (start, doubtful) = (clearing_of(view, &clearing.link), clearing.doubtful().len());
+    let start = clearing_of(view, &clearing.link);
+    let doubtful = format!("{} would be doubtful", count(clearing.doubtful().len(), "step"));
     if clearing.freed.is_empty() {
-        let doubtful = count(doubtful, "step");
-        return format!("{start}; {doubtful} would be doubtful, none would go; {NOT_CHANGED}\n");
+        return format!("{start}; {doubtful}, none would go; {NOT_CHANGED}\n");
     }
-    let mut page = vec![start, format!("steps that would be doubtful: {doubtful}")];
-    page.push(format!("of these would go: {}", clearing.freed.len()));
+    let mut page = vec![start, doubtful];
+    page.push(format!("of these would go: {}", some_steps(clearing.freed.len())));
     page.extend(named_steps(view, &clearing.freed));
     page.push(NOT_CHANGED.to_string());
     text(&page)
+}
+
+/// The steps that ring first, at two times that are named, where they differ; else nothing.
+pub fn rung(view: &View, steps: [Option<u16>; 2], times: [&str; 2]) -> String {
+    let [one, other] =
+        steps.map(|step| step.map_or("nobody".to_string(), |step| named(view, step)));
+    match one == other {
+        true => String::new(),
+        false => format!("first rung {}: {one}; {}: {other}\n", times[0], times[1]),
+    }
 }
 
 /// The exit that is cleared and what it holds, as `clearing exit 2 of step 1 (no reply): a weak link to step 2 (contact 7)`.
@@ -200,6 +210,14 @@ fn held_steps<'a>(view: &'a View, numbers: &'a [u16]) -> impl Iterator<Item = St
 /// A line for each step.
 fn named_steps<'a>(view: &'a View, numbers: &'a [u16]) -> impl Iterator<Item = String> + 'a {
     numbers.iter().map(|&step| format!("    {}", named(view, step)))
+}
+
+/// So many steps, or `none`.
+fn some_steps(number: usize) -> String {
+    match number {
+        0 => "none".to_string(),
+        _ => count(number, "step"),
+    }
 }
 
 /// A number, or `none`.

@@ -2,6 +2,7 @@
 
 use plan::words::count;
 use std::fs::{self, File};
+use std::io::Read;
 use std::os::unix::fs::PermissionsExt;
 use std::path::{Path, PathBuf};
 use std::process::{Command, Output, Stdio};
@@ -10,7 +11,7 @@ use telephone::{Exit, Table, IMAGE_MAX};
 /// Each command line, by the name of its output. The images stand in tests/images; those with a file .keys beside them were keyed. They are of edition 1
 /// but for ring-2, which is ring in edition 2, and those of several cabins. The slips are those of clearing exit 0 of step 0 in ring and in cabins;
 /// cleared and cabins-cleared are the images after it.
-const CASES: [(&str, &str); 100] = [
+const CASES: [(&str, &str); 106] = [
     ("help", "--help"),
     ("help-key", "key --help"),
     ("help-add", "add --help"),
@@ -24,6 +25,8 @@ const CASES: [(&str, &str); 100] = [
     ("wrong-command", "shew ring.img"),
     ("wrong-option", "show --dot ring.img"),
     ("option-without-value", "fresh 4 -o"),
+    ("option-twice", "fresh 4 -o /dev/null -o /dev/null"),
+    ("option-twice-limit", "trial ring.img 2 --limit 3 --limit 4"),
     ("words-missing", "why ring.img"),
     ("words-too-many", "show ring.img ring.img"),
     ("fresh", "fresh 4"),
@@ -83,6 +86,8 @@ const CASES: [(&str, &str); 100] = [
     ("take-back-no-slip", "take-back cleared.img ring.img"),
     ("take-back-damaged", "take-back target.img ring.slip"),
     ("take-back-missing", "take-back cleared.img missing.slip"),
+    ("take-back-over-slip", "take-back cleared.img ring.slip -o ring.slip"),
+    ("take-back-changed", "take-back ring.img cabins.slip"),
     ("trial", "trial ring.img 212"),
     ("trial-open-at-once", "trial cleared.img"),
     ("trial-stopped", "trial ring.img 1111 --limit 3"),
@@ -95,6 +100,8 @@ const CASES: [(&str, &str); 100] = [
     ("squeeze-list-kept", "squeeze cabins.img 8"),
     ("squeeze-list-too-large", "squeeze cabins.img 5"),
     ("squeeze-bad-list", "squeeze cabins.img 4 4/3"),
+    ("squeeze-past-a-limit", "squeeze cabins.img 8 0/1 0/1 0/1 0/1"),
+    ("draw-over-image", "draw ring.img -o ./ring.img"),
     ("convert-up", "convert unordered.img 2"),
     ("convert-down", "convert ring-2.img 1"),
     ("convert-up-again", "convert ring-2.img 2"),
@@ -358,7 +365,8 @@ fn slips() {
         assert!(output(&mut plan(&["take-back", file, slip, "-o", file])).status.success());
         assert_eq!(fs::read(&image_path).unwrap(), written(&name));
         let twice = output(&mut plan(&["take-back", file, slip, "-o", file]));
-        let words = format!("plan: {slip}: refused by 18: slip not accepted\n");
+        let words = "slip not accepted; step 0 is not as the clearing left it";
+        let words = format!("plan: {slip}: refused by 18: {words}\n");
         assert!(is_failure(&twice) && text(&twice.stderr) == words, "{}", text(&twice.stderr));
         assert_eq!(fs::read(&image_path).unwrap(), written(&name));
     }
@@ -392,7 +400,7 @@ fn every_preview() {
     let path = scratch("every_preview.img");
     let file = path.to_str().unwrap();
     // clearings that are refused, that free no step, and that free some
-    let mut seen = [0; 3];
+    let (mut seen, mut others) = ([0; 3], 0);
     for (name, steps) in [("ring", 5), ("cleared", 5), ("cabins", 6), ("thirty", 31), ("full", 2)] {
         let bytes = image(&format!("{name}.img"));
         fs::write(&path, &bytes).unwrap();
@@ -408,23 +416,39 @@ fn every_preview() {
                 seen[0] += 1;
                 continue;
             };
-            let doubtful = usize::from(cleared.doubtful);
+            let doubtful = format!("{} would be doubtful", count(cleared.doubtful.into(), "step"));
+            let (made, rung) = made.split_once("first rung now: ").unwrap_or((&made, ""));
             let start = made.lines().next().unwrap();
             let expected = match made.split_once("of these go: ") {
-                Some((_, go)) if go != "none\n" => format!(
-                    "{start}\nsteps that would be doubtful: {doubtful}\nof these would go: {go}"
-                ),
-                _ => format!(
-                    "{start}; {} would be doubtful, none would go; ",
-                    count(doubtful, "step")
-                ),
+                Some((_, go)) if go != "none\n" => {
+                    format!("{start}\n{doubtful}\nof these would go: {go}")
+                }
+                _ => format!("{start}; {doubtful}, none would go; "),
             };
+            let rung =
+                rung.trim_end().split_once("; before: ").map_or(String::new(), |(then, now)| {
+                    format!("first rung now: {now}; then: {then}\n")
+                });
             seen[if cleared.freed == 0 { 1 } else { 2 }] += 1;
-            assert_eq!(said, expected + "the image is not changed\n", "{name}");
+            others += usize::from(!rung.is_empty());
+            assert_eq!(said, expected + "the image is not changed\n" + &rung, "{name}");
             assert_eq!((told.status.code(), told.stderr), (Some(0), vec![]), "{name}");
         }
     }
-    assert_eq!(seen, [174, 41, 30]);
+    assert_eq!((seen, others), ([174, 41, 30], 5));
+}
+
+/// Where nobody hears any more that an image is stored, it is stored all the same, and the status says so.
+#[test]
+fn stored_unheard() {
+    let path = scratch("stored_unheard.img");
+    let mut command = plan(&["clear", "ring.img", "0", "0", "-o", path.to_str().unwrap()]);
+    let mut child = command.stdout(Stdio::null()).stderr(Stdio::piped()).spawn().unwrap();
+    let mut heard = [0; 8];
+    child.stderr.take().unwrap().read_exact(&mut heard).unwrap();
+    assert_eq!(&heard, b"clearing");
+    assert!(child.wait().unwrap().success());
+    assert_eq!(fs::read(&path).unwrap(), written("cleared.img"));
 }
 
 /// A slip and an image are stored both or not at all, and nothing is left beside them.
@@ -461,7 +485,8 @@ fn stored_slips() {
     assert!(is_failure(&output(&mut clear("3", &["--slip", slip]))));
     assert_eq!(fs::read(&slip_path).unwrap(), b"other");
     let given = output(&mut clear("0", &["--slip", slip, "-o", file]));
-    let said = format!("of these go: none\nstored in {file}\nslip stored in {slip}\n");
+    let rung = "first rung now: nobody; before: step 1 (contact 0, the primary)";
+    let said = format!("of these go: none\n{rung}\nstored in {file}\nslip stored in {slip}\n");
     assert!(given.status.success() && text(&given.stderr).ends_with(&said));
     assert_eq!(fs::read(&slip_path).unwrap(), image("ring.slip"));
     assert_eq!(fs::metadata(&slip_path).unwrap().permissions().mode() & 0o777, 0o640);

@@ -104,7 +104,7 @@ pub enum Refusal {
     TooShort,
     /// 12: image not accepted; of a conversion also: image of the other edition.
     NotAccepted,
-    /// 13: capacity below the steps in use, or the charges do not fit the new quotas.
+    /// 13: capacity below the steps in use, or the charges do not fit the new list.
     DoesNotFit,
     /// 14: cabin at its limit.
     CabinAtLimit,
@@ -189,7 +189,7 @@ impl fmt::Display for Refusal {
             Refusal::TooShort => "lent buffer shorter than needed",
             Refusal::NotAccepted => "image not accepted",
             Refusal::DoesNotFit => {
-                "capacity below the steps in use, or the charges do not fit the new quotas"
+                "capacity below the steps in use, or the charges do not fit the new list"
             }
             Refusal::CabinAtLimit => "cabin at its limit",
             Refusal::StepsReserved => "only steps reserved for other cabins are free",

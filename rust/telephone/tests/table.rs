@@ -969,7 +969,7 @@ fn numbers_go_there_and_back() {
     }
     assert_eq!(Refusal::Full.to_string(), "steps in use equal the capacity");
     for (number, words) in [
-        (13, "capacity below the steps in use, or the charges do not fit the new quotas"),
+        (13, "capacity below the steps in use, or the charges do not fit the new list"),
         (14, "cabin at its limit"),
         (15, "only steps reserved for other cabins are free"),
         (16, "cabin above 7, or bad list of guarantees and limits"),
