@@ -6,7 +6,7 @@
 --   planInUse planTarget planHolds planLinked planCount planCharge   read on a plan what a table's steps and exits say
 --   freshPlan planAdd planLink planClear planSqueeze   the plan after an accepted call
 --   packed planRank   the steps of a plan without the gaps, and how many stand before a number
---   planAddRefusal and so on   the refusal of a call, read on the plan; "1 never holds there"
+--   planAddRefusal and so on   the refusal of a call, read on the plan; "1 never holds there"; planExitTests and its sisters, what several ask of an exit
 --   replan          a plan with another last number and other steps
 use mathlib.Core.Bool.{Bool, true, false, _&&_, _||_, not, cond}
 use mathlib.Core.List.{List, [], _∷_, _++_, map}
