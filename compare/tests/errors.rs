@@ -114,6 +114,16 @@ fn the_script_where_nothing_fails() {
     }
 }
 
+/// Words after its name are none of its lines.
+#[test]
+fn the_script_takes_no_words() {
+    for words in ["--help", "H*4A", "''"] {
+        let given = redirected(&keys_script(), words, CASE);
+        assert_eq!((given.status.code(), text(&given.stdout)), (Some(1), String::new()), "{words}");
+        assert!(says_one_line(&given), "{words}: {}", text(&given.stderr));
+    }
+}
+
 /// From another folder, by its whole path and by a short one.
 #[test]
 fn the_script_from_another_folder() {
