@@ -29,7 +29,7 @@ use Rattle.table.specs.Preview.{previewRefusal, previewCall}
 use Rattle.table.specs.Squeeze.{newNumber, squeezeRefusal, squeezeCall, ClearsAlike}
 use Rattle.table.specs.Plan.{planOf}
 use Rattle.table.proofs.Sound as Soundness
-use Rattle.image.specs.Image.{Edition, edition1, edition2, image, editionIn, imageLength, writeCall, written, accepted, loadCall, Bytes}
+use Rattle.image.specs.Image.{Edition, edition1, edition2, image, editionIn, imageSize, largest, imageLength, writeCall, written, accepted, loadCall, Bytes}
 use Rattle.image.specs.Convert.{convertRefusal, convertCall}
 use Rattle.image.specs.Slip.{clearSlipRefusal, clearSlipCall, takeBackRefusal, takeBackCall}
 use Rattle.image.proofs.Laws as Images
@@ -166,6 +166,10 @@ demand-2-counts = Demand2.count-demand
 pub demand-2-written : (t : Table) → Sound t → (buffer : List ℕ) → imageLength edition2 t ≤ length buffer →
     WriteDemand edition2 t buffer (writeCall t buffer)
 demand-2-written = Demand2.write-demand
+
+-- "The largest is 2,570 bytes.", and of edition 2 has 2,858: with all 128 steps in use; that no image is longer is part of what is written
+pub largest-image : (v : Edition) → imageSize v places ≡ largest v
+largest-image = Images.largest-size
 
 -- "and an accepted image is written with the same records.", in ascending step number (W1), and no other image has them so; of edition 2, which is written
 pub demand-2-loaded : (bs : List ℕ) → Bytes bs → accepted bs ≡ true → editionIn bs ≡ edition2 → (buffer : List ℕ) → length bs ≤ length buffer →

@@ -210,10 +210,10 @@ module _ {t : Table} (s : Sound t) where
       (λ z. counts-cleared i e (slip-cleared t i e buffer z .0) cabin))
 
   -- what a preview says is not booked
-  counts-preview : (cabin i e : ℕ) (a : Answer) → Counts cabin t (saidBy (λ a b. foreseen b) a) t
+  counts-preview : (cabin : ℕ) (a : Answer) → Counts cabin t (saidBy (λ a b. foreseen b) a) t
   unfolding saidBy booked summed
-  counts-preview cabin i e (Refused n) = record { each = λ c. refl; steps = λ n q. q }
-  counts-preview cabin i e (Given a b) = record { each = λ c. refl; steps = λ n q. q }
+  counts-preview cabin (Refused n) = record { each = λ c. refl; steps = λ n q. q }
+  counts-preview cabin (Given a b) = record { each = λ c. refl; steps = λ n q. q }
 
 module _ {t : Table} (s : Sound t) where
   counts-back : (cabin : ℕ) (bs : List ℕ) → Counts cabin t (saidBy (λ a b. back a) (takeBackCall t bs .answer)) (takeBackCall t bs .table)
@@ -239,7 +239,7 @@ module _ {t : Table} (s : Sound t) where
   call-counts (squeeze c q) = counts-squeeze s keyCabin c q
   call-counts (clearSlip i e buffer) = counts-slip s keyCabin i e buffer
   call-counts (takeBack bs) = counts-back keyCabin bs
-  call-counts (preview i e buffer) = counts-preview s keyCabin i e (previewCall t i e buffer .answer)
+  call-counts (preview i e buffer) = counts-preview s keyCabin (previewCall t i e buffer .answer)
 
 -- along the list
 after-account : (c : ℕ) (t : Table) → Sound t → (cs : List Call) → charge (tableAfter t cs) c ≡ account c (charge t c) t cs

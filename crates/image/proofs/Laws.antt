@@ -1,7 +1,7 @@
 -- What is claimed of images (document 01, "Image"; document 02, W1 and W5), each law by citing where it is proved: images load as the table that was
 -- written, in each edition that can say it; accepted images are sound, draw the plan that their records say, and are written again in their edition
 -- with the same records, sorted; sound tables are equal exactly when their written images are (W1). Assumes nothing.
-use mathlib.Core.Path.{_≡_, sym, _∙_}
+use mathlib.Core.Path.{_≡_, refl, sym, _∙_}
 use mathlib.Core.Bool.{true}
 use mathlib.Core.Logic.{_↔_, ⊎-elim}
 use mathlib.Core.List.{List, _++_}
@@ -12,14 +12,14 @@ use borrow.Author.Tests.{eq-eqb, ne-eqb, lt-ltb, le-ltb}
 use Rattle.finite.specs.Below.{count}
 use Rattle.finite.proofs.Below.{eq-or-ne, count-le}
 use Rattle.table.specs.declared.Answer.the-variants.{Refused, Given}
-use Rattle.table.specs.Table.{Table, inUse, stepsInUse}
+use Rattle.table.specs.Table.{Table, places, inUse, stepsInUse}
 use Rattle.table.specs.Cabins.{soleQuotas}
 use Rattle.table.specs.Sound.{Sound, sound}
 use Rattle.table.specs.Answer.{tooShort, first, refusalOf}
 use Rattle.table.specs.Plan.{planOf}
 use Rattle.table.proofs.Sound.{sound-test}
 use Rattle.table.proofs.Calls.{past-sound}
-use Rattle.image.specs.Image.{Edition, edition1, edition2, recordSize, image, largest, imageLength, writtenEdition, put, roomTests, writeRefusal, editionIn, countIn, numberIn, imageTable, accepted, loadCall, imagePlan, Bytes, Once, SameRecords, Ascending}
+use Rattle.image.specs.Image.{Edition, edition1, edition2, recordSize, image, imageSize, largest, imageLength, writtenEdition, put, roomTests, writeRefusal, editionIn, countIn, numberIn, imageTable, accepted, loadCall, imagePlan, Bytes, Once, SameRecords, Ascending}
 use Rattle.image.proofs.Written
 use Rattle.image.proofs.Loaded
 use Rattle.image.proofs.RoundTrip
@@ -37,6 +37,12 @@ pub image-most : (v : Edition) (t : Table) → Sound t → imageLength v t ≤ l
 unfolding imageLength stepsInUse recordSize
 image-most edition1 t s = omega (arith, count-le (t .capacity) (inUse t), s .most)
 image-most edition2 t s = omega (arith, count-le (t .capacity) (inUse t), s .most)
+
+-- which an image with all steps in use has
+pub largest-size : (v : Edition) → imageSize v places ≡ largest v
+unfolding recordSize
+largest-size edition1 = refl
+largest-size edition2 = refl
 
 -- an image says its edition
 pub image-edition : (v : Edition) (t : Table) → editionIn (image v t) ≡ v

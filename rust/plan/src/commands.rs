@@ -489,7 +489,7 @@ fn why_not_taken_back(table: &Table, slip: &[u8]) -> String {
     let length = table.write_image(&mut image).unwrap_or(0);
     match changed_since(&image[..length], slip) {
         Some(step) => format!("step {step} is not as the clearing left it"),
-        None => "the table from before the clearing does not fit any more".to_string(),
+        None => "its old records give no sound table of whose clearing it is the slip".to_string(),
     }
 }
 

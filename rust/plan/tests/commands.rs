@@ -369,6 +369,13 @@ fn slips() {
         let words = format!("plan: {slip}: refused by 18: {words}\n");
         assert!(is_failure(&twice) && text(&twice.stderr) == words, "{}", text(&twice.stderr));
         assert_eq!(fs::read(&image_path).unwrap(), written(&name));
+        // another content for step 0 in its old record
+        let mut bytes = image(&name.replace("img", "slip"));
+        bytes[14] = 1;
+        fs::write(&slip_path, &bytes).unwrap();
+        let damaged = output(&mut plan(&["take-back", &format!("{cleared}.img"), slip]));
+        let words = "its old records give no sound table of whose clearing it is the slip\n";
+        assert!(is_failure(&damaged) && text(&damaged.stderr).ends_with(words));
     }
 }
 
