@@ -10,6 +10,9 @@ want-targets-requires c κs =
     let s = c .before .before in
     (omega arith, length-set (s .args .wanted .now) (s .args .k) 0 ∙ s .pre .1, s .pre .2)
 
+returns : tie.Need-returns
+returns c = (refl, c .want-targets .ensures)
+
 pub keep-step-spec : {M : Type 1} → statement M
 keep-step-spec =
     tie.close
@@ -20,4 +23,4 @@ keep-step-spec =
     (λ c. omega arith)
     (λ c. omega arith)
     want-targets-requires
-    (λ c. (refl, c .want-targets .ensures)))
+    returns)

@@ -26,6 +26,9 @@ known c = let p = c .before .pre .1 in c .loop .inv .1 (p .0) (p .1)
 most : (c : tie.At-loop Inv-loop μ-loop) → c .before .args .n ≤ places
 most c = able-most (known c .progress .able)
 
+loop-holds : tie.Need-loop-holds Inv-loop μ-loop
+loop-holds c = (omega arith, λ u s. followed-begins s)
+
 keep-step-requires : tie.Need-keep-step-requires Inv-loop μ-loop
 keep-step-requires c κs =
     let at = c .before .before .before .before .before in
@@ -63,7 +66,7 @@ keep-steps-spec =
     (tie.spec
     Inv-loop
     μ-loop
-    (λ c. (omega arith, λ u s. followed-begins s))
+    loop-holds
     (λ c. omega (arith, most (c .before)))
     (λ c. omega (arith, most (c .before)))
     keep-step-requires

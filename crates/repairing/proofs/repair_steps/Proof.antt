@@ -20,6 +20,9 @@ Inv-loop t₀ n doubt₀ wanted₀ low₀ t doubt wanted low =
 abbrev μ-loop : tie.MeasureT-loop
 μ-loop t₀ n doubt₀ wanted₀ low₀ t doubt wanted low = 129 * count n (isOne doubt) + (n - low)
 
+loop-holds : tie.Need-loop-holds Inv-loop μ-loop
+loop-holds c = (omega arith, refl, progress-begins (c .pre .0), c .pre .1)
+
 restore-step-requires : tie.Need-restore-step-requires Inv-loop μ-loop
 restore-step-requires c κs =
     let l = c .before .before .before .before .loop in
@@ -73,7 +76,7 @@ repair-steps-spec =
     (tie.spec
     Inv-loop
     μ-loop
-    (λ c. (omega arith, refl, progress-begins (c .pre .0), c .pre .1))
+    loop-holds
     (λ c. omega (arith, able-most (c .before .loop .inv .2 .able)))
     (λ c. omega (arith, able-most (c .before .loop .inv .2 .able)))
     restore-step-requires
