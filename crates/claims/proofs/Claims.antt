@@ -21,6 +21,7 @@ use Prim.Native.Nat.{ℕ, _≤_, _<_}
 use lib.ListN.{length}
 use Rattle.table.specs.Table.{Table, places, counters, inUse, counterOf, linksTo, stepsInUse, StrongChain}
 use Rattle.table.specs.declared.Answer.the-variants.{Given}
+use Rattle.table.specs.Answer.{first}
 use Rattle.table.specs.Cabins.{soleQuotas}
 use Rattle.table.specs.Sound.{Sound, sound, Shape}
 use Rattle.table.specs.Calls.{addRefusal, addCall, linkRefusal, linkCall}
@@ -34,7 +35,7 @@ use Rattle.image.specs.Convert.{convertRefusal, convertCall}
 use Rattle.image.specs.Slip.{clearSlipRefusal, clearSlipCall, takeBackRefusal, takeBackCall}
 use Rattle.image.proofs.Laws as Images
 use Rattle.keyline.specs.Keys.{spokenCounts}
-use Rattle.history.specs.History.{First, Call, withTold, tableAfter, heardBy, planAfter, drawnBy, firstRefusal, planFirstRefusal, firstTable, firstPlan}
+use Rattle.history.specs.History.{First, Call, withTold, tableAfter, heardBy, planAfter, drawnBy, firstRow, firstRefusal, firstTable, firstPlan}
 use Rattle.history.specs.Acts.{Act}
 use Rattle.history.specs.Demands.{Demand1, Demand3, GuaranteeDemand, ChargesDemand, AddDemand, LinkDemand, ClearDemand, CountDemand, SqueezeDemand, TwiceDemand, WriteDemand, EqualDemand, SortedDemand, OldDemand, ConvertDemand, RefusalDemand, SameTableDemand, ToldDemand, SlipDemand, TakeBackDemand, PreviewDemand, PreviewRefusalDemand}
 use Rattle.table.specs.Trial.{TrialOutcome, trialRefusal, trialCall, TrialDemand, SameTrial, LongerDemand, underNumbers}
@@ -126,7 +127,7 @@ module _ (f : First) (cs : List Call) where
   pub history-plan : planOf left ≡ planAfter (firstPlan f) (withTold (firstTable f) cs)
   history-plan = Histories.history-plan f cs
 
-  pub history-begun : firstRefusal f ≡ planFirstRefusal f
+  pub history-begun : firstRefusal f ≡ first (firstRow f .conditions)
   history-begun = Histories.history-begun f cs
 
   pub history-heard : heardBy (firstTable f) cs ≡ drawnBy (firstPlan f) (withTold (firstTable f) cs)

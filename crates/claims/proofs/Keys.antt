@@ -21,7 +21,7 @@ use Rattle.keyline.specs.declared.Command.the-variants.{Add, Link, Clear, Count
 use Rattle.keyline.specs.declared.Decoded.{Decoded}
 use Rattle.keyline.specs.declared.Decoded.the-variants.{Line, Nothing}
 use Rattle.keyline.specs.Keys.{decode, spokenCounts, perform, performLine, keyCall}
-use Rattle.history.specs.History.{Call, Said, freed, Heard, fresh, keyLine, saidBy, heardOf, commandSays, lineSays, run, ran, isTold, withTold, heardBy, drawnBy, firstTable, firstPlan}
+use Rattle.history.specs.History.{Call, Said, freed, Heard, fresh, keyLine, saidBy, commandSays, lineSays, row, run, isTold, withTold, heardBy, drawnBy, firstRow, firstTable, firstPlan}
 use Rattle.history.proofs.Demand3.{demand-3}
 use Rattle.session.specs.Session.{keysTable, linesOf, threeNumbers, printed, answers, keysOutput}
 use Rattle.claims.specs.Keys.{keyed, drawnFirst, drawnSecond, drawnLine, drawnLines, KeysDemand}
@@ -57,8 +57,8 @@ drawn-line t (Line Count) = record { one = refl; two = refl }
 
 -- the line printed is the line drawn of what is heard
 line-drawn : (t : Table) (l : List ℕ) →
-    printed (keyCall t l .answer) ≡ drawnLine (heardOf (lineSays (decode l)) (keyCall t l .answer)) (firstOf (keyCall t l .answer))
-unfolding keyCall printed drawnLine heardOf
+    printed (keyCall t l .answer) ≡ drawnLine (run t (keyLine l) .heard) (firstOf (keyCall t l .answer))
+unfolding keyCall printed drawnLine run row
 line-drawn t l =
     let h = drawn-unless (lineSays (decode l)) _ t (performLine t (decode l)) (drawn-line t (decode l)) in
     ap₂ (threeNumbers (refusalOf (keyCall t l .answer))) (h .one) (h .two)
@@ -73,13 +73,13 @@ firsts-size t [] = refl
 firsts-size t (l ∷ ls) = ap suc (firsts-size (keyCall t l .table) ls)
 
 answers-drawn : (t : Table) (ls : List (List ℕ)) → answers t ls ≡ drawnLines (heardBy t (map keyLine ls)) (firsts t ls)
-unfolding answers drawnLines firsts heardBy run ran
+unfolding answers drawnLines firsts heardBy run row
 answers-drawn t [] = refl
 answers-drawn t (l ∷ ls) = ap₂ _++_ (line-drawn t l) (answers-drawn (keyCall t l .table) ls)
 
 -- the plan is told nothing of key lines
 nothing-told : (t : Table) (ls : List (List ℕ)) → withTold t (map keyLine ls) ≡ map keyed ls
-unfolding withTold isTold keyed
+unfolding withTold isTold row keyed
 nothing-told t [] = refl
 nothing-told t (l ∷ ls) = ap (λ (cs : List (Bool × Call)). (false, keyLine l) ∷ cs) (nothing-told (run t (keyLine l) .table) ls)
 
@@ -93,7 +93,7 @@ unfolding keysOutput
 keys-demand bs =
     let list = soleQuotas places in
     let d = demand-3 (fresh places list) (map keyLine (linesOf bs)) in
-    let t : firstTable (fresh places list) ≡ keysTable = (unfold firstTable freshCall unless first capacityFits keysTable lists in refl) in
+    let t : firstTable (fresh places list) ≡ keysTable = (unfold firstTable firstRow freshCall unless first capacityFits keysTable lists in refl) in
     let p : firstPlan (fresh places list) ≡ freshPlan places list = (unfold firstPlan capacityFits lists in refl) in
     record {
       doubts = firsts keysTable (linesOf bs);

@@ -18,8 +18,8 @@ use Rattle.table.specs.Table.{Table}
 use Rattle.table.specs.Calls.{refusedTable}
 use Rattle.table.specs.Clear.{Repair, wanted, repair}
 use Rattle.table.proofs.Same.{table-same}
-use Rattle.history.specs.History.{First, fresh, load, Call, add, link, clear, read, trial, write, keyLine, squeeze, clearSlip, takeBack, preview, onlyRefusal, heardOf, ran, run, tableAfter, firstTable}
-use Rattle.history.specs.Acts.{Act, begin, call, convert, Done, told, wrote, callDone, doneBy, refusedBy}
+use Rattle.history.specs.History.{First, Call, Done, run, tableAfter, firstTable}
+use Rattle.history.specs.Acts.{Act, begin, call, convert, actRow, doneBy, tableKept, refusedBy}
 use Rattle.examples.specs.Examples.{takeOne, taken, takeAll, Fact, _is_, seen, Entry, accepts, refuses, actOf, Run, tableLeft, Holds, Shown, doneTests, factsHold, passed, walk, everyRun}
 
 done-same : (d r : Done) → passes (doneTests d r) ≡ true → d ≡ r
@@ -61,7 +61,7 @@ walk-head t (refuses (convert v bs buffer) n) xs p = and-left (passed t (doneBy 
 
 -- and the walk goes on with the table that it leaves
 walk-tail : (t : Table) (x : Entry) (xs : List Entry) → walk t (x ∷ xs) ≡ true → walk (doneBy t (actOf x) .table) xs ≡ true
-unfolding walk refusedBy
+unfolding walk refusedBy tableKept
 walk-tail t (accepts a fs) xs p = and-right (passed t (doneBy t a) (accepts a fs)) (walk (doneBy t a .table) xs) p
 walk-tail t (refuses (begin f) n) xs p =
     let e = entry-shown t (refuses (begin f) n) (walk-head t (refuses (begin f) n) xs p) in
@@ -105,37 +105,16 @@ taken-repair (suc f) r = round (ltb k (r .table .capacity)) (taken-repair f (tak
     round false h = refl
 
 pub done-run : (t : Table) (c : Call) → doneBy t (call c) .table ≡ run t c .table
-unfolding doneBy callDone told wrote run ran
-done-run t (add holder e kind content cabin) = refl
-done-run t (link source e second f) = refl
-done-run t (clear i e) = refl
-done-run t (read i) = refl
-done-run t (trial limit results trace) = refl
-done-run t (write buffer) = refl
-done-run t (keyLine bs) = refl
-done-run t (squeeze c q) = refl
-done-run t (clearSlip i e buffer) = refl
-done-run t (takeBack bs) = refl
-done-run t (preview i e buffer) = refl
+unfolding doneBy actRow run
+done-run t c = refl
 
 pub done-refusal : (t : Table) (c : Call) → doneBy t (call c) .refusal ≡ run t c .heard .refusal
-unfolding doneBy callDone told wrote run ran heardOf onlyRefusal
-done-refusal t (add holder e kind content cabin) = refl
-done-refusal t (link source e second f) = refl
-done-refusal t (clear i e) = refl
-done-refusal t (read i) = refl
-done-refusal t (trial limit results trace) = refl
-done-refusal t (write buffer) = refl
-done-refusal t (keyLine bs) = refl
-done-refusal t (squeeze c q) = refl
-done-refusal t (clearSlip i e buffer) = refl
-done-refusal t (takeBack bs) = refl
-done-refusal t (preview i e buffer) = refl
+unfolding doneBy actRow run
+done-refusal t c = refl
 
 pub done-first : (t : Table) (f : First) → doneBy t (begin f) .table ≡ firstTable f
-unfolding doneBy told firstTable
-done-first t (fresh c q) = refl
-done-first t (load bs) = refl
+unfolding doneBy actRow firstTable
+done-first t f = refl
 
 -- entries that only make calls leave the table that a history of those calls leaves
 pub left-after : (t : Table) (cs : List Call) (xs : List Entry) → map actOf xs ≡ map call cs → tableLeft t xs ≡ tableAfter t cs

@@ -30,8 +30,8 @@ use Rattle.keyline.specs.declared.Command.the-variants.{Add, Link, Clear, Count
 use Rattle.keyline.specs.declared.Decoded.{Decoded}
 use Rattle.keyline.specs.declared.Decoded.the-variants.{Line, Nothing}
 use Rattle.keyline.specs.Keys.{decode}
-use Rattle.history.specs.History.{fresh, load, add, link, clear, read, trial, write, keyLine, squeeze, clearSlip, takeBack, preview, firstTable}
-use Rattle.history.specs.Acts.{Act, begin, call, convert, Done, doneBy, refusedBy}
+use Rattle.history.specs.History.{fresh, load, add, link, clear, read, trial, write, keyLine, squeeze, clearSlip, takeBack, preview, Done, firstTable}
+use Rattle.history.specs.Acts.{Act, begin, call, convert, doneBy, refusedBy}
 
 -- one round of rule 3 of clearing: step k is taken back and counted no longer doubtful
 unfoldable pub takeOne : Repair → ℕ → Repair

@@ -27,20 +27,20 @@ use Rattle.table.proofs.Formed.{sound-formed, formed-wired}
 use Rattle.table.proofs.Cabins.{sound-shares, formed-charges, guarantee-free, charged-used, used-charged, Adds, charge-more, charge-stays}
 use Rattle.table.proofs.Edits.{number-given, adds}
 use Rattle.table.proofs.Clear.{Cleared, reached-in-use, emptied-used, emptied-steps, formed-emptied}
-use Rattle.table.proofs.Calls.{unless-zero, unless-refused, past-sound, add-fits, ClearFits, clear-fits, clear-cleared}
+use Rattle.table.proofs.Calls.{unless-zero, unless-refused, unless-refusal, past-sound, add-fits, ClearFits, clear-fits, clear-cleared}
 use Rattle.table.proofs.Squeeze.{squeeze-fits, charge-same, used-same}
+use Rattle.image.specs.Image.{writeCall}
 use Rattle.image.specs.Slip.{clearSlipRefusal, clearSlipCall, slipStep, slipExit, rebuilt, takeBackRefusal, takeBackCall}
 use Rattle.image.proofs.TakenBack.{slip-outcome, slip-cleared, accepted-taken, again-made}
 use Rattle.keyline.specs.declared.Command.the-variants.{Add, Link, Clear, Count}
 use Rattle.keyline.specs.declared.Decoded.{Decoded}
 use Rattle.keyline.specs.declared.Decoded.the-variants.{Line, Nothing}
 use Rattle.keyline.specs.Keys.{keyCabin, decode, spokenCounts, perform, callConditions, lineConditions, performLine, keyCall}
-use Rattle.history.specs.History.{First, Call, add, link, clear, read, trial, write, keyLine, squeeze, clearSlip, takeBack, preview, Said, silent, number, freed, back, foreseen, spoken, onlyRefusal, saidBy, heardOf, commandSays, lineSays, ran, run, tableAfter, heardBy, firstTable}
-use Rattle.history.specs.Acts.{told}
-use Rattle.history.specs.Accounts.{cabinFor, gone, booked, account, summed, tally}
+use Rattle.history.specs.History.{First, Call, add, link, clear, read, trial, write, keyLine, squeeze, clearSlip, takeBack, preview, Said, silent, number, freed, back, foreseen, spoken, saidBy, commandSays, lineSays, row, run, tableAfter, heardBy, firstTable}
+use Rattle.history.specs.Accounts.{gone, booked, account, summed, tally}
 use Rattle.history.specs.Demands.{NotFull, GuaranteeDemand, ChargesDemand}
-use Rattle.history.proofs.Demand1.{told-refusal, performed}
-use Rattle.history.proofs.Agree.{call-agrees}
+use Rattle.history.proofs.Demand1.{performed}
+use Rattle.history.proofs.Agree.{silent-said, call-agrees}
 use Rattle.history.proofs.Demand3.{begun, after-sound}
 
 -- what a call did to the charges and to the steps in use, beside what it said
@@ -227,14 +227,14 @@ module _ {t : Table} (s : Sound t) where
       (subst (λ (v : Table). Counts cabin v (back (secondOf (cleared (rebuilt t bs) (slipStep bs) (slipExit bs) .answer))) (rebuilt t bs)) (x .table)
       (counts-restored (x .sound) (slipStep bs) (slipExit bs) (x .fits) cabin)))
 
-  call-counts : (k : Call) → Counts (cabinFor k) t (run t k .heard .said) (run t k .table)
-  unfolding cabinFor run ran onlyRefusal heardOf
+  call-counts : (k : Call) → Counts (row t k .cabin) t (run t k .heard .said) (run t k .table)
+  unfolding run row
   call-counts (add holder e kind content cabin) = counts-add s holder e kind content cabin
   call-counts (link source e second f) = counts-link s keyCabin source e second f
   call-counts (clear i e) = counts-clear s keyCabin i e
   call-counts (read i) = counts-still keyCabin t t (λ c. refl) refl
   call-counts (trial limit results trace) = counts-still keyCabin t t (λ c. refl) refl
-  call-counts (write buffer) = counts-still keyCabin t t (λ c. refl) refl
+  call-counts (write buffer) = rw (silent-said (writeCall t buffer .answer)) (counts-still keyCabin t t (λ c. refl) refl)
   call-counts (keyLine bs) = counts-keys s bs
   call-counts (squeeze c q) = counts-squeeze s keyCabin c q
   call-counts (clearSlip i e buffer) = counts-slip s keyCabin i e buffer
@@ -327,9 +327,9 @@ module _ (t : Table) (cabin : ℕ) (under : charge t cabin < guaranteeOf (t .quo
   )
 
   add-room : (holder e kind content n : ℕ) → Room n → refusalOf (addCall t holder e kind content cabin .answer) ≡ n → ⊥
-  unfolding addCall addRefusal told refusalOf
+  unfolding addCall addRefusal refusalOf
   add-room holder e kind content n r q =
-      first-avoids n (r .some) (addConditions t holder e kind content cabin) (add-avoids holder e kind content n r) (sym (told-refusal _ t _ refl) ∙ q)
+      first-avoids n (r .some) (addConditions t holder e kind content cabin) (add-avoids holder e kind content n r) (sym (unless-refusal _ t _ refl) ∙ q)
 
 -- a key line, which adds for its cabin
 module _ (t : Table) (s : Sound t) (under : charge t keyCabin < guaranteeOf (t .quotas) keyCabin) (limit : charge t keyCabin < limitOf (t .quotas) keyCabin)
@@ -355,12 +355,12 @@ module _ (t : Table) (s : Sound t) (under : charge t keyCabin < guaranteeOf (t .
   line-avoids (Line Count) n r = tt
 
   key-room : (bs : List ℕ) (n : ℕ) → Room n → refusalOf (keyCall t bs .answer) ≡ n → ⊥
-  unfolding keyCall told
+  unfolding keyCall
   key-room bs n r q =
       let p = performed t (decode bs) in
       let e : keyCall t bs ≡ unless (first (lineConditions t (decode bs))) t (p .outcome) = unless-zero _ t (performLine t (decode bs)) (past-sound s [] ∙ (unfold first in refl)) ∙ p .same in
       first-avoids n (r .some) (lineConditions t (decode bs)) (line-avoids (decode bs) n r)
-      (sym (told-refusal _ t (p .outcome) (p .given)) ∙ ap (λ (o : Outcome). refusalOf (o .answer)) (sym e) ∙ q)
+      (sym (unless-refusal _ t (p .outcome) (p .given)) ∙ ap (λ (o : Outcome). refusalOf (o .answer)) (sym e) ∙ q)
 
 pub guarantee-demand : (f : First) (cs : List Call) → GuaranteeDemand f cs
 guarantee-demand f cs =

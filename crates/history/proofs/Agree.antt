@@ -1,9 +1,9 @@
 -- One call of a history on a sound table: the table that it leaves is sound, its plan is the plan drawn, and what is heard is what the plan
 -- says. Assumes nothing.
---   Agrees t c      the three facts of the call c on t
+--   Beside r d      the three facts of a call on a table and its drawing; Agrees t c, of the call c on t
 --   call-agrees     every call with any arguments
 use mathlib.Core.Path.{_≡_, refl, sym, _∙_, ap, ap₂, subst}
-use mathlib.Core.Bool.{cond}
+use mathlib.Core.Bool.{false, cond}
 use mathlib.Core.Logic.{⊎-elim}
 use mathlib.Core.List.{List, [], _∷_, _++_}
 use Prim.Native.Nat.{ℕ, _-_, _≤_, _<_}
@@ -12,6 +12,7 @@ use lib.ListN.{length}
 use lib.Dec.{eqb, ltb}
 use borrow.Author.Tests.{eq-eqb, ne-eqb}
 use Rattle.finite.proofs.Below.{le-or-lt, eq-or-ne}
+use Rattle.table.specs.declared.Answer.{Answer}
 use Rattle.table.specs.declared.Answer.the-variants.{Refused, Given}
 use Rattle.table.specs.Table.{Table}
 use Rattle.table.specs.Sound.{Sound}
@@ -38,41 +39,72 @@ use Rattle.keyline.specs.declared.Command.the-variants.{Add, Link, Clear, Count
 use Rattle.keyline.specs.declared.Decoded.{Decoded}
 use Rattle.keyline.specs.declared.Decoded.the-variants.{Line, Nothing}
 use Rattle.keyline.specs.Keys.{keyCabin, decode, spokenCounts, perform, performLine, keyCall}
-use Rattle.history.specs.History.{Call, add, link, clear, read, trial, write, keyLine, squeeze, clearSlip, takeBack, preview, Said, silent, number, freed, back, foreseen, spoken, onlyRefusal, saying, saidBy, heardOf, commandSays, lineSays, ran, run, Drawn, drawUnless, drawAdd, drawLink, planFall, drawnCleared, drawClear, drawClearSlip, drawPreview, drawTakeBack, drawCount, drawSqueeze, isTold, unchanged, planWriteRefusal, drawCommand, drawLine, draw}
+use Rattle.history.specs.History.{Call, add, link, clear, read, trial, write, keyLine, squeeze, clearSlip, takeBack, preview, Said, silent, number, freed, back, foreseen, spoken, Heard, saidBy, commandSays, lineSays, row, Ran, run, isTold, PlanRow, drawAdd, drawLink, planFall, drawClear, drawCount, unchanged, planWriteRefusal, drawCommand, drawLine, planRow, Drawn, drawn, draw}
 
--- what is heard of a refusal, and of an answer
+-- what is heard of a refusal, and of an accepted call
+abbrev onlyRefusal : ℕ → Heard
+onlyRefusal n = record { refusal = n; said = silent }
+
+abbrev saying : Said → Heard
+saying s = record { refusal = 0; said = s }
+
+-- an outcome in a history, and a row of the plan that is not refused
+abbrev heardOf : (ℕ → ℕ → Said) → Answer → Heard
+heardOf says a = record { refusal = refusalOf a; said = saidBy says a }
+
+abbrev ranBy : (ℕ → ℕ → Said) → Outcome → Ran
+ranBy says o = record { heard = heardOf says (o .answer); table = o .table }
+
+abbrev allowed : PlanRow → Drawn
+allowed r = record { heard = saying (r .said); plan = r .plan }
+
 refused-heard : (says : ℕ → ℕ → Said) (n : ℕ) → heardOf says (Refused n) ≡ onlyRefusal n
-unfolding heardOf saidBy onlyRefusal refusalOf
+unfolding saidBy refusalOf
 refused-heard says n = refl
 
 given-heard : (says : ℕ → ℕ → Said) (a b : ℕ) → heardOf says (Given a b) ≡ saying (says a b)
-unfolding heardOf saidBy saying refusalOf
+unfolding saidBy refusalOf
 given-heard says a b = refl
 
--- an outcome and what is drawn beside it
-record Beside (says : ℕ → ℕ → Said) (o : Outcome) (d : Drawn) : Type 0 where
-  sound : Sound (o .table)
-  plan : planOf (o .table) ≡ d .plan
-  heard : heardOf says (o .answer) ≡ d .heard
+-- an answer by which nothing is said, given or not
+pub silent-said : (a : Answer) → saidBy (λ a b. silent) a ≡ silent
+unfolding saidBy
+silent-said (Refused n) = refl
+silent-said (Given a b) = refl
 
--- refused alike, or accepted with an outcome beside the drawing
-beside-unless : {t : Table} (says : ℕ → ℕ → Said) (n m : ℕ) (o : Outcome) (d : Drawn) → Sound t → n ≡ m → (n ≡ 0 → Beside says o d) →
-    Beside says (unless n t o) (drawUnless m (planOf t) d)
-unfolding drawUnless
-beside-unless {t} says n m o d s q f =
+-- a call on a table, and what is drawn beside it
+pub record Beside (r : Ran) (d : Drawn) : Type 0 where
+  pub sound : Sound (r .table)
+  pub plan : planOf (r .table) ≡ d .plan
+  pub heard : r .heard ≡ d .heard
+
+-- refused alike, or accepted with an outcome beside the row
+beside-unless : {t : Table} (says : ℕ → ℕ → Said) (n : ℕ) (o : Outcome) (r : PlanRow) → Sound t → n ≡ r .refusal →
+    (n ≡ 0 → Beside (ranBy says o) (allowed r)) → Beside (ranBy says (unless n t o)) (drawn (planOf t) r)
+unfolding drawn
+beside-unless {t} says n o r s q f =
     ⊎-elim
-    (λ (z : n ≡ 0). rw (unless-zero n t o z, eq-eqb m 0 (sym q ∙ z)) (f z))
+    (λ (z : n ≡ 0). rw (unless-zero n t o z, eq-eqb (r .refusal) 0 (sym q ∙ z)) (f z))
     (λ (z : n ≡ 0 → ⊥).
-    rw (unless-refused n t o z, ne-eqb m 0 (λ y. z (q ∙ y)))
+    rw (unless-refused n t o z, ne-eqb (r .refusal) 0 (λ y. z (q ∙ y)))
     (record { sound = s; plan = refl; heard = refused-heard says n ∙ ap onlyRefusal q }))
     (eq-or-ne n 0)
 
+-- a call that leaves the table and says nothing
+beside-still : {t : Table} (n m : ℕ) → Sound t → n ≡ m → Beside (record { heard = onlyRefusal n; table = t }) (drawn (planOf t) (unchanged m (planOf t)))
+unfolding drawn unchanged
+beside-still n m s q =
+    ⊎-elim
+    (λ (z : m ≡ 0). rw (eq-eqb m 0 z) (record { sound = s; plan = refl; heard = ap onlyRefusal (q ∙ z) }))
+    (λ d. rw (ne-eqb m 0 d) (record { sound = s; plan = refl; heard = ap onlyRefusal q }))
+    (eq-or-ne m 0)
+
 module _ {t : Table} (s : Sound t) where
   beside-add : (holder e kind content cabin : ℕ) →
-      Beside (λ a b. number a) (addCall t holder e kind content cabin) (drawAdd (planOf t) holder e kind content cabin)
+      Beside (ranBy (λ a b. number a) (addCall t holder e kind content cabin)) (drawn (planOf t) (drawAdd (planOf t) holder e kind content cabin))
   unfolding addCall drawAdd
   beside-add holder e kind content cabin =
-      beside-unless _ _ _ _ _ s (add-refusal s holder e kind content cabin)
+      beside-unless _ _ _ _ s (add-refusal s holder e kind content cabin)
       (λ z.
       let f = add-fits t holder e kind content cabin z in
       record {
@@ -81,10 +113,11 @@ module _ {t : Table} (s : Sound t) where
         heard = given-heard _ _ _ ∙ ap (λ (n : ℕ). saying (number n)) (number-plan s);
       })
 
-  beside-link : (source e second f : ℕ) → Beside (λ a b. silent) (linkCall t source e second f) (drawLink (planOf t) source e second f)
+  beside-link : (source e second f : ℕ) →
+      Beside (ranBy (λ a b. silent) (linkCall t source e second f)) (drawn (planOf t) (drawLink (planOf t) source e second f))
   unfolding linkCall drawLink
   beside-link source e second f =
-      beside-unless _ _ _ _ _ s (link-refusal s source e second f)
+      beside-unless _ _ _ _ s (link-refusal s source e second f)
       (λ z.
       let g = link-fits t source e second f z in
       record {
@@ -104,7 +137,8 @@ module _ {t : Table} (s : Sound t) where
       omega arith
 
   -- a clearing that is not refused
-  beside-cleared : (i e : ℕ) → clearRefusal t i e ≡ 0 → Beside (λ a b. freed b) (cleared t i e) (drawnCleared (planOf t) i e)
+  beside-cleared : (i e : ℕ) → clearRefusal t i e ≡ 0 → Beside (ranBy (λ a b. freed b) (cleared t i e)) (allowed (drawClear (planOf t) i e))
+  unfolding drawClear
   beside-cleared i e z =
       let g = clear-fits t i e z in
       let r = clear-cleared s i e g in
@@ -114,18 +148,17 @@ module _ {t : Table} (s : Sound t) where
         heard = ap (heardOf (λ a b. freed b)) (r .2) ∙ given-heard _ _ _ ∙ ap (λ (n : ℕ). saying (freed n)) (plan-fall i e g);
       }
 
-  beside-clear : (i e : ℕ) → Beside (λ a b. freed b) (clearCall t i e) (drawClear (planOf t) i e)
+  beside-clear : (i e : ℕ) → Beside (ranBy (λ a b. freed b) (clearCall t i e)) (drawn (planOf t) (drawClear (planOf t) i e))
   unfolding clearCall drawClear
-  beside-clear i e = beside-unless _ _ _ _ _ s (clear-refusal s i e) (beside-cleared i e)
+  beside-clear i e = beside-unless _ _ _ _ s (clear-refusal s i e) (beside-cleared i e)
 
   -- W8: a preview foresees the same fall, and leaves the table
   beside-preview : (i e : ℕ) (buffer : List ℕ) →
-      Beside (λ a b. foreseen b) (record { answer = previewCall t i e buffer .answer; table = t })
-      (drawPreview (planOf t) (ltb (length buffer) previewRoom) i e)
-  unfolding drawPreview previewRefusal
+      Beside (ranBy (λ a b. foreseen b) (record { answer = previewCall t i e buffer .answer; table = t })) (draw (planOf t) false (preview i e buffer))
+  unfolding draw planRow previewRefusal
   beside-preview i e buffer =
-      subst (λ (o : Outcome). Beside (λ a b. foreseen b) o (drawPreview (planOf t) (ltb (length buffer) previewRoom) i e)) (sym outcome)
-      (beside-unless _ _ _ _ _ s (into-refusal s i e (ltb (length buffer) previewRoom))
+      subst (λ (o : Outcome). Beside (ranBy (λ a b. foreseen b) o) (draw (planOf t) false (preview i e buffer))) (sym outcome)
+      (beside-unless _ _ _ _ s (into-refusal s i e (ltb (length buffer) previewRoom))
       (λ z.
       let g = clear-fits t i e (preview-accepted t i e buffer z .0) in
       let r = clear-cleared s i e g in
@@ -147,7 +180,7 @@ module _ {t : Table} (s : Sound t) where
   -- W7: the plan is told of 11, and of nothing else
   slip-refusal : (i e : ℕ) (buffer : List ℕ) →
       clearSlipRefusal t i e (length buffer) ≡ planClearIntoRefusal (planOf t) (isTold t (clearSlip i e buffer)) i e
-  unfolding planClearIntoRefusal planClearRefusal isTold
+  unfolding planClearIntoRefusal planClearRefusal isTold row
   slip-refusal i e buffer =
       let n = clearSlipRefusal t i e (length buffer) in
       let told = eqb (refusalOf (clearSlipCall t i e buffer .answer)) tooShort in
@@ -173,16 +206,17 @@ module _ {t : Table} (s : Sound t) where
       (eq-or-ne (clearRefusal t i e) 0)
 
   beside-slip : (i e : ℕ) (buffer : List ℕ) →
-      Beside (λ a b. freed b) (record { answer = clearSlipCall t i e buffer .answer; table = clearSlipCall t i e buffer .table })
-      (drawClearSlip (planOf t) (isTold t (clearSlip i e buffer)) i e)
-  unfolding drawClearSlip
+      Beside (ranBy (λ a b. freed b) (record { answer = clearSlipCall t i e buffer .answer; table = clearSlipCall t i e buffer .table }))
+      (draw (planOf t) (isTold t (clearSlip i e buffer)) (clearSlip i e buffer))
+  unfolding draw planRow drawClear
   beside-slip i e buffer =
-      rw (slip-outcome t i e buffer)
-      (beside-unless _ _ _ _ _ s (slip-refusal i e buffer) (λ z. beside-cleared i e (slip-cleared t i e buffer z .0)))
+      subst (λ (o : Outcome). Beside (ranBy (λ a b. freed b) o) (draw (planOf t) (isTold t (clearSlip i e buffer)) (clearSlip i e buffer)))
+      (sym (slip-outcome t i e buffer))
+      (beside-unless _ _ _ _ s (slip-refusal i e buffer) (λ z. beside-cleared i e (slip-cleared t i e buffer z .0)))
 
   -- W7: and of 18
   back-refusal : (bs : List ℕ) → takeBackRefusal t bs ≡ first ((isTold t (takeBack bs), slipNotAccepted) ∷ [])
-  unfolding first isTold
+  unfolding first isTold row
   back-refusal bs =
       ⊎-elim
       (λ (z : takeBackRefusal t bs ≡ 0). z ∙ sym (rw (back-refusal-given t bs, z)))
@@ -191,10 +225,10 @@ module _ {t : Table} (s : Sound t) where
       n ∙ sym (rw (back-refusal-given t bs, n)))
       (eq-or-ne (takeBackRefusal t bs) 0)
 
-  beside-back : (bs : List ℕ) → Beside (λ a b. back a) (takeBackCall t bs) (drawTakeBack (planOf t) (isTold t (takeBack bs)) bs)
-  unfolding takeBackCall drawTakeBack
+  beside-back : (bs : List ℕ) → Beside (ranBy (λ a b. back a) (takeBackCall t bs)) (draw (planOf t) (isTold t (takeBack bs)) (takeBack bs))
+  unfolding takeBackCall draw planRow
   beside-back bs =
-      beside-unless _ _ _ _ _ s (back-refusal bs)
+      beside-unless _ _ _ _ s (back-refusal bs)
       (λ z.
       let x = accepted-taken t bs z in
       let plan = rebuilt-plan t (s .shape) (s .most) bs in
@@ -205,8 +239,8 @@ module _ {t : Table} (s : Sound t) where
       omega arith) in
       record { sound = x .sound; plan = plan; heard = given-heard _ _ _ ∙ ap (λ (n : ℕ). saying (back n)) rise })
 
-  beside-count : Beside (λ a b. spoken a b) (spokenCounts t) (drawCount (planOf t))
-  unfolding spokenCounts drawCount
+  beside-count : Beside (ranBy (λ a b. spoken a b) (spokenCounts t)) (drawn (planOf t) (drawCount (planOf t)))
+  unfolding spokenCounts drawn drawCount
   beside-count =
       record {
         sound = s;
@@ -217,27 +251,27 @@ module _ {t : Table} (s : Sound t) where
             (ap₂ _-_ (sym (plan-capacity t)) (sym (plan-count (sound-wired s))));
       }
 
-  beside-command : (c : Command) → Beside (commandSays c) (perform t c) (drawCommand (planOf t) c)
+  beside-command : (c : Command) → Beside (ranBy (commandSays c) (perform t c)) (drawn (planOf t) (drawCommand (planOf t) c))
   unfolding commandSays perform drawCommand
   beside-command (Add holder e kind content) = beside-add holder e kind content keyCabin
   beside-command (Link source e second f) = beside-link source e second f
   beside-command (Clear i e) = beside-clear i e
   beside-command Count = beside-count
 
-  beside-line : (d : Decoded) → Beside (lineSays d) (performLine t d) (drawLine (planOf t) d)
-  unfolding lineSays performLine drawLine unchanged
+  beside-line : (d : Decoded) → Beside (ranBy (lineSays d) (performLine t d)) (drawn (planOf t) (drawLine (planOf t) d))
+  unfolding lineSays performLine drawLine drawn unchanged
   beside-line Nothing = record { sound = s; plan = refl; heard = refused-heard _ _ }
   beside-line (Line c) = beside-command c
 
-  beside-keys : (bs : List ℕ) → Beside (lineSays (decode bs)) (keyCall t bs) (drawLine (planOf t) (decode bs))
+  beside-keys : (bs : List ℕ) → Beside (ranBy (lineSays (decode bs)) (keyCall t bs)) (drawn (planOf t) (drawLine (planOf t) (decode bs)))
   unfolding keyCall
   beside-keys bs = rw (unless-zero _ t (performLine t (decode bs)) (past-sound s [] ∙ (unfold first in refl))) (beside-line (decode bs))
 
   -- a squeeze gives no number
-  beside-squeeze : (c : ℕ) (q : List ℕ) → Beside (λ a b. silent) (squeezeCall t c q) (drawSqueeze (planOf t) c q)
-  unfolding squeezeCall drawSqueeze
+  beside-squeeze : (c : ℕ) (q : List ℕ) → Beside (ranBy (λ a b. silent) (squeezeCall t c q)) (draw (planOf t) false (squeeze c q))
+  unfolding squeezeCall draw planRow
   beside-squeeze c q =
-      beside-unless _ _ _ _ _ s (squeeze-refusal s c q)
+      beside-unless _ _ _ _ s (squeeze-refusal s c q)
       (λ z.
       let f = squeeze-fits s c q z in
       record { sound = squeeze-sound s c q (f .roomy) (f .charges); plan = squeeze-plan s c q (f .roomy); heard = given-heard _ _ _ })
@@ -259,22 +293,20 @@ module _ {t : Table} (s : Sound t) where
   written-refusal buffer = put-refusal (writeRefusal t (length buffer)) writtenEdition t buffer
 
 -- what a call on a sound table comes to
-pub record Agrees (t : Table) (c : Call) : Type 0 where
-  pub sound : Sound (run t c .table)
-  pub plan : planOf (run t c .table) ≡ draw (planOf t) (isTold t c) c .plan
-  pub heard : run t c .heard ≡ draw (planOf t) (isTold t c) c .heard
+abbrev pub Agrees : Table → Call → Type 0
+Agrees t c = Beside (run t c) (draw (planOf t) (isTold t c) c)
 
 pub call-agrees : {t : Table} → Sound t → (c : Call) → Agrees t c
-unfolding run ran draw unchanged
-call-agrees s (add holder e kind content cabin) = let b = beside-add s holder e kind content cabin in record { sound = b .sound; plan = b .plan; heard = b .heard }
-call-agrees s (link source e second f) = let b = beside-link s source e second f in record { sound = b .sound; plan = b .plan; heard = b .heard }
-call-agrees s (clear i e) = let b = beside-clear s i e in record { sound = b .sound; plan = b .plan; heard = b .heard }
-call-agrees s (read i) = record { sound = s; plan = refl; heard = ap onlyRefusal (read-heard s i) }
-call-agrees s (trial limit results trace) = record { sound = s; plan = refl; heard = ap onlyRefusal (trial-heard s limit results trace) }
-call-agrees s (write buffer) =
-    record { sound = s; plan = refl; heard = ap onlyRefusal (written-refusal s buffer ∙ write-refusal s (length buffer)) }
-call-agrees s (keyLine bs) = let b = beside-keys s bs in record { sound = b .sound; plan = b .plan; heard = b .heard }
-call-agrees s (squeeze c q) = let b = beside-squeeze s c q in record { sound = b .sound; plan = b .plan; heard = b .heard }
-call-agrees s (clearSlip i e buffer) = let b = beside-slip s i e buffer in record { sound = b .sound; plan = b .plan; heard = b .heard }
-call-agrees s (takeBack bs) = let b = beside-back s bs in record { sound = b .sound; plan = b .plan; heard = b .heard }
-call-agrees s (preview i e buffer) = let b = beside-preview s i e buffer in record { sound = s; plan = b .plan; heard = b .heard }
+unfolding run row draw planRow isTold
+call-agrees s (add holder e kind content cabin) = beside-add s holder e kind content cabin
+call-agrees s (link source e second f) = beside-link s source e second f
+call-agrees s (clear i e) = beside-clear s i e
+call-agrees s (read i) = beside-still _ _ s (read-heard s i)
+call-agrees s (trial limit results trace) = beside-still _ _ s (trial-heard s limit results trace)
+call-agrees {t} s (write buffer) =
+    rw (silent-said (writeCall t buffer .answer)) (beside-still _ _ s (written-refusal s buffer ∙ write-refusal s (length buffer)))
+call-agrees s (keyLine bs) = beside-keys s bs
+call-agrees s (squeeze c q) = beside-squeeze s c q
+call-agrees s (clearSlip i e buffer) = beside-slip s i e buffer
+call-agrees s (takeBack bs) = beside-back s bs
+call-agrees s (preview i e buffer) = beside-preview s i e buffer

@@ -11,26 +11,26 @@ use borrow.Author.Tests.{eqb-false, eq-eqb, ne-eqb}
 use Rattle.finite.proofs.Bools.{and-intro, and-left, and-right, not-true-false}
 use Rattle.finite.proofs.Below.{eq-or-ne}
 use Rattle.table.specs.Answer.{Outcome, first, unless, refusalOf, firstOf, secondOf, triedRefusal, endingOf, lastOf, movesOf}
-use Rattle.table.specs.Calls.{freshCall, addRefusal, addCall, linkRefusal, linkCall, noFields, readConditions, readRefusal, readCall, tableTests}
-use Rattle.table.specs.Trial.{trialConditions, trialRefusal}
+use Rattle.table.specs.Calls.{freshCall, addRefusal, addCall, linkRefusal, linkCall, noFields, readRefusal, readCall, tableTests}
+use Rattle.table.specs.Trial.{trialRefusal}
 use Rattle.table.specs.Clear.{cleared, clearRefusal, clearCall}
-use Rattle.table.specs.Preview.{previewConditions, previewRefusal}
+use Rattle.table.specs.Preview.{previewRefusal}
 use Rattle.table.specs.Squeeze.{squeezeRefusal, squeezeCall}
 use Rattle.table.specs.Table.{Table}
-use Rattle.table.proofs.Calls.{nonzero, first-append, unless-zero, unless-refused, cleared-given, read-refused, trial-refused}
+use Rattle.table.proofs.Calls.{nonzero, first-append, unless-zero, unless-refused, unless-refusal, cleared-given, read-refused, trial-refused}
 use Rattle.table.proofs.Trials.{trial-refusal-given}
 use Rattle.table.proofs.Preview.{preview-refused-as, preview-refusal-given}
-use Rattle.image.specs.Image.{Edition, writtenEdition, writeConditions, writeRefusal, writeCall, imageTable, loadCall}
-use Rattle.image.specs.Convert.{convertConditions, convertRefusal, convertCall}
-use Rattle.image.specs.Slip.{clearSlipConditions, clearSlipRefusal, takeBackRefusal, takeBackCall}
+use Rattle.image.specs.Image.{Edition, writtenEdition, writeRefusal, writeCall, imageTable, loadCall}
+use Rattle.image.specs.Convert.{convertRefusal, convertCall}
+use Rattle.image.specs.Slip.{clearSlipRefusal, takeBackRefusal, takeBackCall}
 use Rattle.image.proofs.Laws.{put-refused, put-refusal}
 use Rattle.image.proofs.TakenBack.{slip-refusal-given, slip-refused-as}
 use Rattle.keyline.specs.declared.Command.the-variants.{Add, Link, Clear, Count}
 use Rattle.keyline.specs.declared.Decoded.{Decoded}
 use Rattle.keyline.specs.declared.Decoded.the-variants.{Line, Nothing}
 use Rattle.keyline.specs.Keys.{decode, spokenCounts, perform, callConditions, lineConditions, keyConditions, performLine, keyCall}
-use Rattle.history.specs.History.{fresh, load, add, link, clear, read, trial, write, keyLine, squeeze, clearSlip, takeBack, preview}
-use Rattle.history.specs.Acts.{Act, begin, call, convert, Done, told, wrote, fieldNumbers, triedNumbers, callDone, doneBy, answerSize, lentTo, refusedBy, conditionsOf}
+use Rattle.history.specs.History.{fresh, load, add, link, clear, read, trial, write, keyLine, squeeze, clearSlip, takeBack, preview, silent, Done, fieldNumbers, triedNumbers, changing, row, firstRow}
+use Rattle.history.specs.Acts.{Act, begin, call, convert, actRow, doneBy, tableKept, refusedBy, conditionsOf}
 use Rattle.history.specs.Demands.{FirstHeld, none, some, Demand1}
 
 -- the first condition that holds, for an order with no number 0
@@ -77,31 +77,33 @@ unless-unless n m t o =
     (λ (d : n ≡ 0 → ⊥). unless-refused n t _ d ∙ (rw (ne-eqb n 0 d) (sym (unless-refused n t o d))))
     (eq-or-ne n 0)
 
--- a call that is lent nothing: the number of its refusal, and what it does where it is refused
-pub told-refusal : (n : ℕ) (t : Table) (o : Outcome) → refusalOf (o .answer) ≡ 0 → told (unless n t o) .refusal ≡ n
-unfolding told
-told-refusal n t o a =
-    ⊎-elim
-    (λ (z : n ≡ 0). rw (unless-zero n t o z) (a ∙ sym z))
-    (λ (d : n ≡ 0 → ⊥). rw (unless-refused n t o d) (unfold refusalOf in refl))
-    (eq-or-ne n 0)
+-- an act whose refusal n is the first of its conditions: it remains to say what it does where it is refused
+conditions-demand : (t : Table) (a : Act) (n : ℕ) → nonzero (conditionsOf t a) ≡ true → doneBy t a .refusal ≡ n → n ≡ first (conditionsOf t a) →
+    ((n ≡ 0 → ⊥) → doneBy t a ≡ refusedBy n t a) → Demand1 t a
+conditions-demand t a n z e c f =
+    record {
+      listed = subst (FirstHeld (conditionsOf t a)) (sym (e ∙ c)) (first-held (conditionsOf t a) z);
+      refused = λ h. f (λ q. h (e ∙ q)) ∙ ap (λ (m : ℕ). refusedBy m t a) (sym e);
+    }
 
-nothingDone : ℕ → Table → Done
+-- what a call that is lent nothing does by its outcome, and where it is refused
+abbrev told : Outcome → Done
+told o = changing [] o (λ a b. silent) .done
+
+abbrev nothingDone : ℕ → Table → Done
 nothingDone n t = record { refusal = n; numbers = 0 ∷ 0 ∷ []; lent = []; table = t }
 
 told-refused : (n : ℕ) (t : Table) (o : Outcome) → (n ≡ 0 → ⊥) → told (unless n t o) ≡ nothingDone n t
-unfolding told nothingDone refusalOf firstOf secondOf
-told-refused n t o d = rw (unless-refused n t o d)
+unfolding refusalOf firstOf secondOf
+told-refused n t o d = ap told (unless-refused n t o d)
 
 -- u is the table handed back where the act is refused
-outcome-demand : (t u : Table) (a : Act) (cs : List (Bool × ℕ)) (o : Outcome) → conditionsOf t a ≡ cs → nonzero cs ≡ true → refusalOf (o .answer) ≡ 0 →
-    doneBy t a ≡ told (unless (first cs) u o) → ((n : ℕ) → refusedBy n t a ≡ nothingDone n u) → Demand1 t a
-outcome-demand t u a cs o c z r d f =
-    let e : doneBy t a .refusal ≡ first cs = ap (λ (x : Done). x .refusal) d ∙ told-refusal (first cs) u o r in
-    record {
-      listed = rw (e, c) (first-held cs z);
-      refused = λ h. d ∙ told-refused (first cs) u o (λ q. h (e ∙ q)) ∙ sym (f (first cs)) ∙ ap (λ (n : ℕ). refusedBy n t a) (sym e);
-    }
+outcome-demand : (t u : Table) (a : Act) (o : Outcome) → nonzero (conditionsOf t a) ≡ true → refusalOf (o .answer) ≡ 0 →
+    doneBy t a ≡ told (unless (first (conditionsOf t a)) u o) → ((n : ℕ) → refusedBy n t a ≡ nothingDone n u) → Demand1 t a
+outcome-demand t u a o z r d f =
+    let n = first (conditionsOf t a) in
+    conditions-demand t a n z (ap (λ (x : Done). x .refusal) d ∙ unless-refusal n u o r) refl
+    (λ q. d ∙ told-refused n u o q ∙ sym (f n))
 
 -- a decoded line as one outcome: refused by the conditions of its call, or accepted
 pub record Performed (t : Table) (d : Decoded) : Type 0 where
@@ -121,90 +123,71 @@ performed t (Line (Clear i e)) = (unfold clearCall clearRefusal in record { outc
 performed t (Line Count) = (unfold spokenCounts in record { outcome = spokenCounts t; given = refl; same = refl; numbers = refl })
 
 key-demand : (t : Table) (bs : List ℕ) → Demand1 t (call (keyLine bs))
-unfolding doneBy callDone conditionsOf keyConditions keyCall
+unfolding doneBy conditionsOf refusedBy tableKept actRow row keyConditions keyCall
 key-demand t bs =
     let p = performed t (decode bs) in
-    outcome-demand t t (call (keyLine bs)) (tableTests t ++ lineConditions t (decode bs)) (p .outcome) refl
+    outcome-demand t t (call (keyLine bs)) (p .outcome)
     (nonzero-append (tableTests t) _ (unfold nonzero in refl) (p .numbers)) (p .given)
     (ap told
     (ap (unless (first (tableTests t)) t) (p .same) ∙ unless-unless (first (tableTests t)) _ t (p .outcome) ∙
     ap (λ (n : ℕ). unless n t (p .outcome)) (sym (first-append (tableTests t) _ (unfold nonzero in refl)))))
-    (λ n. unfold refusedBy nothingDone answerSize lentTo in refl)
+    (λ n. refl)
 
 read-demand : (t : Table) (i : ℕ) → Demand1 t (call (read i))
-unfolding doneBy callDone conditionsOf refusedBy answerSize lentTo fieldNumbers noFields
+unfolding doneBy conditionsOf refusedBy tableKept actRow row nonzero fieldNumbers noFields
 read-demand t i =
-    let e : readCall t i .refusal ≡ readRefusal t i = (unfold readCall in refl) in
-    record {
-      listed = rw e (unfold readRefusal in (first-held (readConditions t i) (unfold nonzero in refl)));
-      refused = λ h. rw (read-refused t i (λ z. h (e ∙ z)));
-    }
+    conditions-demand t (call (read i)) (readRefusal t i) refl (unfold readCall in refl) (unfold readRefusal in refl) (λ d. rw (read-refused t i d))
 
 trial-demand : (t : Table) (limit : ℕ) (results trace : List ℕ) → Demand1 t (call (trial limit results trace))
-unfolding doneBy callDone conditionsOf refusedBy answerSize lentTo triedNumbers triedRefusal endingOf lastOf movesOf
+unfolding doneBy conditionsOf refusedBy tableKept actRow row nonzero triedNumbers triedRefusal endingOf lastOf movesOf
 trial-demand t limit results trace =
-    let e = trial-refusal-given t limit results trace in
-    record {
-      listed = rw e (unfold trialRefusal in (first-held (trialConditions t limit results trace) (unfold nonzero in refl)));
-      refused = λ h. rw (trial-refused t limit results trace (λ z. h (e ∙ z)));
-    }
+    conditions-demand t (call (trial limit results trace)) (trialRefusal t limit results trace) refl (trial-refusal-given t limit results trace)
+    (unfold trialRefusal in refl) (λ d. rw (trial-refused t limit results trace d))
 
 write-demand : (t : Table) (buffer : List ℕ) → Demand1 t (call (write buffer))
-unfolding doneBy callDone wrote conditionsOf refusedBy answerSize lentTo refusalOf firstOf secondOf writeCall
+unfolding doneBy conditionsOf refusedBy tableKept actRow row nonzero refusalOf firstOf secondOf writeCall
 write-demand t buffer =
     let n = writeRefusal t (length buffer) in
-    let e = put-refusal n writtenEdition t buffer in
-    record {
-      listed = rw e (unfold writeRefusal in (first-held (writeConditions t (length buffer)) (unfold nonzero in refl)));
-      refused = λ h. rw (put-refused n (λ z. h (e ∙ z)) writtenEdition t buffer);
-    }
+    conditions-demand t (call (write buffer)) n refl (put-refusal n writtenEdition t buffer) (unfold writeRefusal in refl)
+    (λ d. rw (put-refused n d writtenEdition t buffer))
 
 convert-demand : (t : Table) (v : Edition) (bs buffer : List ℕ) → Demand1 t (convert v bs buffer)
-unfolding doneBy wrote conditionsOf refusedBy refusalOf firstOf secondOf convertCall
+unfolding doneBy conditionsOf refusedBy tableKept actRow nonzero refusalOf firstOf secondOf convertCall
 convert-demand t v bs buffer =
     let n = convertRefusal v bs (length buffer) in
-    let e = put-refusal n v (imageTable bs) buffer in
-    record {
-      listed = rw e (unfold convertRefusal in (first-held (convertConditions v bs (length buffer)) (unfold nonzero in refl)));
-      refused = λ h. rw (put-refused n (λ z. h (e ∙ z)) v (imageTable bs) buffer);
-    }
+    conditions-demand t (convert v bs buffer) n refl (put-refusal n v (imageTable bs) buffer) (unfold convertRefusal in refl)
+    (λ d. rw (put-refused n d v (imageTable bs) buffer))
 
 clear-slip-demand : (t : Table) (i e : ℕ) (buffer : List ℕ) → Demand1 t (call (clearSlip i e buffer))
-unfolding doneBy callDone conditionsOf refusedBy answerSize lentTo refusalOf firstOf secondOf
+unfolding doneBy conditionsOf refusedBy tableKept actRow row nonzero refusalOf firstOf secondOf
 clear-slip-demand t i e buffer =
-    let n = slip-refusal-given t i e buffer in
-    record {
-      listed = rw n (unfold clearSlipRefusal in (first-held (clearSlipConditions t i e (length buffer)) (unfold nonzero in refl)));
-      refused = λ h. rw (slip-refused-as t i e buffer (λ z. h (n ∙ z)));
-    }
+    conditions-demand t (call (clearSlip i e buffer)) (clearSlipRefusal t i e (length buffer)) refl (slip-refusal-given t i e buffer)
+    (unfold clearSlipRefusal in refl) (λ d. rw (slip-refused-as t i e buffer d))
 
 preview-demand : (t : Table) (i e : ℕ) (buffer : List ℕ) → Demand1 t (call (preview i e buffer))
-unfolding doneBy callDone wrote conditionsOf refusedBy answerSize lentTo refusalOf firstOf secondOf
+unfolding doneBy conditionsOf refusedBy tableKept actRow row nonzero refusalOf firstOf secondOf
 preview-demand t i e buffer =
-    let n = preview-refusal-given t i e buffer in
-    record {
-      listed = rw n (unfold previewRefusal in (first-held (previewConditions t i e (length buffer)) (unfold nonzero in refl)));
-      refused = λ h. rw (preview-refused-as t i e buffer (λ z. h (n ∙ z)));
-    }
+    conditions-demand t (call (preview i e buffer)) (previewRefusal t i e (length buffer)) refl (preview-refusal-given t i e buffer)
+    (unfold previewRefusal in refl) (λ d. rw (preview-refused-as t i e buffer d))
 
 pub demand-1 : (t : Table) (a : Act) → Demand1 t a
-unfolding doneBy callDone conditionsOf refusedBy nothingDone answerSize lentTo nonzero
-demand-1 t (begin (fresh c q)) = (unfold freshCall refusalOf in outcome-demand t _ (begin (fresh c q)) _ _ refl refl refl refl (λ n. refl))
-demand-1 t (begin (load bs)) = (unfold loadCall refusalOf in outcome-demand t _ (begin (load bs)) _ _ refl refl refl refl (λ n. refl))
+unfolding doneBy conditionsOf refusedBy tableKept actRow row firstRow nonzero
+demand-1 t (begin (fresh c q)) = (unfold freshCall refusalOf in outcome-demand t _ (begin (fresh c q)) _ refl refl refl (λ n. refl))
+demand-1 t (begin (load bs)) = (unfold loadCall refusalOf in outcome-demand t _ (begin (load bs)) _ refl refl refl (λ n. refl))
 demand-1 t (call (add holder e kind content cabin)) =
-    (unfold addCall addRefusal refusalOf in outcome-demand t t (call (add holder e kind content cabin)) _ _ refl refl refl refl (λ n. refl))
+    (unfold addCall addRefusal refusalOf in outcome-demand t t (call (add holder e kind content cabin)) _ refl refl refl (λ n. refl))
 demand-1 t (call (link source e second f)) =
-    (unfold linkCall linkRefusal refusalOf in outcome-demand t t (call (link source e second f)) _ _ refl refl refl refl (λ n. refl))
+    (unfold linkCall linkRefusal refusalOf in outcome-demand t t (call (link source e second f)) _ refl refl refl (λ n. refl))
 demand-1 t (call (clear i e)) =
-    (unfold clearCall clearRefusal in outcome-demand t t (call (clear i e)) _ (cleared t i e) refl refl (cleared-given t i e) refl (λ n. refl))
+    (unfold clearCall clearRefusal in outcome-demand t t (call (clear i e)) (cleared t i e) refl (cleared-given t i e) refl (λ n. refl))
 demand-1 t (call (read i)) = read-demand t i
 demand-1 t (call (trial limit results trace)) = trial-demand t limit results trace
 demand-1 t (call (write buffer)) = write-demand t buffer
 demand-1 t (call (keyLine bs)) = key-demand t bs
 demand-1 t (call (squeeze c q)) =
-    (unfold squeezeCall squeezeRefusal refusalOf in outcome-demand t t (call (squeeze c q)) _ _ refl refl refl refl (λ n. refl))
+    (unfold squeezeCall squeezeRefusal refusalOf in outcome-demand t t (call (squeeze c q)) _ refl refl refl (λ n. refl))
 demand-1 t (call (clearSlip i e buffer)) = clear-slip-demand t i e buffer
-demand-1 t (call (preview i e buffer)) = preview-demand t i e buffer
 demand-1 t (call (takeBack bs)) =
-    (unfold takeBackCall takeBackRefusal refusalOf in outcome-demand t t (call (takeBack bs)) _ _ refl refl refl refl (λ n. refl))
+    (unfold takeBackCall takeBackRefusal refusalOf in outcome-demand t t (call (takeBack bs)) _ refl refl refl (λ n. refl))
+demand-1 t (call (preview i e buffer)) = preview-demand t i e buffer
 demand-1 t (convert v bs buffer) = convert-demand t v bs buffer

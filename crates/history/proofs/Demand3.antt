@@ -10,8 +10,7 @@ use Rattle.finite.proofs.Bools.{test}
 use Rattle.table.specs.Table.{Table, places, counters, inUse, counterOf, linksTo, stepsInUse, StrongChain}
 use Rattle.table.specs.Sound.{Sound, sound, capacityFits}
 use Rattle.table.specs.Cabins.{guaranteeOf, limitOf, quotasFit, listFits, soleQuotas}
-use Rattle.table.specs.declared.Answer.the-variants.{Given, Refused}
-use Rattle.table.specs.Answer.{Outcome, badCapacity, badCabins, notAccepted, first, unless, refusalOf}
+use Rattle.table.specs.Answer.{first, unless, refusalOf}
 use Rattle.table.specs.Calls.{freshTable, refusedTable, freshCall}
 use Rattle.table.specs.Plan.{Plan, planOf, freshPlan}
 use Rattle.table.proofs.Sound.{capacity-range, test-sound, sound-test}
@@ -19,9 +18,10 @@ use Rattle.table.proofs.Formed.{sound-formed}
 use Rattle.table.proofs.Spine.{strong-chain-short}
 use Rattle.table.proofs.Edits.{sound-fresh}
 use Rattle.table.proofs.Plan.{plan-fresh}
+use Rattle.table.proofs.Calls.{unless-refusal}
 use Rattle.image.specs.Image.{accepted, imageTable, loadCall}
 use Rattle.image.proofs.Laws.{accepted-sound, accepted-plan}
-use Rattle.history.specs.History.{First, fresh, load, Call, run, withTold, tableAfter, heardBy, planAfter, drawnBy, firstRefusal, planFirstRefusal, firstTable, firstPlan}
+use Rattle.history.specs.History.{First, fresh, load, Call, run, withTold, tableAfter, heardBy, planAfter, drawnBy, firstRow, firstRefusal, firstTable, firstPlan}
 use Rattle.history.specs.Demands.{Demand3}
 use Rattle.history.proofs.Agree.{call-agrees}
 
@@ -34,52 +34,44 @@ refused-plan : planOf refusedTable ≡ freshPlan 1 (soleQuotas 1)
 unfolding refusedTable
 refused-plan = plan-fresh 1 (soleQuotas 1)
 
+-- the first call is refused by the first of its conditions
+first-refusal : (f : First) → firstRefusal f ≡ first (firstRow f .conditions)
+unfolding firstRefusal firstRow freshCall loadCall refusalOf
+first-refusal (fresh c q) = unless-refusal _ refusedTable _ refl
+first-refusal (load bs) = unless-refusal _ refusedTable _ refl
+
 -- what a history begins with is sound, and its plan is the plan that it begins with
 pub record Begun (f : First) : Type 0 where
   pub sound : Sound (firstTable f)
   plan : planOf (firstTable f) ≡ firstPlan f
-  refusal : firstRefusal f ≡ planFirstRefusal f
 
--- from what the first call came to
-begun-as : (f : First) (o : Outcome) → firstTable f ≡ o .table → firstRefusal f ≡ refusalOf (o .answer) → Sound (o .table) → planOf (o .table) ≡ firstPlan f →
-    refusalOf (o .answer) ≡ planFirstRefusal f → Begun f
-begun-as f o t r s p n = record { sound = subst Sound (sym t) s; plan = ap planOf t ∙ p; refusal = r ∙ n }
+-- from the table that the first call came to
+begun-as : (f : First) (u : Table) → firstTable f ≡ u → Sound u → planOf u ≡ firstPlan f → Begun f
+begun-as f u e s p = record { sound = subst Sound (sym e) s; plan = ap planOf e ∙ p }
 
 module _ (c : ℕ) (q : List ℕ) where
-  fresh-as : (o : Outcome) → freshCall c q ≡ o → Sound (o .table) → planOf (o .table) ≡ firstPlan (fresh c q) →
-      refusalOf (o .answer) ≡ planFirstRefusal (fresh c q) → Begun (fresh c q)
-  unfolding firstTable firstRefusal
-  fresh-as o e = begun-as (fresh c q) o (ap (λ (x : Outcome). x .table) e) (ap (λ (x : Outcome). refusalOf (x .answer)) e)
-
   fresh-made : capacityFits c ≡ true → listFits c q ≡ true → Begun (fresh c q)
-  unfolding firstPlan planFirstRefusal freshCall unless first refusalOf
+  unfolding firstTable firstRow firstPlan freshCall unless first
   fresh-made h g =
       let r = capacity-range c h in
-      fresh-as (record { answer = Given 0 0; table = freshTable c q }) (rw (h, g)) (sound-fresh c q (r .0) (r .1) g) (rw (h, g) (plan-fresh c q)) (rw (h, g))
+      begun-as (fresh c q) (freshTable c q) (rw (h, g, firstTable)) (sound-fresh c q (r .0) (r .1) g) (rw (h, g) (plan-fresh c q))
 
   fresh-listed : capacityFits c ≡ true → listFits c q ≡ false → Begun (fresh c q)
-  unfolding firstPlan planFirstRefusal freshCall unless first refusalOf
-  fresh-listed h g =
-      fresh-as (record { answer = Refused badCabins; table = refusedTable }) (rw (h, g)) refused-sound (rw (h, g) refused-plan) (rw (h, g))
+  unfolding firstTable firstRow firstPlan freshCall unless first
+  fresh-listed h g = begun-as (fresh c q) refusedTable (rw (h, g, firstTable)) refused-sound (rw (h, g) refused-plan)
 
   fresh-refused : capacityFits c ≡ false → Begun (fresh c q)
-  unfolding firstPlan planFirstRefusal freshCall unless first refusalOf
-  fresh-refused h = fresh-as (record { answer = Refused badCapacity; table = refusedTable }) (rw h) refused-sound (rw h refused-plan) (rw h)
+  unfolding firstTable firstRow firstPlan freshCall unless first
+  fresh-refused h = begun-as (fresh c q) refusedTable (rw (h, firstTable)) refused-sound (rw h refused-plan)
 
 module _ (bs : List ℕ) where
-  load-as : (o : Outcome) → loadCall bs ≡ o → Sound (o .table) → planOf (o .table) ≡ firstPlan (load bs) →
-      refusalOf (o .answer) ≡ planFirstRefusal (load bs) → Begun (load bs)
-  unfolding firstTable firstRefusal
-  load-as o e = begun-as (load bs) o (ap (λ (x : Outcome). x .table) e) (ap (λ (x : Outcome). refusalOf (x .answer)) e)
-
   load-made : accepted bs ≡ true → Begun (load bs)
-  unfolding firstPlan planFirstRefusal loadCall unless first refusalOf
-  load-made h =
-      load-as (record { answer = Given 0 0; table = imageTable bs }) (rw h) (test-sound (imageTable bs) (accepted-sound bs h)) (rw h (accepted-plan bs h)) (rw h)
+  unfolding firstTable firstRow firstPlan loadCall unless first
+  load-made h = begun-as (load bs) (imageTable bs) (rw (h, firstTable)) (test-sound (imageTable bs) (accepted-sound bs h)) (rw h (accepted-plan bs h))
 
   load-refused : accepted bs ≡ false → Begun (load bs)
-  unfolding firstPlan planFirstRefusal loadCall unless first refusalOf
-  load-refused h = load-as (record { answer = Refused notAccepted; table = refusedTable }) (rw h) refused-sound (rw h refused-plan) (rw h)
+  unfolding firstTable firstRow firstPlan loadCall unless first
+  load-refused h = begun-as (load bs) refusedTable (rw (h, firstTable)) refused-sound (rw h refused-plan)
 
 pub begun : (f : First) → Begun f
 begun (fresh c q) =
@@ -114,7 +106,7 @@ demand-3 f cs =
       short = strong-chain-short s;
       reached = λ i u d. s .reached i u;
       plan = after-plan (firstTable f) (b .sound) cs ∙ ap (λ (p : Plan). planAfter p (withTold (firstTable f) cs)) (b .plan);
-      begun = b .refusal;
+      begun = first-refusal f;
       heard = after-heard (firstTable f) (b .sound) cs ∙ ap (λ (p : Plan). drawnBy p (withTold (firstTable f) cs)) (b .plan);
       counts = sound-formed s .exact;
     }
@@ -136,7 +128,7 @@ module _ (f : First) (cs : List Call) where
   pub history-plan : planOf left ≡ planAfter (firstPlan f) (withTold (firstTable f) cs)
   history-plan = demand-3 f cs .plan
 
-  pub history-begun : firstRefusal f ≡ planFirstRefusal f
+  pub history-begun : firstRefusal f ≡ first (firstRow f .conditions)
   history-begun = demand-3 f cs .begun
 
   pub history-heard : heardBy (firstTable f) cs ≡ drawnBy (firstPlan f) (withTold (firstTable f) cs)

@@ -23,7 +23,7 @@ use Rattle.table.specs.Preview.{isFreed, wouldGo, previewRefusal, previewCall}
 use Rattle.table.proofs.Formed.{sound-formed, formed-below}
 use Rattle.table.proofs.Calls.{clear-made, clear-refusal-given, clear-sound, clear-fits, clear-cleared}
 use Rattle.table.proofs.Preview.{preview-order, preview-made, preview-refusal-given, preview-accepted, freed-counted, go-length, go-fits}
-use Rattle.history.specs.History.{run, tableAfter}
+use Rattle.history.specs.History.{row, run, tableAfter}
 use Rattle.history.specs.Demands.{PreviewDemand, PreviewRefusalDemand}
 use Rattle.history.proofs.Demand2.{clear-demand}
 
@@ -85,7 +85,7 @@ module _ (t : Table) (i e : ℕ) (buffer : List ℕ) (z : previewRefusal t i e (
       rw (x .1, y .1) numbers-rise
 
   pub preview-demand : PreviewDemand t i e buffer (previewCall t i e buffer)
-  unfolding tableAfter run
+  unfolding tableAfter run row
   preview-demand =
       let made = clear-made t i e c in
       let r = clear-cleared s i e (clear-fits t i e c) in

@@ -1,7 +1,7 @@
 -- Clearings with a slip and take-backs (document 02, W7): what they do on a sound table, and what the plan is told of a call. Assumes nothing.
 use mathlib.Core.Path.{_≡_, refl, sym, _∙_, ap, ap₂}
 use mathlib.Core.Bool.{true, false, not}
-use mathlib.Core.Logic.{_↔_, ⊎-elim}
+use mathlib.Core.Logic.{⊎-elim}
 use mathlib.Core.List.{List, [], _∷_, _++_}
 use Prim.Native.Nat.{ℕ, _+_, _*_, _≤_, _<_}
 use native.Mathlib.Omega.{arith}
@@ -22,27 +22,33 @@ use Rattle.image.specs.Slip.{recordIn, changed, slip, slipLength, SlipOutcome, 
 use Rattle.image.proofs.Slips.{record-fields, slip-length, slip-head, slip-pair}
 use Rattle.image.proofs.Placed.{blank-record}
 use Rattle.image.proofs.TakenBack.{unchanged-fields, Led, cleared-led, changed-used, slip-cleared, slip-made, slip-fits, regret, Taken, accepted-taken, taken-rise, rebuilt-plan}
-use Rattle.history.specs.History.{Call, add, link, clear, read, trial, write, keyLine, squeeze, clearSlip, takeBack, preview, run, isTold, withTold}
-use Rattle.history.specs.Demands.{Told, ToldDemand, SlipDemand, TakeBackDemand}
+use Rattle.history.specs.History.{Call, add, link, clear, read, trial, write, keyLine, squeeze, clearSlip, takeBack, preview, row, run, isTold, withTold}
+use Rattle.history.specs.Demands.{Told, got11, got18, ToldDemand, SlipDemand, TakeBackDemand}
 
-told-call : (t : Table) (c : Call) → (isTold t c ≡ true) ↔ Told t c
-unfolding isTold
-told-call t (add holder e kind content cabin) = ((λ h. clash h refl), λ x. absurd x)
-told-call t (link source e second f) = ((λ h. clash h refl), λ x. absurd x)
-told-call t (clear i e) = ((λ h. clash h refl), λ x. absurd x)
-told-call t (read i) = ((λ h. clash h refl), λ x. absurd x)
-told-call t (trial limit results trace) = ((λ h. clash h refl), λ x. absurd x)
-told-call t (write buffer) = ((λ h. clash h refl), λ x. absurd x)
-told-call t (keyLine bs) = ((λ h. clash h refl), λ x. absurd x)
-told-call t (squeeze c q) = ((λ h. clash h refl), λ x. absurd x)
-told-call t (clearSlip i e buffer) = (eqb-true _ _, eq-eqb _ _)
-told-call t (takeBack bs) = (eqb-true _ _, eq-eqb _ _)
-told-call t (preview i e buffer) = ((λ h. clash h refl), λ x. absurd x)
+-- a clearing with a slip and a take-back tell their number, the other calls nothing
+told-call : (t : Table) (c : Call) → isTold t c ≡ true → Told t c
+unfolding isTold row
+told-call t (add holder e kind content cabin) h = clash h refl
+told-call t (link source e second f) h = clash h refl
+told-call t (clear i e) h = clash h refl
+told-call t (read i) h = clash h refl
+told-call t (trial limit results trace) h = clash h refl
+told-call t (write buffer) h = clash h refl
+told-call t (keyLine bs) h = clash h refl
+told-call t (squeeze c q) h = clash h refl
+told-call t (clearSlip i e buffer) h = got11 (eqb-true _ _ h)
+told-call t (takeBack bs) h = got18 (eqb-true _ _ h)
+told-call t (preview i e buffer) h = clash h refl
+
+call-told : (t : Table) (c : Call) → Told t c → isTold t c ≡ true
+unfolding isTold row
+call-told t c (got11 q) = eq-eqb _ _ q
+call-told t c (got18 q) = eq-eqb _ _ q
 
 pub told-demand : (t : Table) (cs : List Call) → ToldDemand t cs (withTold t cs)
 unfolding withTold
 told-demand t [] = tt
-told-demand t (c ∷ cs) = (refl, told-call t c, told-demand (run t c .table) cs)
+told-demand t (c ∷ cs) = (refl, (told-call t c, call-told t c), told-demand (run t c .table) cs)
 
 -- a clearing that writes its slip
 module _ (t : Table) (i e : ℕ) (buffer : List ℕ) (z : clearSlipRefusal t i e (length buffer) ≡ 0) where

@@ -1,6 +1,5 @@
 -- What the cabins are charged, counted along a history: "Steps in use less 1 equal the cabins' charges, counted from the first table and the adds and
 -- frees since." (document 02, W5). Assumes nothing.
---   cabinFor            the cabin that a call adds for
 --   gone t u c          the steps of cabin c that are in use in t and not in u
 --   booked c d t u n s  the account of cabin c that stood at n, after a call for cabin d that made u of t and said s; account, after a list of calls
 --   summed n s          the accounts together, from what is said alone; tally, along a list
@@ -11,22 +10,7 @@ use lib.Dec.{eqb}
 use Rattle.finite.specs.Below.{one, count}
 use Rattle.table.specs.Table.{Table, inUse}
 use Rattle.table.specs.Cabins.{charged}
-use Rattle.keyline.specs.Keys.{keyCabin}
-use Rattle.history.specs.History.{Call, add, link, clear, read, trial, write, keyLine, squeeze, clearSlip, takeBack, preview, Said, silent, number, freed, back, foreseen, spoken, Heard, run}
-
--- a key line adds for cabin 0; the other calls give no number, and steps brought back are booked to their own cabins, below
-unfoldable pub cabinFor : Call → ℕ
-cabinFor (add holder e kind content cabin) = cabin
-cabinFor (link source e second f) = keyCabin
-cabinFor (clear i e) = keyCabin
-cabinFor (read i) = keyCabin
-cabinFor (trial limit results trace) = keyCabin
-cabinFor (write buffer) = keyCabin
-cabinFor (keyLine bs) = keyCabin
-cabinFor (squeeze c quotas) = keyCabin
-cabinFor (clearSlip i e buffer) = keyCabin
-cabinFor (takeBack bs) = keyCabin
-cabinFor (preview i e buffer) = keyCabin
+use Rattle.history.specs.History.{Call, Said, silent, number, freed, back, foreseen, spoken, Heard, row, run}
 
 unfoldable pub gone : Table → Table → ℕ → ℕ
 gone t u c = count (t .capacity) (λ i. charged t c i && not (inUse u i))
@@ -45,7 +29,7 @@ unfoldable pub account : ℕ → ℕ → Table → List Call → ℕ
 account c n t [] = n
 account c n t (k ∷ cs) =
     let u = run t k .table in
-    account c (booked c (cabinFor k) t u n (run t k .heard .said)) u cs
+    account c (booked c (row t k .cabin) t u n (run t k .heard .said)) u cs
 
 unfoldable pub summed : ℕ → Said → ℕ
 summed n silent = n

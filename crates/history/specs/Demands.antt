@@ -22,7 +22,7 @@ use lib.ListN.{length, getD, take, drop, replicate}
 use Rattle.finite.specs.Below.{count, total}
 use Rattle.finite.specs.Reach.{Chain}
 use Rattle.table.specs.declared.Answer.the-variants.{Given}
-use Rattle.table.specs.Answer.{Outcome, WriteOutcome, full, cabinAtLimit, stepsReserved, tooShort, notAccepted, needsEdition2, slipNotAccepted, refusalOf, secondOf}
+use Rattle.table.specs.Answer.{Outcome, WriteOutcome, full, cabinAtLimit, stepsReserved, tooShort, notAccepted, needsEdition2, slipNotAccepted, first, refusalOf, secondOf}
 use Rattle.table.specs.Table.{Table, places, counters, cabinCount, exitsOf, inUse, cabinOf, counterOf, strong, linked, linksTo, stepsInUse, StrongChain}
 use Rattle.table.specs.Cabins.{guaranteeOf, soleQuotas, charge}
 use Rattle.table.specs.Sound.{Sound}
@@ -33,7 +33,7 @@ use Rattle.table.specs.Plan.{planOf, planCount, planNumber, planAdd, planLink, 
 use Rattle.keyline.specs.Keys.{keyCabin, keyCall}
 use Rattle.image.specs.Image.{Edition, edition1, words, image, largest, editionIn, written, accepted, loadCall, Bytes, SameRecords, Ascending}
 use Rattle.image.specs.Slip.{recordIn, changed, slip, slipLength, SlipOutcome, clearSlipCall, slipStep, slipExit, slipCount, takeBackCall, planTakenBack}
-use Rattle.history.specs.History.{First, Call, add, link, clear, read, trial, write, keyLine, squeeze, clearSlip, takeBack, preview, run, withTold, tableAfter, heardBy, planAfter, drawnBy, firstRefusal, planFirstRefusal, firstTable, firstPlan}
+use Rattle.history.specs.History.{First, Call, clearSlip, takeBack, preview, run, withTold, tableAfter, heardBy, planAfter, drawnBy, firstRow, firstRefusal, firstTable, firstPlan}
 use Rattle.history.specs.Accounts.{account, tally}
 use Rattle.history.specs.Acts.{Act, doneBy, refusedBy, conditionsOf}
 
@@ -63,25 +63,16 @@ pub record Demand3 (f : First) (cs : List Call) : Type 0 where
   -- W7: with each call it "is told one thing, whether a call got 11 or 18 of this request"
   pub plan : planOf (tableAfter (firstTable f) cs) ≡ planAfter (firstPlan f) (withTold (firstTable f) cs)
   -- "and so do all refusals, numbers given, freed counts and spoken counts", the steps that a take-back brings back, and the freed counts that a preview
-  -- foresees
-  pub begun : firstRefusal f ≡ planFirstRefusal f
+  -- foresees; what fresh and load are refused by is read on no table
+  pub begun : firstRefusal f ≡ first (firstRow f .conditions)
   pub heard : heardBy (firstTable f) cs ≡ drawnBy (firstPlan f) (withTold (firstTable f) cs)
   -- "stored counters 0 and 1 of each step are the numbers of links to it with bit 0 and with bit 1"
   pub counts : (i b : ℕ) → i < places → b < counters → counterOf (tableAfter (firstTable f) cs) i b ≡ linksTo (tableAfter (firstTable f) cs) i b
 
 -- W7: what the plan is told of a call: that it is a clearing with a slip that got 11, or a take-back that got 18
-abbrev pub Told : Table → Call → Type 0
-Told t (clearSlip i e buffer) = refusalOf (clearSlipCall t i e buffer .answer) ≡ tooShort
-Told t (takeBack bs) = refusalOf (takeBackCall t bs .answer) ≡ slipNotAccepted
-Told t (add holder e kind content cabin) = ⊥
-Told t (link source e second f) = ⊥
-Told t (clear i e) = ⊥
-Told t (read i) = ⊥
-Told t (trial limit results trace) = ⊥
-Told t (write buffer) = ⊥
-Told t (keyLine bs) = ⊥
-Told t (squeeze c quotas) = ⊥
-Told t (preview i e buffer) = ⊥
+pub data Told (t : Table) : Call → Type 0 where
+  got11 : {i e : ℕ} {buffer : List ℕ} → refusalOf (clearSlipCall t i e buffer .answer) ≡ tooShort → Told t (clearSlip i e buffer)
+  got18 : {bs : List ℕ} → refusalOf (takeBackCall t bs .answer) ≡ slipNotAccepted → Told t (takeBack bs)
 
 -- what the plan gets of the calls: each call as it is, and a bool that is true exactly there
 abbrev pub ToldDemand : Table → List Call → List (Bool × Call) → Type 0
