@@ -36,8 +36,8 @@ use Rattle.image.specs.Slip.{clearSlipRefusal, clearSlipCall, takeBackRefusal, 
 use Rattle.image.proofs.Laws as Images
 use Rattle.keyline.specs.Keys.{spokenCounts}
 use Rattle.history.specs.History.{First, Call, withTold, tableAfter, heardBy, planAfter, drawnBy, firstRow, firstRefusal, firstTable, firstPlan}
-use Rattle.history.specs.Acts.{Act}
-use Rattle.history.specs.Demands.{Demand1, Demand3, GuaranteeDemand, ChargesDemand, AddDemand, LinkDemand, ClearDemand, CountDemand, SqueezeDemand, TwiceDemand, WriteDemand, EqualDemand, SortedDemand, OldDemand, ConvertDemand, RefusalDemand, SameTableDemand, ToldDemand, SlipDemand, TakeBackDemand, PreviewDemand, PreviewRefusalDemand}
+use Rattle.history.specs.Acts.{Act, refusedBy}
+use Rattle.history.specs.Demands.{Demand1, Lent, Demand3, GuaranteeDemand, ChargesDemand, AddDemand, LinkDemand, ClearDemand, CountDemand, SqueezeDemand, TwiceDemand, WriteDemand, EqualDemand, SortedDemand, OldDemand, ConvertDemand, RefusalDemand, SameTableDemand, ToldDemand, SlipDemand, TakeBackDemand, PreviewDemand, PreviewRefusalDemand}
 use Rattle.table.specs.Trial.{TrialOutcome, trialRefusal, trialCall, TrialDemand, SameTrial, LongerDemand, underNumbers}
 use Rattle.history.proofs.Demand1 as Refusals
 use Rattle.history.proofs.Demand2
@@ -105,6 +105,10 @@ sound-test = Soundness.sound-test
 -- Demand 1: for every table, call and argument, for fresh and load, and for a conversion of any bytes.
 pub demand-1 : (t : Table) (a : Act) → Demand1 t a
 demand-1 = Refusals.demand-1
+
+-- What such a refusal leaves of lent bytes is what the arguments say was lent.
+pub lent-kept : (t : Table) (a : Act) (l : List ℕ) → Lent a l → (n : ℕ) → refusedBy n t a .lent ≡ l
+lent-kept = Refusals.lent-kept
 
 -- Demand 3: for every list of calls with any arguments, from fresh with any capacity and from load with any bytes, refused or not.
 pub demand-3 : (f : First) (cs : List Call) → Demand3 f cs

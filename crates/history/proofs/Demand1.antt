@@ -31,7 +31,7 @@ use Rattle.keyline.specs.declared.Decoded.the-variants.{Line, Nothing}
 use Rattle.keyline.specs.Keys.{decode, spokenCounts, perform, callConditions, lineConditions, keyConditions, performLine, keyCall}
 use Rattle.history.specs.History.{fresh, load, add, link, clear, read, trial, write, keyLine, squeeze, clearSlip, takeBack, preview, silent, Done, fieldNumbers, triedNumbers, changing, row, firstRow}
 use Rattle.history.specs.Acts.{Act, begin, call, convert, actRow, doneBy, tableKept, refusedBy, conditionsOf}
-use Rattle.history.specs.Demands.{FirstHeld, none, some, Demand1}
+use Rattle.history.specs.Demands.{FirstHeld, none, some, Demand1, Lent, to-trial, to-write, to-clear, to-preview, to-convert}
 
 -- the first condition that holds, for an order with no number 0
 pub first-held : (cs : List (Bool × ℕ)) → nonzero cs ≡ true → FirstHeld cs (first cs)
@@ -191,3 +191,12 @@ demand-1 t (call (takeBack bs)) =
     (unfold takeBackCall takeBackRefusal refusalOf in outcome-demand t t (call (takeBack bs)) _ refl refl refl (λ n. refl))
 demand-1 t (call (preview i e buffer)) = preview-demand t i e buffer
 demand-1 t (convert v bs buffer) = convert-demand t v bs buffer
+
+-- the bytes that a refused act leaves are those lent
+pub lent-kept : (t : Table) (a : Act) (l : List ℕ) → Lent a l → (n : ℕ) → refusedBy n t a .lent ≡ l
+unfolding refusedBy actRow row
+lent-kept t _ _ to-trial n = refl
+lent-kept t _ _ to-write n = refl
+lent-kept t _ _ to-clear n = refl
+lent-kept t _ _ to-preview n = refl
+lent-kept t _ _ to-convert n = refl

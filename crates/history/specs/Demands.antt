@@ -1,6 +1,7 @@
 -- Demands 1 to 3 as statements over the definitions; the crate `claims` restates where each is proved. Assumes nothing.
 --   FirstHeld cs n      n is the number of the first condition that holds, or 0 where none does
 --   Demand1 t a         of a call made on the table t, of fresh or load, or of a conversion
+--   Lent a l            the act a is lent the bytes l, to write into
 --   Demand3 f cs        of the history that begins with f and makes the calls cs
 --   GuaranteeDemand ChargesDemand   of such a history: what a cabin below its guarantee may add, and what the cabins are charged (W5)
 --   AddDemand LinkDemand ClearDemand CountDemand   what an accepted call does on a sound table (demand 2)
@@ -33,9 +34,9 @@ use Rattle.table.specs.Plan.{planOf, planCount, planNumber, planAdd, planLink, 
 use Rattle.keyline.specs.Keys.{keyCabin, keyCall}
 use Rattle.image.specs.Image.{Edition, edition1, words, image, largest, editionIn, written, accepted, loadCall, Bytes, SameRecords, Ascending}
 use Rattle.image.specs.Slip.{recordIn, changed, slip, slipLength, SlipOutcome, clearSlipCall, slipStep, slipExit, slipCount, takeBackCall, planTakenBack}
-use Rattle.history.specs.History.{First, Call, clearSlip, takeBack, preview, run, withTold, tableAfter, heardBy, planAfter, drawnBy, firstRow, firstRefusal, firstTable, firstPlan}
+use Rattle.history.specs.History.{First, Call, trial, write, clearSlip, takeBack, preview, run, withTold, tableAfter, heardBy, planAfter, drawnBy, firstRow, firstRefusal, firstTable, firstPlan}
 use Rattle.history.specs.Accounts.{account, tally}
-use Rattle.history.specs.Acts.{Act, doneBy, refusedBy, conditionsOf}
+use Rattle.history.specs.Acts.{Act, call, convert, doneBy, refusedBy, conditionsOf}
 
 -- the number of a condition that holds, none before it does; or 0, and no condition holds
 pub data FirstHeld : List (Bool × ℕ) → ℕ → Type 0 where
@@ -49,6 +50,14 @@ pub record Demand1 (t : Table) (a : Act) : Type 0 where
   pub listed : FirstHeld (conditionsOf t a) (doneBy t a .refusal)
   -- "a refused call gives back the table it was given and writes no byte of a lent buffer", and all its other numbers are zero
   pub refused : (doneBy t a .refusal ≡ 0 → ⊥) → doneBy t a ≡ refusedBy (doneBy t a .refusal) t a
+
+-- the bytes that an act is lent to write into: they stand among its arguments, and what it leaves there is another matter
+pub data Lent : Act → List ℕ → Type 0 where
+  to-trial : {limit : ℕ} {results bytes : List ℕ} → Lent (call (trial limit results bytes)) bytes
+  to-write : {bytes : List ℕ} → Lent (call (write bytes)) bytes
+  to-clear : {i e : ℕ} {bytes : List ℕ} → Lent (call (clearSlip i e bytes)) bytes
+  to-preview : {i e : ℕ} {bytes : List ℕ} → Lent (call (preview i e bytes)) bytes
+  to-convert : {v : Edition} {bs bytes : List ℕ} → Lent (convert v bs bytes) bytes
 
 -- Demand 3, one statement about the whole history. "After the list"
 pub record Demand3 (f : First) (cs : List Call) : Type 0 where
