@@ -38,7 +38,6 @@ use Rattle.withdraw.proofs.Doubtful.{losing-formed}
 use Rattle.repairing.specs.Repairing.{underRepair, isOne, asMarks, Repairable, Candidates, Settling}
 use Rattle.repairing.proofs.Laws.{marks-at}
 use Rattle.repairing.proofs.Repairs.{wanted-in, candidates-begin}
-use Rattle.edits.proofs.Laws.{accepted}
 use Rattle.clearing.specs.Clearing.{Searched}
 
 -- The marks that the search hands back are the definition's.
@@ -213,10 +212,6 @@ unfolding emptied
 searched {u} {t} {i} {e} {doubt} {wanted} o q d w =
     subst (λ (v : Table). Searched v doubt wanted) (sym q) (record { formed = unfold emptied in losing-formed t i e o; doubts = d; first = w })
 
--- A clearing that goes on can be made.
-losing-accepted : {t : Table} {i e : ℕ} → Losing t i e → clearRefusal t i e ≡ 0
-losing-accepted {t} {i} {e} o = sym (accepted t i e (o .sound) (o .fits .used, o .fits .exit) (o .fits .filled))
-
 -- A preview: the repair can be followed on the table as it is.
 pub settles : {t : Table} {i e n : ℕ} {doubt wanted : List ℕ} → Losing t i e → Searched (emptied t i e) doubt wanted → n ≡ t .capacity →
     Settling t (emptied t i e) n doubt wanted
@@ -238,8 +233,11 @@ module _ {t : Table} {i e n : ℕ} {doubt wanted doubt′ : List ℕ} (f : Fores
   abbrev after : Table
   after = emptied t i e
 
-  z : clearRefusal t i e ≡ 0
-  z = losing-accepted (f .losing)
+  s : Sound t
+  s = f .losing .sound
+
+  g : ClearFits t i e
+  g = f .losing .fits
 
   size-after : n ≡ after .capacity
   size-after = same-size t i e (f .size)
@@ -255,13 +253,13 @@ module _ {t : Table} {i e n : ℕ} {doubt wanted doubt′ : List ℕ} (f : Fores
   unfolding wouldGo
   numbers =
       those-ext n _ (isFreed t (cleared t i e .table))
-      (λ j l. sym (marks-at n doubt′ j l) ∙ ap (λ (d : List Bool). marked d j) left-marks ∙ sym (go-marked t i e z (f .losing .goes) j))
+      (λ j l. sym (marks-at n doubt′ j l) ∙ ap (λ (d : List Bool). marked d j) left-marks ∙ sym (go-marked t i e s g (f .losing .goes) j))
       ∙ ap (λ (m : ℕ). those m (isFreed t (cleared t i e .table))) (f .size)
 
   pub listed-fits : count n (isOne doubt′) ≤ previewRoom
   listed-fits =
-      let l = sym (length-those n (isOne doubt′)) ∙ ap length numbers ∙ go-length t i e z in
-      let fits = go-fits t i e z in
+      let l = sym (length-those n (isOne doubt′)) ∙ ap length numbers ∙ go-length t i e s g in
+      let fits = go-fits t i e s g in
       omega arith
 
   pub foreseen-answer : (doubts freed : ℕ) → doubts ≡ Clear.size (asMarks n doubt) n → freed ≡ Clear.size (asMarks n doubt′) n →
@@ -280,7 +278,7 @@ module _ {t : Table} {i e n : ℕ} {doubt wanted doubt′ : List ℕ} (f : Fores
 pub foreseen-none : (t : Table) (i e : ℕ) → Sound t → ClearFits t i e → stops t i e ≡ true → (buffer : List ℕ) →
     (Given 0 0 ≡ cleared t i e .answer) × (buffer ≡ wouldGo t i e ++ drop (length (wouldGo t i e)) buffer)
 foreseen-none t i e s g h buffer =
-    (rw h, ap (λ (ms : List ℕ). ms ++ drop (length ms) buffer) (sym (go-none t i e (sym (accepted t i e s (g .used, g .exit) (g .filled))) h)))
+    (rw h, ap (λ (ms : List ℕ). ms ++ drop (length ms) buffer) (sym (go-none t i e s g h)))
 
 -- The call that previews: refused as the clearing is, refused for the room, or made.
 module _ (t : Table) (i e : ℕ) (buffer : List ℕ) where

@@ -12,7 +12,7 @@ use lib.ListN.{getD}
 use Rattle.finite.proofs.Bools.{and-intro}
 use Rattle.finite.specs.Below.{all, any, count, total, find, lowest, rounds, tabulateFrom, tabulate, those, same}
 use Rattle.finite.specs.Reach.{grow, reach, reaches}
-use Rattle.table.specs.Table.{exitPlace, counterPlace, inUse, kindOf, contentOf, ownBit, cabinOf, targetOf, linkBit, counterOf, holds, strong, leads, linked, stronglyLinked, countsAt, linksTo, stepsInUse, sameFields, sameTable, withNumbers, withLinks, withSteps}
+use Rattle.table.specs.Table.{entriesOf, exitPlace, exitAt, counterPlace, inUse, kindOf, contentOf, ownBit, cabinOf, targetOf, linkBit, counterOf, holds, strong, leads, linked, stronglyLinked, countsAt, linksTo, stepsInUse, sameFields, sameTable, withNumbers, withLinks, withSteps}
 use Rattle.table.specs.Cabins.{guaranteeOf, limitOf, quotasFit, listFits, soleQuotas, unmet, reserved, atLimit, noneToSpare, withinLimits, chargesFit, charged, charge, freeSteps}
 use Rattle.table.specs.Sound.{capacityFits, contentFits, kindFits, eachUsed, shapeTests, blankTests, ringless, soundTests, sound}
 use Rattle.table.specs.Answer.{first, refusalOf, firstOf, secondOf, unless, endingNumber, triedRefusal, endingOf, lastOf, movesOf}
@@ -33,7 +33,7 @@ use Rattle.examples.proofs.Laws.{run-shown, run-at}
 
 -- a name for the list of definitions below, which each run unfolds
 computes : Bool
-unfolding freedSlip turnedSlip regrets previews those isFreed wouldGo previewRefusal previewCall recordIn changed pairsBelow slip slipLength clearSlipRefusal clearSlipCall slipStep slipExit slipCount fieldsAt present rebuilt clearedAgain retraced takeBackRefusal takeBackCall withRecord sameFields conversions oldHeaderP5 oldStep0P5 oldStep1P5 oldStep2P5 newImageF4 editions shares5 shared lists total cabinOf guaranteeOf limitOf quotasFit listFits soleQuotas unmet reserved atLimit noneToSpare withinLimits chargesFit charged charge freeSteps refusedTable headerAdds stepAdds editionIn quotasBy quotasIn cabinBy cabinIn headerP5 step0P5 step1P5 step2P5 imageP5 twoCandidates squeezes waits messages ends sorted imageTwin firstStrong secondStrong failing tableP1 unsound failAsSaid all any count find lowest rounds tabulateFrom tabulate grow reach reaches exitPlace counterPlace inUse kindOf contentOf ownBit targetOf linkBit counterOf holds strong leads linked stronglyLinked countsAt linksTo stepsInUse withNumbers withLinks withSteps capacityFits contentFits kindFits eachUsed shapeTests blankTests ringless soundTests sound first refusalOf firstOf secondOf unless endingNumber triedRefusal endingOf lastOf movesOf freshTable freshCall lowered raised relink after numberGiven addRefusal withStep addTable addCall linkRefusal weakBit linkTable linkCall fieldsOf noFields readRefusal readCall isContact exitOf resultsAfter noResult atStep tryFrom resultsFit trialRefusal trialCall emptied heldStrongly stops doubtful wanted flipped weakened restored repair repairOf unlinked blanked eachDoubtful release size repaired clearRefusal clearCall newNumber oldNumber moved squeezed squeezeRefusal squeezeCall word wordAt words recordSize recordBytes headerFieldsOf bitsOf stepFieldsOf stepsBelow image imageLength put writeRefusal writeCall hasSoleQuotas sayable convertRefusal convertCall fieldAt recordAt capacityIn lastIn countIn stepPlace numberIn kindIn contentIn bitsIn targetIn bitIn recordOf hasRecord recordField counted imageTable framed accepted loadCall isDigit isLine decimal decode spokenCounts perform performLine keyCall firstRow firstTable fieldNumbers triedNumbers row actRow doneBy takeOne taken takenBy strength seen tableKept refusedBy same sameTable doneTests factsHold passed walk tableF4 p1ToP7 p8 p9 imageF4 p10 digits line beginnings noAlarm notSoundReasons reasons
+unfolding freedSlip turnedSlip regrets previews those isFreed wouldGo previewRefusal previewCall recordIn changed pairsBelow slip slipLength clearSlipRefusal clearSlipCall slipStep slipExit slipCount fieldsAt present rebuilt clearedAgain retraced takeBackRefusal takeBackCall withRecord sameFields conversions oldHeaderP5 oldStep0P5 oldStep1P5 oldStep2P5 newImageF4 editions shares5 shared lists total cabinOf guaranteeOf limitOf quotasFit listFits soleQuotas unmet reserved atLimit noneToSpare withinLimits chargesFit charged charge freeSteps refusedTable headerAdds stepAdds editionIn quotasBy quotasIn cabinBy cabinIn headerP5 step0P5 step1P5 step2P5 imageP5 twoCandidates squeezes waits messages ends sorted imageTwin firstStrong secondStrong failing tableP1 unsound failAsSaid all any count find lowest rounds tabulateFrom tabulate grow reach reaches entriesOf exitPlace exitAt counterPlace inUse kindOf contentOf ownBit targetOf linkBit counterOf holds strong leads linked stronglyLinked countsAt linksTo stepsInUse withNumbers withLinks withSteps capacityFits contentFits kindFits eachUsed shapeTests blankTests ringless soundTests sound first refusalOf firstOf secondOf unless endingNumber triedRefusal endingOf lastOf movesOf freshTable freshCall lowered raised relink after numberGiven addRefusal withStep addTable addCall linkRefusal weakBit linkTable linkCall fieldsOf noFields readRefusal readCall isContact exitOf resultsAfter noResult atStep tryFrom resultsFit trialRefusal trialCall emptied heldStrongly stops doubtful wanted flipped weakened restored repair repairOf unlinked blanked eachDoubtful release size repaired clearRefusal clearCall newNumber oldNumber moved squeezed squeezeRefusal squeezeCall word wordAt words recordSize recordBytes headerFieldsOf bitsOf stepFieldsOf stepsBelow image imageLength put writeRefusal writeCall hasSoleQuotas sayable convertRefusal convertCall fieldAt recordAt capacityIn lastIn countIn stepPlace numberIn kindIn contentIn bitsIn targetIn bitIn recordOf hasRecord recordField counted imageTable framed accepted loadCall isDigit isLine decimal decode spokenCounts perform performLine keyCall firstRow firstTable fieldNumbers triedNumbers row actRow doneBy takeOne taken takenBy strength seen tableKept refusedBy same sameTable doneTests factsHold passed walk tableF4 p1ToP7 p8 p9 imageF4 p10 digits line beginnings noAlarm notSoundReasons reasons
 computes = true
 
 -- one declaration for each run, since antt bounds the steps of one

@@ -47,12 +47,12 @@ module _ (t : Table) (i e : ℕ) (buffer : List ℕ) (z : previewRefusal t i e (
   out = numbers ++ drop (length numbers) buffer
 
   long : length numbers ≡ n
-  long = go-length t i e c
+  long = go-length t i e s (clear-fits t i e c)
 
   entry : (m : ℕ) → m < n → (x : Selected (t .capacity) (isFreed t v) m) × (getD out m 0 ≡ x .number)
   unfolding wouldGo
   entry m l =
-      let x = those-entry (t .capacity) (isFreed t v) m (rw (freed-counted t i e c) l) in
+      let x = those-entry (t .capacity) (isFreed t v) m (rw (freed-counted t i e s (clear-fits t i e c)) l) in
       (x .0, List·getD-append numbers _ 0 m (rw long l) ∙ x .1)
 
   -- the numbers are those of the steps freed
@@ -63,7 +63,7 @@ module _ (t : Table) (i e : ℕ) (buffer : List ℕ) (z : previewRefusal t i e (
     λ y.
         let low = formed-below (sound-formed s) k (unfold isFreed in and-left (inUse t k) _ y) in
         let rank = count-rises (isFreed t v) k (t .capacity) low y in
-        let m : count k (isFreed t v) < n = rw (sym (freed-counted t i e c)) rank in
+        let m : count k (isFreed t v) < n = rw (sym (freed-counted t i e s (clear-fits t i e c))) rank in
         (count k (isFreed t v), m, List·getD-append numbers _ 0 _ (rw long m) ∙ those-at (t .capacity) (isFreed t v) k low y),
   )
 
@@ -110,7 +110,7 @@ module _ (t : Table) (i e : ℕ) (buffer : List ℕ) (z : previewRefusal t i e (
         size =
             length-append numbers (drop (length numbers) buffer)
             ∙ (let d = length-drop (length numbers) buffer in
-            let fits = go-fits t i e c in
+            let fits = go-fits t i e s (clear-fits t i e c) in
             let room = preview-accepted t i e buffer z .1 in
             let l = long in
             omega arith);

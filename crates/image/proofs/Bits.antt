@@ -7,7 +7,8 @@ use native.Mathlib.Omega.{arith}
 use lib.Dec.{ltb}
 use borrow.Author.Tests.{ltb-true, ltb-false}
 use Rattle.finite.proofs.Bools.{test}
-use Rattle.table.specs.Table.{Table, exits, ownBit, linkBit}
+use Rattle.table.specs.Table.{Table, exits, exitsOf, ownBit, linkBit}
+use Rattle.table.proofs.Places.{own-exit}
 
 abbrev pub fiveBits : (ℕ → ℕ) → ℕ
 fiveBits d = d 0 + 2 * d 1 + 4 * d 2 + 8 * d 3 + 16 * d 4
@@ -42,6 +43,6 @@ bits-sum n h =
 abbrev pub bitAt : Table → ℕ → ℕ → ℕ
 bitAt t i e = cond (ltb e exits) (linkBit t i e) (ownBit t i)
 
-pub bit-cases : (P : ℕ → Type 0) (t : Table) (i e : ℕ) → (e < exits → P (linkBit t i e)) → (exits ≤ e → P (ownBit t i)) → P (bitAt t i e)
+pub bit-cases : (P : ℕ → Type 0) (t : Table) (i e : ℕ) → (e < exitsOf i → P (linkBit t i e)) → (exits ≤ e → P (ownBit t i)) → P (bitAt t i e)
 bit-cases P t i e f g =
-    ⊎-elim (λ x. rw x (f (ltb-true e exits x))) (λ x. rw x (g (ltb-false e exits x))) (test (ltb e exits))
+    ⊎-elim (λ x. rw x (f (own-exit i e (ltb-true e exits x)))) (λ x. rw x (g (ltb-false e exits x))) (test (ltb e exits))

@@ -1,4 +1,5 @@
 -- The laws of the image, for every layer above; Laws states those that are claimed.
+pub mod Exits
 pub mod Words
 pub mod Bits
 pub mod Written

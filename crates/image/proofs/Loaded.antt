@@ -7,7 +7,7 @@ use mathlib.Core.Bool.{Bool, true, false, _&&_, not, cond}
 use mathlib.Core.Logic.{⊎-elim}
 use mathlib.Core.List.{List}
 use mathlib.Core.Option.{Option, none, some}
-use Prim.Native.Nat.{ℕ, _*_, _/_, _%_, _≤_, _<_}
+use Prim.Native.Nat.{ℕ, _≤_, _<_}
 use native.Mathlib.Omega.{arith}
 use lib.ListN.{length, getD}
 use lib.Dec.{eqb, leb, ltb}
@@ -16,12 +16,13 @@ use Rattle.finite.specs.Below.{all, one, tabulate}
 use Rattle.finite.proofs.Bools.{and-intro, and-left, and-right, not-true-false, test}
 use Rattle.finite.proofs.Below.{all-at, all-intro, lowest-passes, getD-tabulate, tabulate-ext}
 use Rattle.finite.proofs.Select.{isValue, lowest-any}
-use Rattle.finite.proofs.Packed.{tabulate-blocks}
-use Rattle.table.specs.Table.{places, exits, exitPlace, inUse, kindOf, contentOf, ownBit, cabinOf, targetOf, linkBit, withLinks}
+use Rattle.table.specs.Table.{places, exits, exitPlace, exitsOf, exitPlaces, holderAt, exitAt, inUse, kindOf, contentOf, ownBit, cabinOf, targetOf, linkBit, withLinks}
 use Rattle.table.specs.Sound.{Sound, sound}
 use Rattle.table.specs.Plan.{PlanStep, planStep, planOf}
+use Rattle.table.proofs.Places.{tabulate-exits}
 use Rattle.table.proofs.Sound.{test-sound}
 use Rattle.image.specs.Image.{headerKindOf, headerFieldCount, stepKindOf, stepFieldCount, recordAt, editionIn, capacityIn, lastIn, countIn, quotasIn, stepPlace, numberIn, kindIn, contentIn, bitsIn, targetIn, cabinIn, bitIn, recordOf, hasRecord, recordField, counted, imageTable, framed, accepted, imagePlan}
+use Rattle.image.proofs.Exits.{exits-four}
 
 -- the clauses of `accepted`, in its order
 pub record Accepted (bs : List ℕ) : Type 0 where
@@ -101,17 +102,16 @@ module _ (bs : List ℕ) where
   table-cabin i h = getD-tabulate places (λ i. recordField bs i (cabinIn bs)) 0 i h
 
   -- a field of each exit, tabulated over all exits
-  exit-field : (field : ℕ → ℕ → ℕ) (i e : ℕ) → i < places → e < exits →
-      getD (tabulate (places * exits) (λ p. recordField bs (p / exits) (λ k. field k (p % exits)))) (exitPlace i e) 0
+  exit-field : (field : ℕ → ℕ → ℕ) (i e : ℕ) → i < places → e < exitsOf i →
+      getD (tabulate (exitPlaces places) (λ p. recordField bs (holderAt p) (λ k. field k (exitAt p)))) (exitPlace i e) 0
       ≡ recordField bs i (λ k. field k e)
-  unfolding exitPlace
-  exit-field field i e h l = tabulate-blocks places exits (λ i e. recordField bs i (λ k. field k e)) i e h l
+  exit-field field i e h l = tabulate-exits places (λ i e. recordField bs i (λ k. field k e)) i e h l
 
-  pub table-target : (i e : ℕ) → i < places → e < exits → targetOf (imageTable bs) i e ≡ recordField bs i (λ k. targetIn bs k e)
+  pub table-target : (i e : ℕ) → i < places → e < exitsOf i → targetOf (imageTable bs) i e ≡ recordField bs i (λ k. targetIn bs k e)
   unfolding targetOf imageTable counted withLinks
   table-target i e h l = exit-field (targetIn bs) i e h l
 
-  pub table-bit : (i e : ℕ) → i < places → e < exits → linkBit (imageTable bs) i e ≡ recordField bs i (λ k. bitIn bs k e)
+  pub table-bit : (i e : ℕ) → i < places → e < exitsOf i → linkBit (imageTable bs) i e ≡ recordField bs i (λ k. bitIn bs k e)
   unfolding linkBit imageTable counted withLinks
   table-bit i e h l = exit-field (bitIn bs) i e h l
 
@@ -170,8 +170,10 @@ module _ (bs : List ℕ) where
   unfolding planStep
   drawn-step i h = ⊎-elim used free (test (hasRecord bs i))
     where
-      targets : hasRecord bs i ≡ true → tabulate exits (targetOf (imageTable bs) i) ≡ tabulate exits (targetIn bs (recordOf bs i))
-      targets t = tabulate-ext exits _ _ (λ e l. table-target i e h l ∙ said-record i (λ k. targetIn bs k e) t)
+      targets : hasRecord bs i ≡ true → tabulate (exitsOf i) (targetOf (imageTable bs) i) ≡ tabulate exits (targetIn bs (recordOf bs i))
+      targets t =
+          tabulate-ext (exitsOf i) _ _ (λ e l. table-target i e h l ∙ said-record i (λ k. targetIn bs k e) t)
+          ∙ ap (λ (n : ℕ). tabulate n (targetIn bs (recordOf bs i))) (exits-four i)
 
       used : hasRecord bs i ≡ true → planStep (imageTable bs) i ≡ drawnStep bs i
       used t =

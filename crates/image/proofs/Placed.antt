@@ -7,10 +7,10 @@
 --   gathered-equal     tables that are the same at every step are one table, once their counters are worked out
 use mathlib.Core.Path.{_≡_, refl, sym, _∙_, ap}
 use mathlib.Core.Bool.{true, _&&_, cond}
-use mathlib.Core.Logic.{_⊎_, inl, inr, ⊎-elim}
+use mathlib.Core.Logic.{_⊎_, ⊎-elim}
 use mathlib.Core.List.{List, [], _∷_}
 use mathlib.Core.Option.{Option, some}
-use Prim.Native.Nat.{ℕ, zero, suc, _+_, _*_, _/_, _%_, _^_, _≤_, _<_}
+use Prim.Native.Nat.{ℕ, zero, suc, _/_, _%_, _^_, _≤_, _<_}
 use native.Mathlib.Omega.{arith}
 use lib.ListN.{length, getD, set, replicate, length-set}
 use lib.Seq.{length-sets, ext-getD, getD-set-same, getD-set-other, set-out}
@@ -20,12 +20,13 @@ use Rattle.finite.specs.Below.{tabulate, tabulateFrom}
 use Rattle.finite.proofs.Bools.{clash, test}
 use Rattle.finite.proofs.Below.{le-or-lt, length-tabulate, tabulate-ext, tabulate-set}
 use Rattle.finite.proofs.Stores.{sets-outside, sets-inside, four-at}
-use Rattle.table.specs.Table.{Table, places, exits, exitPlace, inUse, kindOf, contentOf, ownBit, cabinOf, targetOf, linkBit, withLinks, withSteps}
+use Rattle.table.specs.Table.{Table, places, exits, exitPlace, exitsOf, exitPlaces, holderAt, exitAt, inUse, kindOf, contentOf, ownBit, cabinOf, targetOf, linkBit, withLinks, withSteps}
 use Rattle.table.specs.Sound.{Shape, Blank, Sound, contentFits, kindFits}
 use Rattle.table.specs.Plan.{PlanStep, planStep, planOf, replan}
-use Rattle.table.proofs.Relink.{exit-place-split}
+use Rattle.table.proofs.Places.{place-own, exit-place-apart, exit-at-below, exit-place-split}
 use Rattle.image.specs.Image.{edition2, stepKindOf, words, recordSize, recordBytes, bitsOf, stepAdds, stepFieldsOf, withRecord, counted}
 use Rattle.image.specs.Slip.{recordIn, planRecord}
+use Rattle.image.proofs.Exits.{exits-four, exit-four}
 use Rattle.image.proofs.Bits.{bits-read, bitAt}
 use Rattle.image.proofs.RoundTrip.{bit-small, bit-blank, used-one, counts-entries}
 
@@ -35,8 +36,8 @@ pub record SameStep (w x : Table) (j : ℕ) : Type 0 where
   pub content : contentOf w j ≡ contentOf x j
   pub own : ownBit w j ≡ ownBit x j
   pub cabin : cabinOf w j ≡ cabinOf x j
-  pub target : (e : ℕ) → e < exits → targetOf w j e ≡ targetOf x j e
-  pub bit : (e : ℕ) → e < exits → linkBit w j e ≡ linkBit x j e
+  pub target : (e : ℕ) → e < exitsOf j → targetOf w j e ≡ targetOf x j e
+  pub bit : (e : ℕ) → e < exitsOf j → linkBit w j e ≡ linkBit x j e
 
 pub step-refl : (w : Table) (j : ℕ) → SameStep w w j
 step-refl w j = record { used = refl; kind = refl; content = refl; own = refl; cabin = refl; target = λ e l. refl; bit = λ e l. refl }
@@ -106,20 +107,12 @@ module _ (w : Table) (fields : List ℕ) where
         kinds = length-set (w .kinds) i (getD fields 1 0) ∙ s .kinds;
         contents = length-set (w .contents) i (getD fields 2 0) ∙ s .contents;
         own = length-set (w .own) i (sum / 16 % 2) ∙ s .own;
-        targets = length-sets (w .targets) (i * exits) heads ∙ s .targets;
-        bits = length-sets (w .bits) (i * exits) bitsOut ∙ s .bits;
+        targets = length-sets (w .targets) (exitPlaces i) heads ∙ s .targets;
+        bits = length-sets (w .bits) (exitPlaces i) bitsOut ∙ s .bits;
         counts = s .counts;
         cabins = length-set (w .cabins) i (getD fields 8 0) ∙ s .cabins;
         quotas = s .quotas;
       }
-
-  -- a run of stores for another step is not met
-  apart : (j e : ℕ) → (j ≡ i → ⊥) → e < exits → (exitPlace j e < i * exits) ⊎ (i * exits + 4 ≤ exitPlace j e)
-  unfolding exitPlace
-  apart j e d l = ⊎-elim (λ (h : j < i). inl (omega arith)) (λ (h : i ≤ j). inr (let n : ¬ (j ≡ i) = d in omega arith)) (order j i)
-    where
-      order : (j i : ℕ) → (j < i) ⊎ (i ≤ j)
-      order j i = ⊎-elim (λ h. inr h) (λ h. inl h) (le-or-lt i j)
 
   pub record-other : (j : ℕ) → (j ≡ i → ⊥) → SameStep (withRecord w fields) w j
   unfolding withRecord withLinks withSteps kindOf contentOf ownBit cabinOf targetOf linkBit
@@ -130,8 +123,8 @@ module _ (w : Table) (fields : List ℕ) where
         content = getD-set-other (w .contents) i j (getD fields 2 0) 0 d;
         own = getD-set-other (w .own) i j (sum / 16 % 2) 0 d;
         cabin = getD-set-other (w .cabins) i j (getD fields 8 0) 0 d;
-        target = λ e l. sets-outside heads (w .targets) (i * exits) (exitPlace j e) (apart j e d l);
-        bit = λ e l. sets-outside bitsOut (w .bits) (i * exits) (exitPlace j e) (apart j e d l);
+        target = λ e l. sets-outside heads (w .targets) (exitPlaces i) (exitPlace j e) (exit-place-apart i j e d l);
+        bit = λ e l. sets-outside bitsOut (w .bits) (exitPlaces i) (exitPlace j e) (exit-place-apart i j e d l);
       }
 
   -- what the step itself has
@@ -157,19 +150,22 @@ module _ (w : Table) (fields : List ℕ) where
     there-cabin = getD-set-same (w .cabins) i (getD fields 8 0) 0 (rw (s .cabins) l)
 
     pub there-target : (e : ℕ) → e < exits → targetOf (withRecord w fields) i e ≡ getD heads e 0
-    unfolding withRecord withLinks withSteps targetOf exitPlace
-    there-target e h = sets-inside heads (w .targets) (i * exits) e h (let z = s .targets in omega arith)
+    unfolding withRecord withLinks withSteps targetOf
+    there-target e h = rw (place-own i e h) (sets-inside heads (w .targets) (exitPlaces i) e h (let z = s .targets in omega arith))
 
     pub there-bit : (e : ℕ) → e < exits → linkBit (withRecord w fields) i e ≡ getD bitsOut e 0
-    unfolding withRecord withLinks withSteps linkBit exitPlace
-    there-bit e h = sets-inside bitsOut (w .bits) (i * exits) e h (let z = s .bits in omega arith)
+    unfolding withRecord withLinks withSteps linkBit
+    there-bit e h = rw (place-own i e h) (sets-inside bitsOut (w .bits) (exitPlaces i) e h (let z = s .bits in omega arith))
+
+    there-targets : tabulate exits (targetOf (withRecord w fields) i) ≡ heads
+    unfolding tabulate tabulateFrom
+    there-targets = rw (there-target 0 (omega arith), there-target 1 (omega arith), there-target 2 (omega arith), there-target 3 (omega arith))
 
     there-step : planStep (withRecord w fields) i ≡
         some (record { kind = getD fields 1 0; content = getD fields 2 0; targets = heads; cabin = getD fields 8 0 })
-    unfolding planStep inUse tabulate tabulateFrom
+    unfolding planStep inUse
     there-step =
-        rw
-        (eq-eqb (getD (withRecord w fields .used) i 0) 1 there-used, there-kind, there-content, there-cabin, there-target 0 (omega arith), there-target 1 (omega arith), there-target 2 (omega arith), there-target 3 (omega arith))
+        rw (eq-eqb (getD (withRecord w fields .used) i 0) 1 there-used, there-kind, there-content, there-cabin, exits-four i, there-targets)
 
 -- what a plan has of a record
 abbrev drawn : List ℕ → Option PlanStep
@@ -184,10 +180,8 @@ drawn fields =
 
 -- the plan's entry goes by the step
 step-plan : {w x : Table} {j : ℕ} → SameStep w x j → planStep w j ≡ planStep x j
-unfolding planStep inUse tabulate tabulateFrom
-step-plan a =
-    rw
-    (a .used, a .kind, a .content, a .cabin, a .target 0 (omega arith), a .target 1 (omega arith), a .target 2 (omega arith), a .target 3 (omega arith))
+unfolding planStep inUse
+step-plan {w} {x} {j} a = rw (a .used, a .kind, a .content, a .cabin, tabulate-ext (exitsOf j) (targetOf w j) (targetOf x j) (a .target))
 
 -- "puts the .. records, without bits, into the plain plan"
 pub record-plan : (w : Table) (fields : List ℕ) → Shape w → w .capacity ≤ places → planOf (withRecord w fields) ≡ planRecord (planOf w) fields
@@ -243,8 +237,8 @@ module _ (t : Table) (s : Sound t) where
         content = there-content w (stepFieldsOf edition2 t j) h l;
         own = there-own w (stepFieldsOf edition2 t j) h l ∙ bits-back j l 4 (omega arith);
         cabin = there-cabin w (stepFieldsOf edition2 t j) h l;
-        target = λ e x. there-target w (stepFieldsOf edition2 t j) h l e x ∙ four-at (targetOf t j) e x;
-        bit = λ e x. there-bit w (stepFieldsOf edition2 t j) h l e x ∙ bits j l e x;
+        target = λ e x. let y = exit-four j e x in there-target w (stepFieldsOf edition2 t j) h l e y ∙ four-at (targetOf t j) e y;
+        bit = λ e x. let y = exit-four j e x in there-bit w (stepFieldsOf edition2 t j) h l e y ∙ bits j l e y;
       }
     where
       bits : (j : ℕ) → j < places → (e : ℕ) → e < exits →
@@ -285,8 +279,8 @@ module _ (t u : Table) (s : Sound t) (r : Sound u) where
         content = at 2;
         own = bits 4 (omega arith);
         cabin = at 8;
-        target = λ e h. sym (four-at (targetOf t j) e h) ∙ ap (λ (fs : List ℕ). getD (getD fs 4 0 ∷ getD fs 5 0 ∷ getD fs 6 0 ∷ getD fs 7 0 ∷ []) e 0) q ∙ four-at (targetOf u j) e h;
-        bit = λ e h. let x = lt-ltb e exits h in sym (rw x) ∙ bits e (omega arith) ∙ rw x;
+        target = λ e x. let h = exit-four j e x in sym (four-at (targetOf t j) e h) ∙ ap (λ (fs : List ℕ). getD (getD fs 4 0 ∷ getD fs 5 0 ∷ getD fs 6 0 ∷ getD fs 7 0 ∷ []) e 0) q ∙ four-at (targetOf u j) e h;
+        bit = λ e y. let h = exit-four j e y in let x = lt-ltb e exits h in sym (rw x) ∙ bits e (omega arith) ∙ rw x;
       }
 
 -- a table that is the same as a sound one at every step is that table, once its counters are worked out
@@ -304,12 +298,12 @@ gathered-equal w t s g =
     let z = s .shape in
     let places-of : (a b : List ℕ) → length a ≡ places → length b ≡ places → ((j : ℕ) → j < places → getD a j 0 ≡ getD b j 0) → a ≡ b =
     λ a b x y f. ext-getD 0 a b (x ∙ sym y) (λ j l. f j (omega arith)) in
-    let exits-of : (a b : List ℕ) → length a ≡ places * exits → length b ≡ places * exits →
-    ((j e : ℕ) → j < places → e < exits → getD a (exitPlace j e) 0 ≡ getD b (exitPlace j e) 0) → a ≡ b =
+    let exits-of : (a b : List ℕ) → length a ≡ exitPlaces places → length b ≡ exitPlaces places →
+    ((j e : ℕ) → j < places → e < exitsOf j → getD a (exitPlace j e) 0 ≡ getD b (exitPlace j e) 0) → a ≡ b =
     λ a b x y f.
     ext-getD 0 a b (x ∙ sym y)
     (λ p l.
-    ap (λ (q : ℕ). getD a q 0) (sym (exit-place-split p)) ∙ f (p / exits) (p % exits) (omega arith) (omega arith) ∙ ap (λ (q : ℕ). getD b q 0) (exit-place-split p)) in
+    ap (λ (q : ℕ). getD a q 0) (sym (exit-place-split p)) ∙ f (holderAt p) (exitAt p) (omega arith) (exit-at-below p) ∙ ap (λ (q : ℕ). getD b q 0) (exit-place-split p)) in
     let targets = exits-of (w .targets) (t .targets) (h .targets) (z .targets) (λ j e l x. unfold targetOf in g .steps j l .target e x) in
     let bits = exits-of (w .bits) (t .bits) (h .bits) (z .bits) (λ j e l x. unfold linkBit in g .steps j l .bit e x) in
     let used = places-of (w .used) (t .used) (h .used) (z .used) (λ j l. g .steps j l .used) in

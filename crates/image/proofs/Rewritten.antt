@@ -14,7 +14,7 @@ use Rattle.finite.proofs.Bools.{and-left, and-right}
 use Rattle.finite.specs.Below.{count, tabulate, tabulateFrom}
 use Rattle.finite.proofs.Below.{any-intro, count-ext, getD-tabulate, eq-or-ne, le-or-lt}
 use Rattle.finite.proofs.Select.{isValue, count-values}
-use Rattle.table.specs.Table.{Table, places, exits, quotaNumbers, inUse, cabinOf, targetOf, stepsInUse, withLinks}
+use Rattle.table.specs.Table.{Table, places, exits, exitsOf, quotaNumbers, inUse, cabinOf, targetOf, stepsInUse, withLinks}
 use Rattle.table.proofs.Links.{sound-wired, used-below}
 use Rattle.image.specs.Image.{Edition, edition1, edition2, headerKindOf, headerFieldCount, stepKindOf, stepFieldCount, bitsOf, stepAdds, stepFieldsOf, image, imageSize, fieldAt, editionIn, capacityIn, lastIn, countIn, quotasBy, quotasIn, stepPlace, numberIn, kindIn, contentIn, bitsIn, targetIn, cabinBy, cabinIn, bitIn, recordOf, hasRecord, recordField, counted, imageTable, accepted, Bytes, SameBytes, SameRecord, SameRecords, recordSize, recordBytes, recordAt, word, wordAt, words, headerFieldsOf, stepsBelow}
 use Rattle.image.proofs.Words.{length-record}
@@ -168,7 +168,7 @@ module _ (bs : List ℕ) (by : Bytes bs) (a : accepted bs ≡ true) where
   bits-again k h =
       bits-ext (bitAt (imageTable bs) (numberIn bs k)) (bitIn bs k) (bit-again k h) ∙ bits-sum (bitsIn bs k) (test-accepted bs a .bits k h)
 
-  target-again : (k : ℕ) → k < countIn bs → (e : ℕ) → e < exits → targetOf (imageTable bs) (numberIn bs k) e ≡ targetIn bs k e
+  target-again : (k : ℕ) → k < countIn bs → (e : ℕ) → e < exitsOf (numberIn bs k) → targetOf (imageTable bs) (numberIn bs k) e ≡ targetIn bs k e
   target-again k h e l = table-target bs (numberIn bs k) e (number-below k h) l ∙ said-number k h (λ j. targetIn bs j e)
 
   -- the cabin, which is in edition 2 alone; the fields that are in both editions; all fields of the image's own

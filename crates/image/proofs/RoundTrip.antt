@@ -18,16 +18,17 @@ use Rattle.finite.proofs.Bools.{test, same-test}
 use Rattle.finite.proofs.Below.{count-pos}
 use Rattle.finite.proofs.Select.{lowest-only, tabulate-entries}
 use Rattle.table.specs.declared.Answer.the-variants.{Given}
-use Rattle.table.specs.Table.{Table, places, exits, counters, quotaNumbers, exitPlace, counterPlace, inUse, kindOf, contentOf, ownBit, cabinOf, targetOf, linkBit, counterOf, countsAt, linksTo, withLinks}
+use Rattle.table.specs.Table.{Table, places, exits, exitsOf, exitPlaces, holderAt, exitAt, counters, quotaNumbers, exitPlace, counterPlace, inUse, kindOf, contentOf, ownBit, cabinOf, targetOf, linkBit, counterOf, countsAt, linksTo, withLinks}
 use Rattle.table.specs.Cabins.{limitOf, soleQuotas, charged, charge}
 use Rattle.table.specs.Sound.{Blank, Sound, sound}
 use Rattle.table.specs.Answer.{first, unless}
+use Rattle.table.proofs.Places.{exit-at-below, exit-place-split}
 use Rattle.table.proofs.Links.{sound-wired, used-below}
-use Rattle.table.proofs.Relink.{exit-place-split}
 use Rattle.table.proofs.Formed.{sound-formed}
 use Rattle.table.proofs.Cabins.{used-charged}
 use Rattle.table.proofs.Edits.{getD-zeros}
 use Rattle.image.specs.Image.{Edition, edition1, edition2, bitsOf, stepAdds, stepFieldsOf, image, editionIn, countIn, quotasBy, quotasIn, numberIn, kindIn, contentIn, bitsIn, targetIn, cabinBy, cabinIn, bitIn, recordOf, hasRecord, recordField, counted, imageTable, accepted, loadCall}
+use Rattle.image.proofs.Exits.{exit-four}
 use Rattle.image.proofs.Bits.{fiveBits, bits-read, bits-most, bitAt, bit-cases}
 use Rattle.image.proofs.Written.{old-fields, image-header, image-edition, image-capacity, image-last, image-quota, image-size, image-field, image-records, image-number, image-index, index-number, image-distinct, index-below}
 use Rattle.image.proofs.Loaded.{record-below, record-number, said-record, said-none, table-used, table-cabin, accepted-test, accepted-table}
@@ -79,7 +80,7 @@ counter-place q = omega arith
 links-same : (t u : Table) → t .capacity ≡ u .capacity → t .targets ≡ u .targets → t .bits ≡ u .bits → (j b : ℕ) → linksTo t j b ≡ linksTo u j b
 unfolding linksTo countsAt
 links-same t u c g h j b =
-    λ k. count (c k * exits) (λ p. not (eqb j 0) && eqb (getD (g k) p 0) j && eqb (getD (h k) p 0) b)
+    λ k. count (exitPlaces (c k)) (λ p. not (eqb j 0) && eqb (getD (g k) p 0) j && eqb (getD (h k) p 0) b)
 
 -- the cabin of a step in use, and the quotas, as an edition says them
 cabin-record : (v : Edition) (t : Table) → Says v t → (i : ℕ) → i < t .capacity → inUse t i ≡ true →
@@ -120,10 +121,11 @@ module _ (v : Edition) (t : Table) (s : Sound t) where
   unfolding contentIn stepFieldsOf
   content-image i h = said-image i h _ _ (λ u. image-field v t i (below i u) u 2 (omega (arith, old-fields v))) (λ b. b .content)
 
-  target-image : (i e : ℕ) → i < places → e < exits → recordField (image v t) i (λ k. targetIn (image v t) k e) ≡ targetOf t i e
+  target-image : (i e : ℕ) → i < places → e < exitsOf i → recordField (image v t) i (λ k. targetIn (image v t) k e) ≡ targetOf t i e
   unfolding targetIn
   target-image i e h l =
-      said-image i h _ _ (λ u. image-field v t i (below i u) u (4 + e) (omega (arith, old-fields v)) ∙ record-target v t i e l) (λ b. b .targets e l)
+      let x = exit-four i e l in
+      said-image i h _ _ (λ u. image-field v t i (below i u) u (4 + e) (omega (arith, old-fields v)) ∙ record-target v t i e x) (λ b. b .targets e l)
 
   pub bit-small : (i : ℕ) → inUse t i ≡ true → (e : ℕ) → e < 5 → bitAt t i e < 2
   bit-small i u e h = bit-cases (λ n. n < 2) t i e (s .bits i e u) (λ l. s .own i u)
@@ -183,22 +185,22 @@ module _ (v : Edition) (t : Table) (s : Sound t) where
   quotas-entries p = ap (λ x. quotasBy x (image v t)) (image-edition v t) ∙ quotas-said v t p (s .shape .quotas)
 
   -- one field of each exit
-  exit-entries : (field : ℕ → ℕ → ℕ) (l : List ℕ) → length l ≡ places * exits →
-      ((i e : ℕ) → i < places → e < exits → recordField (image v t) i (λ k. field k e) ≡ getD l (exitPlace i e) 0) →
-      tabulate (places * exits) (λ p. recordField (image v t) (p / exits) (λ k. field k (p % exits))) ≡ l
+  exit-entries : (field : ℕ → ℕ → ℕ) (l : List ℕ) → length l ≡ exitPlaces places →
+      ((i e : ℕ) → i < places → e < exitsOf i → recordField (image v t) i (λ k. field k e) ≡ getD l (exitPlace i e) 0) →
+      tabulate (exitPlaces places) (λ p. recordField (image v t) (holderAt p) (λ k. field k (exitAt p))) ≡ l
   exit-entries field l n h =
-      tabulate-entries (places * exits) _ l 0 n
-      (λ p b. h (p / exits) (p % exits) (omega arith) (omega arith) ∙ ap (λ q. getD l q 0) (exit-place-split p))
+      tabulate-entries (exitPlaces places) _ l 0 n
+      (λ p b. h (holderAt p) (exitAt p) (omega arith) (exit-at-below p) ∙ ap (λ q. getD l q 0) (exit-place-split p))
 
-  targets-entries : tabulate (places * exits) (λ p. recordField (image v t) (p / exits) (λ k. targetIn (image v t) k (p % exits))) ≡ t .targets
+  targets-entries : tabulate (exitPlaces places) (λ p. recordField (image v t) (holderAt p) (λ k. targetIn (image v t) k (exitAt p))) ≡ t .targets
   unfolding targetOf
   targets-entries = exit-entries (targetIn (image v t)) (t .targets) (s .shape .targets) target-image
 
-  bits-entries : tabulate (places * exits) (λ p. recordField (image v t) (p / exits) (λ k. bitIn (image v t) k (p % exits))) ≡ t .bits
+  bits-entries : tabulate (exitPlaces places) (λ p. recordField (image v t) (holderAt p) (λ k. bitIn (image v t) k (exitAt p))) ≡ t .bits
   unfolding linkBit
   bits-entries =
       exit-entries (bitIn (image v t)) (t .bits) (s .shape .bits)
-      (λ i e h l. let x = lt-ltb e exits l in bit-image i e h (omega arith) ∙ rw x)
+      (λ i e h l. let b = exit-four i e l in let x = lt-ltb e exits b in bit-image i e h (omega arith) ∙ rw x)
 
   pub counts-entries : (u : Table) → u .capacity ≡ t .capacity → u .targets ≡ t .targets → u .bits ≡ t .bits →
       tabulate (places * counters) (λ q. linksTo u (q / counters) (q % counters)) ≡ t .counts

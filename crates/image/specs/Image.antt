@@ -30,7 +30,7 @@ use lib.Dec.{eqb, leb, ltb}
 use Rattle.finite.specs.Below.{all, one, lowest, tabulate, passes}
 use Rattle.table.specs.declared.Answer.{Answer}
 use Rattle.table.specs.declared.Answer.the-variants.{Refused, Given}
-use Rattle.table.specs.Table.{Table, places, exits, counters, quotaNumbers, inUse, kindOf, contentOf, ownBit, cabinOf, targetOf, linkBit, linksTo, stepsInUse, withLinks, withSteps}
+use Rattle.table.specs.Table.{Table, places, exits, exitPlaces, holderAt, exitAt, counters, quotaNumbers, inUse, kindOf, contentOf, ownBit, cabinOf, targetOf, linkBit, linksTo, stepsInUse, withLinks, withSteps}
 use Rattle.table.specs.Cabins.{soleQuotas}
 use Rattle.table.specs.Sound.{sound}
 use Rattle.table.specs.Answer.{Outcome, WriteOutcome, tooShort, notAccepted, first, firstOf, unless}
@@ -233,8 +233,8 @@ withRecord t fields =
     withLinks
     (withSteps t (t .last) (set (t .used) i 1) (set (t .kinds) i (getD fields 1 0)) (set (t .contents) i (getD fields 2 0)) (set (t .own) i (s / 16 % 2))
     (set (t .cabins) i (getD fields 8 0)))
-    (sets (t .targets) (i * exits) (getD fields 4 0 ∷ getD fields 5 0 ∷ getD fields 6 0 ∷ getD fields 7 0 ∷ []))
-    (sets (t .bits) (i * exits) (s % 2 ∷ s / 2 % 2 ∷ s / 4 % 2 ∷ s / 8 % 2 ∷ []))
+    (sets (t .targets) (exitPlaces i) (getD fields 4 0 ∷ getD fields 5 0 ∷ getD fields 6 0 ∷ getD fields 7 0 ∷ []))
+    (sets (t .bits) (exitPlaces i) (s % 2 ∷ s / 2 % 2 ∷ s / 4 % 2 ∷ s / 8 % 2 ∷ []))
     (t .counts)
 
 -- "Counters are worked out on loading."
@@ -251,8 +251,8 @@ imageTable bs =
       kinds = tabulate places (λ i. recordField bs i (kindIn bs));
       contents = tabulate places (λ i. recordField bs i (contentIn bs));
       own = tabulate places (λ i. recordField bs i (λ k. bitIn bs k exits));
-      targets = tabulate (places * exits) (λ p. recordField bs (p / exits) (λ k. targetIn bs k (p % exits)));
-      bits = tabulate (places * exits) (λ p. recordField bs (p / exits) (λ k. bitIn bs k (p % exits)));
+      targets = tabulate (exitPlaces places) (λ p. recordField bs (holderAt p) (λ k. targetIn bs k (exitAt p)));
+      bits = tabulate (exitPlaces places) (λ p. recordField bs (holderAt p) (λ k. bitIn bs k (exitAt p)));
       counts = [];
       cabins = tabulate places (λ i. recordField bs i (cabinIn bs));
       quotas = quotasIn bs;

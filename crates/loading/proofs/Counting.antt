@@ -15,7 +15,7 @@ use Rattle.finite.proofs.Bools.{refute, test}
 use Rattle.finite.proofs.Below.{le-or-lt, count-le, getD-tabulate, tabulate-ext, tabulate-set}
 use Rattle.finite.proofs.Select.{tabulate-entries}
 use Rattle.finite.proofs.Loops.{count-hit, count-miss}
-use Rattle.table.specs.Table.{Table, counterPlace, counterOf, countsAt, linksTo, withLinks}
+use Rattle.table.specs.Table.{Table, exitPlaces, counterPlace, counterOf, countsAt, linksTo, withLinks}
 use Rattle.table.specs.Calls.{raised}
 use Rattle.table.proofs.Edits.{getD-zeros}
 use Rattle.table.proofs.Links.{counts-here, counts-there}
@@ -82,7 +82,7 @@ module _ (u : Table) where
   unfolding countedTo withLinks countersTo counterTo count
   counted-none z = ap (withLinks u (u .targets) (u .bits)) (z ∙ sym (zeros 256))
 
-  pub counted-all : countedTo (u .capacity * 4) ≡ counted u
+  pub counted-all : countedTo (exitPlaces (u .capacity)) ≡ counted u
   unfolding countedTo countersTo counterTo counted linksTo
   counted-all = refl
 

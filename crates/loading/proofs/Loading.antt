@@ -10,7 +10,7 @@ use mathlib.Core.Path.{_≡_, refl, sym, _∙_, ap}
 use mathlib.Core.Bool.{Bool, true, false}
 use mathlib.Core.Logic.{⊎-elim}
 use mathlib.Core.List.{List, [], _∷_}
-use Prim.Native.Nat.{ℕ, suc, _+_, _*_, _/_, _%_, _^_, _≤_, _<_}
+use Prim.Native.Nat.{ℕ, suc, _+_, _/_, _%_, _^_, _≤_, _<_}
 use native.Mathlib.Omega.{arith}
 use lib.ListN.{length, getD, set, replicate, List·getD-eq-default}
 use lib.Seq.{sets}
@@ -20,7 +20,7 @@ use Rattle.finite.specs.Below.{one, tabulate}
 use Rattle.finite.proofs.Bools.{refute, same-test, test, clash}
 use Rattle.finite.proofs.Below.{le-or-lt, below-suc, any-intro, getD-tabulate, length-tabulate, tabulate-ext}
 use Rattle.table.specs.declared.Answer.the-variants.{Refused, Given}
-use Rattle.table.specs.Table.{Table, countsAt, linksTo, withNumbers, withLinks, withSteps}
+use Rattle.table.specs.Table.{Table, places, exitPlaces, holderAt, exitAt, countsAt, linksTo, withNumbers, withLinks, withSteps}
 use Rattle.table.specs.Sound.{sound}
 use Rattle.table.specs.Answer.{first, unless}
 use Rattle.table.specs.Calls.{refusedTable}
@@ -44,8 +44,8 @@ filledTable bs k =
       kinds = tabulate 128 (latest (numberIn bs) k (kindIn bs));
       contents = tabulate 128 (latest (numberIn bs) k (contentIn bs));
       own = tabulate 128 (latest (numberIn bs) k (λ j. bitIn bs j 4));
-      targets = tabulate 512 (exitsTo (numberIn bs) k (targetIn bs));
-      bits = tabulate 512 (exitsTo (numberIn bs) k (bitIn bs));
+      targets = tabulate (exitPlaces places) (exitsTo (numberIn bs) k (targetIn bs));
+      bits = tabulate (exitPlaces places) (exitsTo (numberIn bs) k (bitIn bs));
       counts = replicate 256 0;
       cabins = tabulate 128 (latest (numberIn bs) k (cabinIn bs));
       quotas = quotasIn bs;
@@ -94,8 +94,8 @@ module _ (bs : List ℕ) where
         kinds = sym (zeros 128) n;
         contents = sym (zeros 128) n;
         own = sym (zeros 128) n;
-        targets = sym (zeros 512) n;
-        bits = sym (zeros 512) n;
+        targets = sym (zeros (exitPlaces places)) n;
+        bits = sym (zeros (exitPlaces places)) n;
         counts = replicate 256 0;
         cabins = sym (zeros 128) n;
         quotas = quotasIn bs;
@@ -119,9 +119,9 @@ module _ (bs : List ℕ) where
 
   -- one more record
   four-bits : (k : ℕ) → numberIn bs k < 128 →
-      sets (tabulate 512 (exitsTo (numberIn bs) k (bitIn bs))) (numberIn bs k * 4)
+      sets (tabulate (exitPlaces places) (exitsTo (numberIn bs) k (bitIn bs))) (exitPlaces (numberIn bs k))
       (bitsIn bs k % 2 ∷ bitsIn bs k / 2 % 2 ∷ bitsIn bs k / 4 % 2 ∷ bitsIn bs k / 8 % 2 ∷ []) ≡
-      tabulate 512 (exitsTo (numberIn bs) (suc k) (bitIn bs))
+      tabulate (exitPlaces places) (exitsTo (numberIn bs) (suc k) (bitIn bs))
   unfolding bitIn
   four-bits k low =
       let z : bitsIn bs k % 2 ≡ bitsIn bs k / 2 ^ 0 % 2 = omega arith in
@@ -203,11 +203,11 @@ module _ (bs : List ℕ) where
   unfolding exitsTo bitIn filledTable
   filled-bits t at f p =
       let l = exitsTo (numberIn bs) (f .done) (bitIn bs) in
-      let small : l p < 2 = latest-keeps (numberIn bs) (λ n. n < 2) (λ k. bitIn bs k (p % 4)) (omega arith) (λ k. omega arith) (f .done) (p / 4) in
+      let small : l p < 2 = latest-keeps (numberIn bs) (λ n. n < 2) (λ k. bitIn bs k (exitAt p)) (omega arith) (λ k. omega arith) (f .done) (holderAt p) in
       rw (f .table)
-      (⊎-elim (λ (h : 512 ≤ p). let e = List·getD-eq-default (tabulate 512 l) 0 {n = p} (let n = length-tabulate 512 l in omega arith) in omega arith)
-      (λ h. let e = getD-tabulate 512 l 0 p h in omega arith)
-      (le-or-lt 512 p))
+      (⊎-elim (λ (h : exitPlaces places ≤ p). let e = List·getD-eq-default (tabulate (exitPlaces places) l) 0 {n = p} (let n = length-tabulate (exitPlaces places) l in omega arith) in omega arith)
+      (λ h. let e = getD-tabulate (exitPlaces places) l 0 p h in omega arith)
+      (le-or-lt (exitPlaces places) p))
 
   pub filled-counts : (t : Table) (at : ℕ) → Filled bs t at → t .counts ≡ replicate 256 0
   unfolding filledTable
@@ -248,12 +248,12 @@ module _ (bs : List ℕ) where
     one-all : (field : ℕ → ℕ) → tabulate 128 (latest (numberIn bs) (countIn bs) field) ≡ tabulate 128 (λ i. recordField bs i field)
     one-all field = tabulate-ext 128 (latest (numberIn bs) (countIn bs) field) (λ i. recordField bs i field) (λ i h. latest-said field i all-distinct)
 
-    four-all : (field : ℕ → ℕ → ℕ) → tabulate 512 (exitsTo (numberIn bs) (countIn bs) field) ≡
-        tabulate 512 (λ p. recordField bs (p / 4) (λ k. field k (p % 4)))
+    four-all : (field : ℕ → ℕ → ℕ) → tabulate (exitPlaces places) (exitsTo (numberIn bs) (countIn bs) field) ≡
+        tabulate (exitPlaces places) (λ p. recordField bs (holderAt p) (λ k. field k (exitAt p)))
     unfolding exitsTo
     four-all field =
-        tabulate-ext 512 (exitsTo (numberIn bs) (countIn bs) field) (λ p. recordField bs (p / 4) (λ k. field k (p % 4)))
-        (λ p h. latest-said (λ k. field k (p % 4)) (p / 4) all-distinct)
+        tabulate-ext (exitPlaces places) (exitsTo (numberIn bs) (countIn bs) field) (λ p. recordField bs (holderAt p) (λ k. field k (exitAt p)))
+        (λ p h. latest-said (λ k. field k (exitAt p)) (holderAt p) all-distinct)
 
     -- with the counters, it is the image's table
     pub filled-table : counted t ≡ imageTable bs

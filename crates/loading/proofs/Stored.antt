@@ -4,9 +4,9 @@
 --   stored-one stored-four   what the stores of one more record leave
 use mathlib.Core.Path.{_≡_, refl, sym, _∙_, ap}
 use mathlib.Core.Bool.{true, false, cond}
-use mathlib.Core.Logic.{inl, inr, ⊎-elim}
+use mathlib.Core.Logic.{⊎-elim}
 use mathlib.Core.List.{List, [], _∷_}
-use Prim.Native.Nat.{ℕ, zero, suc, _+_, _*_, _/_, _%_, _≤_, _<_}
+use Prim.Native.Nat.{ℕ, zero, suc, _+_, _<_}
 use native.Mathlib.Nat.{not-suc-le-zero}
 use native.Mathlib.Omega.{arith}
 use lib.ListN.{length, getD, set}
@@ -15,8 +15,11 @@ use lib.Dec.{eqb}
 use borrow.Author.Tests.{eqb-true, eqb-false, eq-eqb, ne-eqb}
 use Rattle.finite.specs.Below.{tabulate}
 use Rattle.finite.proofs.Bools.{test}
-use Rattle.finite.proofs.Below.{le-or-lt, below-suc, length-tabulate, getD-tabulate, tabulate-set}
+use Rattle.finite.proofs.Below.{below-suc, length-tabulate, getD-tabulate, tabulate-set}
 use Rattle.finite.proofs.Stores.{sets-outside, sets-inside, four-at}
+use Rattle.table.specs.Table.{places, exitPlaces, holderAt, exitAt}
+use Rattle.table.proofs.Places.{exit-place-apart, exit-at-below, exit-place-split}
+use Rattle.image.proofs.Exits.{place-four}
 
 module _ (num : ℕ → ℕ) where
   unfoldable pub latest : ℕ → (ℕ → ℕ) → ℕ → ℕ
@@ -24,7 +27,7 @@ module _ (num : ℕ → ℕ) where
   latest (suc k) f i = cond (eqb (num k) i) (f k) (latest k f i)
 
   unfoldable pub exitsTo : ℕ → (ℕ → ℕ → ℕ) → ℕ → ℕ
-  exitsTo k f p = latest k (λ j. f j (p % 4)) (p / 4)
+  exitsTo k f p = latest k (λ j. f j (exitAt p)) (holderAt p)
 
   latest-hit : (k : ℕ) (f : ℕ → ℕ) (i : ℕ) → num k ≡ i → latest (suc k) f i ≡ f k
   unfolding latest
@@ -82,46 +85,45 @@ module _ (num : ℕ → ℕ) where
       (λ i h d. latest-miss k f i (λ e. d (sym e))))
 
   -- the four exits of its step
-  module _ (k : ℕ) (f : ℕ → ℕ → ℕ) (l : num k < 128) where
+  module _ (k : ℕ) (f : ℕ → ℕ → ℕ) (l : num k < places) where
     exits-before : List ℕ
-    exits-before = tabulate 512 (exitsTo k f)
+    exits-before = tabulate (exitPlaces places) (exitsTo k f)
 
-    exits-length : length exits-before ≡ 512
+    exits-length : length exits-before ≡ exitPlaces places
     unfolding exits-before
-    exits-length = length-tabulate 512 (exitsTo k f)
+    exits-length = length-tabulate (exitPlaces places) (exitsTo k f)
 
     four : List ℕ
     four = f k 0 ∷ f k 1 ∷ f k 2 ∷ f k 3 ∷ []
 
-    four-inside : (p : ℕ) → p < 512 → num k ≡ p / 4 → getD (sets exits-before (num k * 4) four) p 0 ≡ exitsTo (suc k) f p
+    four-inside : (p : ℕ) → p < exitPlaces places → num k ≡ holderAt p → getD (sets exits-before (exitPlaces (num k)) four) p 0 ≡ exitsTo (suc k) f p
     unfolding four exitsTo
     four-inside p low e =
-        let z : p ≡ num k * 4 + p % 4 = omega arith in
+        let at = place-four p in
+        let z : p ≡ exitPlaces (num k) + exitAt p = omega (arith, at .1) in
         let n = exits-length in
-        ap (λ (i : ℕ). getD (sets exits-before (num k * 4) four) i 0) z
-        ∙ sets-inside four exits-before (num k * 4) (p % 4) (omega arith) (omega arith)
-        ∙ four-at (f k) (p % 4) (omega arith)
-        ∙ sym (latest-hit k (λ j. f j (p % 4)) (p / 4) e)
+        ap (λ (i : ℕ). getD (sets exits-before (exitPlaces (num k)) four) i 0) z
+        ∙ sets-inside four exits-before (exitPlaces (num k)) (exitAt p) (omega (arith, at .0)) (omega arith)
+        ∙ four-at (f k) (exitAt p) (at .0)
+        ∙ sym (latest-hit k (λ j. f j (exitAt p)) (holderAt p) e)
 
-    four-outside : (p : ℕ) → p < 512 → (num k ≡ p / 4 → ⊥) → getD (sets exits-before (num k * 4) four) p 0 ≡ exitsTo (suc k) f p
+    four-outside : (p : ℕ) → p < exitPlaces places → (num k ≡ holderAt p → ⊥) →
+        getD (sets exits-before (exitPlaces (num k)) four) p 0 ≡ exitsTo (suc k) f p
     unfolding four exitsTo exits-before
     four-outside p low d =
-        sets-outside four exits-before (num k * 4) p
-        (⊎-elim (λ (h : num k * 4 + 4 ≤ p). inr h) (λ (h : p < num k * 4 + 4). inl (outside p d h)) (le-or-lt (num k * 4 + 4) p))
-        ∙ getD-tabulate 512 (exitsTo k f) 0 p low
-        ∙ sym (latest-miss k (λ j. f j (p % 4)) (p / 4) d)
-      where
-        outside : (p : ℕ) → (num k ≡ p / 4 → ⊥) → p < num k * 4 + 4 → p < num k * 4
-        outside p d h = ⊎-elim (λ (g : num k * 4 ≤ p). absurd (d (omega arith))) (λ g. g) (le-or-lt (num k * 4) p)
+        sets-outside four exits-before (exitPlaces (num k)) p
+        (rw (exit-place-split p) at (exit-place-apart (num k) (holderAt p) (exitAt p) (λ e. d (sym e)) (exit-at-below p)))
+        ∙ getD-tabulate (exitPlaces places) (exitsTo k f) 0 p low
+        ∙ sym (latest-miss k (λ j. f j (exitAt p)) (holderAt p) d)
 
-    pub stored-four : sets (tabulate 512 (exitsTo k f)) (num k * 4) (f k 0 ∷ f k 1 ∷ f k 2 ∷ f k 3 ∷ []) ≡ tabulate 512 (exitsTo (suc k) f)
+    pub stored-four : sets (tabulate (exitPlaces places) (exitsTo k f)) (exitPlaces (num k)) (f k 0 ∷ f k 1 ∷ f k 2 ∷ f k 3 ∷ []) ≡ tabulate (exitPlaces places) (exitsTo (suc k) f)
     unfolding four exits-before
     stored-four =
-        let n = length-sets exits-before (num k * 4) four in
+        let n = length-sets exits-before (exitPlaces (num k)) four in
         let m = exits-length in
-        ext-getD 0 (sets exits-before (num k * 4) four) (tabulate 512 (exitsTo (suc k) f))
-        (n ∙ m ∙ sym (length-tabulate 512 (exitsTo (suc k) f)))
+        ext-getD 0 (sets exits-before (exitPlaces (num k)) four) (tabulate (exitPlaces places) (exitsTo (suc k) f))
+        (n ∙ m ∙ sym (length-tabulate (exitPlaces places) (exitsTo (suc k) f)))
         (λ p h.
-        let low : p < 512 = omega arith in
-        ⊎-elim (λ e. four-inside p low (eqb-true _ _ e)) (λ e. four-outside p low (eqb-false _ _ e)) (test (eqb (num k) (p / 4)))
-        ∙ sym (getD-tabulate 512 (exitsTo (suc k) f) 0 p low))
+        let low : p < exitPlaces places = omega arith in
+        ⊎-elim (λ e. four-inside p low (eqb-true _ _ e)) (λ e. four-outside p low (eqb-false _ _ e)) (test (eqb (num k) (holderAt p)))
+        ∙ sym (getD-tabulate (exitPlaces places) (exitsTo (suc k) f) 0 p low))

@@ -34,7 +34,7 @@ fn count_links(t: &mut [u16; WORDS])
         (tableOf (now t) .counts ≡ replicate (places * counters) 0) ⌝ }
     ensures { λ _. ⌜ Becomes (now (t .entry)) (now (t .exit)) (counted (tableOf (now (t .entry)))) ⌝ }
 {
-    let n = words::wide(words::capacity(t)) * words::EXITS;
+    let n = words::exit_places(words::wide(words::capacity(t)));
     let mut p: usize = 0;
     // The links in the exits before the place p are counted.
     while p < n {

@@ -20,7 +20,7 @@ use Rattle.finite.proofs.Bools.{and-intro, and-left, and-right, refute, test, s
 use Rattle.finite.proofs.Below.{eq-or-ne, count-ext, getD-tabulate}
 use Rattle.finite.proofs.Loops.{count-hit, count-miss}
 use Rattle.finite.proofs.Those.{length-those, those-hit, those-miss}
-use Rattle.table.specs.Table.{Table, places, exits, counters, inUse, ownBit, targetOf, linkBit, holds, strong, leads, withSteps}
+use Rattle.table.specs.Table.{Table, places, exitsOf, counters, inUse, ownBit, targetOf, linkBit, holds, strong, leads, withSteps}
 use Rattle.table.specs.Calls.{relink, weakBit}
 use Rattle.table.specs.Clear.{flipped, weakened, eachDoubtful, size}
 use Rattle.table.proofs.Links.{holds-target, target-holds, strong-holds, bit-strong}
@@ -40,7 +40,7 @@ module _ {t : Table} {k : ℕ} (s : Standing t k) where
   pub standing-flipped : Standing (flipped t k) k
   standing-flipped = record { formed = formed-flipped t (s .formed) k (s .used); used = (unfold flipped withSteps inUse in s .used) }
 
-  module _ (e : ℕ) (le : e < exits) where
+  module _ (e : ℕ) (le : e < exitsOf k) where
     pub standing-relinkable : (j b : ℕ) → j < places → b < counters → Relinkable t k e j b
     standing-relinkable j b = formed-relinkable (s .formed) k e j b (s .used) le
 

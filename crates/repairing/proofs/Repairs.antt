@@ -15,7 +15,7 @@ use Rattle.finite.specs.Below.{any, one, count, lowest}
 use Rattle.finite.proofs.Bools.{and-intro, and-left, and-right, or-left, or-right, or-elim, clash, same-test, not-true-false}
 use Rattle.finite.proofs.Below.{le-or-lt, eq-or-ne, any-at, any-intro, any-ext, any-false, count-change, count-le, lowest-passes, rounds-keep, tabulate-set}
 use Rattle.finite.proofs.Select.{lowest-any, lowest-most}
-use Rattle.table.specs.Table.{Table, places, exits, inUse, linked, withLinks}
+use Rattle.table.specs.Table.{Table, places, exitsOf, inUse, linked, withLinks}
 use Rattle.table.specs.Calls.{relink}
 use Rattle.table.specs.Clear.{Repair, wanted, restored, repair, unlinked}
 use Rattle.table.proofs.Alike.{alike-linked, alike-used}
@@ -79,7 +79,7 @@ module _ {t : Table} {n : ℕ} {doubt : List ℕ} (r : Repairable t n doubt) whe
   pub able-unlinked : (k : ℕ) → k < n → getD doubt k 0 ≡ 1 → Repairable (unlinked t k) n doubt
   unfolding unlinked relink withLinks inUse
   able-unlinked k l h =
-      rounds-keep (λ (v : Table). Repairable v n doubt × Standing v k) exits (λ e v. relink v k e 0 0) t
+      rounds-keep (λ (v : Table). Repairable v n doubt × Standing v k) (exitsOf k) (λ e v. relink v k e 0 0) t
       (λ e le v p. let s = standing-emptied (p .1) e le in (unlink-able v k e (p .0) s, s))
       (r, able-standing k l h)
       .0

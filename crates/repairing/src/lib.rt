@@ -5,18 +5,17 @@ ghost use mathlib.Core.List.{_++_};
 ghost use Prim.Native.Nat.{_+_, _<_, _≤_};
 ghost use lib.ListN.{length, set, drop};
 ghost use Rattle.finite.specs.Below.{count, those};
-ghost use Rattle.table.specs.Table.{Table, exits, places, linked};
+ghost use Rattle.table.specs.Table.{Table, places, exitsOf, linked};
 ghost use Rattle.table.specs.Clear.{weakened, restored, repair, unlinked, eachDoubtful, release, size};
 ghost use Rattle.table.proofs.Formed.{Formed};
 ghost use Rattle.words.specs.Words.{tableOf, Becomes};
 ghost use Rattle.repairing.specs.Repairing.{underRepair, isOne, asMarks, meant, Standing, Repairable, Added, Candidates, Settling};
-use words::EXITS;
 use words::PLACES;
 use words::WORDS;
 
 // The link in exit e of step k, where it is strong, is made weak, and the counters follow.
 fn weaken_exit(t: &mut [u16; WORDS], k: usize, e: usize)
-    requires { ⌜ Standing (tableOf (now t)) k × (e < exits) ⌝ }
+    requires { ⌜ Standing (tableOf (now t)) k × (e < exitsOf k) ⌝ }
     ensures { λ _. ⌜ Becomes (now (t .entry)) (now (t .exit)) (weakened (tableOf (now (t .entry))) k e) ⌝ }
 {
     let target = words::target_at(t, k, e);
@@ -37,9 +36,10 @@ fn restore_step(t: &mut [u16; WORDS], k: usize)
     ensures { λ _. ⌜ Becomes (now (t .entry)) (now (t .exit)) (restored (tableOf (now (t .entry))) k) ⌝ }
 {
     words::flip(t, k);
+    let n = words::exits_of(k);
     let mut e = 0;
     // The links in the exits below e are weak.
-    while e < EXITS {
+    while e < n {
         weaken_exit(t, k, e);
         e += 1;
     }
@@ -75,10 +75,11 @@ fn want_targets(
     requires { ⌜ (k < places) × (length (now wanted) ≡ places) × Formed (tableOf (now t)) ⌝ }
     ensures { λ r. ⌜ Added (linked (tableOf (now (t .entry))) k) (now (doubt .entry)) (now (wanted .entry)) (now (wanted .exit)) low r ⌝ }
 {
+    let n = words::exits_of(k);
     let mut mark = low;
     let mut e = 0;
     // The doubtful steps that the exits below e lead to are candidates, and none below `mark` is new.
-    while e < EXITS {
+    while e < n {
         mark = want_step(words::wide(words::target_at(t, k, e)), mark, doubt, wanted);
         e += 1;
     }
@@ -151,9 +152,10 @@ fn unlink_step(t: &mut [u16; WORDS], k: usize)
     requires { ⌜ Standing (tableOf (now t)) k ⌝ }
     ensures { λ _. ⌜ Becomes (now (t .entry)) (now (t .exit)) (unlinked (tableOf (now (t .entry))) k) ⌝ }
 {
+    let n = words::exits_of(k);
     let mut e = 0;
     // The exits below e are empty.
-    while e < EXITS {
+    while e < n {
         words::relink(t, k, e, 0, 0);
         e += 1;
     }

@@ -7,7 +7,7 @@ use mathlib.Core.Path.{_≡_, refl, sym, ap}
 use mathlib.Core.Bool.{true}
 use mathlib.Core.Logic.{⊎-elim}
 use mathlib.Core.List.{List}
-use Prim.Native.Nat.{ℕ, zero, suc, _*_, _/_, _%_, _≤_, _<_}
+use Prim.Native.Nat.{ℕ, zero, suc, _/_, _%_, _≤_, _<_}
 use native.Mathlib.Omega.{arith}
 use lib.ListN.{length, getD, set, List·getD-eq-default}
 use lib.Seq.{getD-set-same, getD-set-other, set-out}
@@ -16,9 +16,9 @@ use borrow.Author.Tests.{eqb-true, eq-eqb, ltb-true, lt-ltb}
 use Rattle.finite.specs.Below.{rounds, tabulate, tabulateFrom}
 use Rattle.finite.proofs.Bools.{and-intro, and-left, and-right, test}
 use Rattle.finite.proofs.Below.{le-or-lt, eq-or-ne, all-at, all-intro}
-use Rattle.table.specs.Table.{Table, places, exits, inUse, linkBit, withLinks, withSteps}
+use Rattle.table.specs.Table.{Table, places, exitPlaces, holderAt, exitAt, inUse, linkBit, withLinks, withSteps}
 use Rattle.table.specs.Sound.{Sound}
-use Rattle.table.proofs.Relink.{exit-place-split}
+use Rattle.table.proofs.Places.{exit-at-below, exit-place-split}
 use Rattle.image.specs.Image.{edition2, withRecord}
 use Rattle.image.specs.Slip.{slipSize, slipCount, oldPlace, fieldsAt}
 use Rattle.records.specs.Parts.{added, recordFields, cabinAt, stepRead}
@@ -43,27 +43,27 @@ unfolding withRecord withLinks withSteps
 record-bits w fields h =
     let i = getD fields 0 0 in
     let n = getD fields 3 0 in
-    let a = set-small 2 (w .bits) (i * exits) (n % 2) (omega arith) h in
-    let l₁ = set (w .bits) (i * exits) (n % 2) in
-    let b = set-small 2 l₁ (suc (i * exits)) (n / 2 % 2) (omega arith) a in
-    let l₂ = set l₁ (suc (i * exits)) (n / 2 % 2) in
-    let c = set-small 2 l₂ (suc (suc (i * exits))) (n / 4 % 2) (omega arith) b in
-    set-small 2 (set l₂ (suc (suc (i * exits))) (n / 4 % 2)) (suc (suc (suc (i * exits)))) (n / 8 % 2) (omega arith) c
+    let a = set-small 2 (w .bits) (exitPlaces i) (n % 2) (omega arith) h in
+    let l₁ = set (w .bits) (exitPlaces i) (n % 2) in
+    let b = set-small 2 l₁ (suc (exitPlaces i)) (n / 2 % 2) (omega arith) a in
+    let l₂ = set l₁ (suc (exitPlaces i)) (n / 2 % 2) in
+    let c = set-small 2 l₂ (suc (suc (exitPlaces i))) (n / 4 % 2) (omega arith) b in
+    set-small 2 (set l₂ (suc (suc (exitPlaces i))) (n / 4 % 2)) (suc (suc (suc (exitPlaces i)))) (n / 8 % 2) (omega arith) c
 
 pub small-bits : (t : Table) → Sound t → (p : ℕ) → getD (t .bits) p 0 < 2
 unfolding linkBit
 small-bits t s p =
     ⊎-elim
-    (λ (o : places * exits ≤ p). let z = List·getD-eq-default (t .bits) 0 {n = p} (rw (s .shape .bits) o) in omega arith)
-    (λ (o : p < places * exits).
-    let i = p / exits in
-    let e = p % exits in
+    (λ (o : exitPlaces places ≤ p). let z = List·getD-eq-default (t .bits) 0 {n = p} (rw (s .shape .bits) o) in omega arith)
+    (λ (o : p < exitPlaces places).
+    let i = holderAt p in
+    let e = exitAt p in
     let at : getD (t .bits) p 0 ≡ linkBit t i e = ap (λ (q : ℕ). getD (t .bits) q 0) (sym (exit-place-split p)) in
     ⊎-elim
-    (λ u. let b = s .bits i e u (omega arith) in omega (arith, at))
-    (λ u. let b = s .free i (omega arith) u .bits e (omega arith) in omega (arith, at))
+    (λ u. let b = s .bits i e u (exit-at-below p) in omega (arith, at))
+    (λ u. let b = s .free i (omega arith) u .bits e (exit-at-below p) in omega (arith, at))
     (test (inUse t i)))
-    (le-or-lt (places * exits) p)
+    (le-or-lt (exitPlaces places) p)
 
 -- the table with the first n old records in place
 abbrev pub after : Table → List ℕ → ℕ → Table

@@ -8,7 +8,7 @@ use mathlib.Core.Path.{_≡_, refl, sym, _∙_, ap, ap₂, subst}
 use mathlib.Core.Bool.{Bool, true, false, _&&_, not}
 use mathlib.Core.Logic.{_⊎_, inl, ⊎-elim}
 use mathlib.Core.List.{List}
-use Prim.Native.Nat.{ℕ, zero, suc, _+_, _*_, _-_, _/_, _%_, _≤_, _<_}
+use Prim.Native.Nat.{ℕ, zero, suc, _+_, _*_, _-_, _≤_, _<_}
 use native.Mathlib.Omega.{arith}
 use lib.ListN.{getD, set}
 use lib.Dec.{eqb, leb, ltb}
@@ -18,19 +18,20 @@ use Rattle.finite.proofs.Bools.{and-intro, and-left, and-right, or-left, or-rig
 use Rattle.finite.proofs.Below.{le-or-lt, eq-or-ne, all-at, all-intro, count-ext, count-le, count-none, count-pos, count-change, getD-tabulate, tabulate-set}
 use Rattle.finite.proofs.Loops.{and-true}
 use Rattle.finite.proofs.Packed.{count-past}
-use Rattle.table.specs.Table.{Table, places, exits, counters, cabinCount, exitPlace, counterPlace, inUse, kindOf, contentOf, ownBit, cabinOf, targetOf, linkBit, counterOf, stronglyLinked, stepsInUse}
+use Rattle.table.specs.Table.{Table, places, exitsOf, exitPlaces, holderAt, exitAt, counters, cabinCount, exitPlace, counterPlace, inUse, kindOf, contentOf, ownBit, cabinOf, targetOf, linkBit, counterOf, stronglyLinked, stepsInUse}
 use Rattle.table.specs.Cabins.{quotasFit, chargesFit, charged, charge, freeSteps}
 use Rattle.table.specs.Sound.{Shape, Sound, capacityFits, contentFits, kindFits, sound}
+use Rattle.table.proofs.Places.{exit-place-below, exit-place-step, exit-at-below}
 use Rattle.table.proofs.Sound.{capacity-range, sound-test, test-sound}
 use Rattle.table.proofs.Links.{used-place, holds-target, empty-target, target-empty, linked-used, strongly-linked}
-use Rattle.table.proofs.Relink.{exit-place-below, counter-place-below}
+use Rattle.table.proofs.Relink.{counter-place-below}
 use Rattle.table.proofs.Formed.{Formed, sound-formed, formed-wired, formed-place}
 use Rattle.table.proofs.Cabins.{Shares, sound-shares, charged-used, formed-charges, quotas-pairs, quotas-together, quotas-test, charges-limit, charges-reserve, charges-test}
 use Rattle.table.proofs.Spine.{Spine, sound-spine, spine-sound}
 use Rattle.cabins.specs.Parts.{sharesFit}
 use Rattle.cabins.proofs.Laws.{shares-charges}
 use Rattle.withdraw.specs.Search.{slotAt, lands, isMarked, landing, landingKept, Ranged, Exact, Spans}
-use Rattle.withdraw.proofs.Slots.{lands-intro, landing-zero, exit-here, exit-place-step, slot-some, slot-zero, slot-below, lands-held, link-lands, own-slot-some, landing-some, landing-linked, landing-links, shape-ranged, source-used, formed-ranged, formed-exact}
+use Rattle.withdraw.proofs.Slots.{lands-intro, landing-zero, exit-here, slot-some, slot-zero, slot-below, lands-held, link-lands, own-slot-some, landing-some, landing-linked, landing-links, shape-ranged, source-used, formed-ranged, formed-exact}
 use Rattle.withdraw.proofs.Found.{up-marked, left-kept, kept-parent}
 use Rattle.soundness.specs.Parts.{numbersFit, alarmFits, fieldsAt, stepFits, exitFits, countersFit, freeAbove, arraysFit, emptyAt, faults, hasCabin, cabinSteps, quotasHold}
 use Rattle.soundness.proofs.Parts.{Alarm, alarm-fields, fields-alarm, fields-used, used-fields, fields-free, free-fields, link-fits, empty-fits, filled-fits, counts-free, used-counts, free-counts}
@@ -50,7 +51,7 @@ pub record Fitted (t : Table) : Type 0 where
 
 pub record Checked (t : Table) : Type 0 where
   pub fitted : Fitted t
-  pub sum : total (places * counters) (counter t) ≡ faults (places * exits) (emptyAt t)
+  pub sum : total (places * counters) (counter t) ≡ faults (exitPlaces places) (emptyAt t)
   pub quotas : quotasHold t ≡ true
 
 -- what the tests say
@@ -62,10 +63,10 @@ record Facts (t : Table) : Type 0 where
   alarm : inUse t 0 ≡ true
   fields : Alarm (getD (t .used) 0 0) (kindOf t 0) (contentOf t 0) (ownBit t 0) (getD (t .counts) 0 0) (cabinOf t 0)
   steps : (i : ℕ) → i < places → stepFits t i ≡ true
-  links : (p : ℕ) → p < places * exits → exitFits t p ≡ true
+  links : (p : ℕ) → p < exitPlaces places → exitFits t p ≡ true
   counts : (i : ℕ) → i < places → countersFit t i ≡ true
   above : (i : ℕ) → i < places → freeAbove t (t .capacity) i ≡ true
-  sum : total (places * counters) (counter t) ≡ faults (places * exits) (emptyAt t)
+  sum : total (places * counters) (counter t) ≡ faults (exitPlaces places) (emptyAt t)
   quotas : quotasHold t ≡ true
 
 checked-facts : {t : Table} → Checked t → Facts t
@@ -74,8 +75,8 @@ checked-facts {t} k =
     let f = k .fitted in
     let range = and-left (capacityFits (t .capacity)) _ (f .numbers) in
     let alarm = alarm-fields _ _ _ _ _ _ (f .alarm) in
-    let lower = and-left (all places (stepFits t) && all (places * exits) (exitFits t) && all places (countersFit t)) _ (f .arrays) in
-    let lowest = and-left (all places (stepFits t) && all (places * exits) (exitFits t)) _ lower in
+    let lower = and-left (all places (stepFits t) && all (exitPlaces places) (exitFits t) && all places (countersFit t)) _ (f .arrays) in
+    let lowest = and-left (all places (stepFits t) && all (exitPlaces places) (exitFits t)) _ lower in
     record {
       shape = f .shape;
       least = leb-true _ _ (and-left (leb 1 (t .capacity)) _ range);
@@ -84,9 +85,9 @@ checked-facts {t} k =
       alarm = alarm .inUse;
       fields = alarm;
       steps = all-at places _ (and-left (all places (stepFits t)) _ lowest);
-      links = all-at (places * exits) _ (and-right (all places (stepFits t)) _ lowest);
-      counts = all-at places _ (and-right (all places (stepFits t) && all (places * exits) (exitFits t)) _ lower);
-      above = all-at places _ (and-right (all places (stepFits t) && all (places * exits) (exitFits t) && all places (countersFit t)) _ (f .arrays));
+      links = all-at (exitPlaces places) _ (and-right (all places (stepFits t)) _ lowest);
+      counts = all-at places _ (and-right (all places (stepFits t) && all (exitPlaces places) (exitFits t)) _ lower);
+      above = all-at places _ (and-right (all places (stepFits t) && all (exitPlaces places) (exitFits t) && all places (countersFit t)) _ (f .arrays));
       sum = k .sum;
       quotas = k .quotas;
     }
@@ -102,7 +103,7 @@ facts-checked {t} k =
             alarm = fields-alarm _ _ _ _ _ _ (k .fields);
             arrays =
                 and-intro
-                (and-intro (and-intro (all-intro places _ (k .steps)) (all-intro (places * exits) _ (k .links))) (all-intro places _ (k .counts)))
+                (and-intro (and-intro (all-intro places _ (k .steps)) (all-intro (exitPlaces places) _ (k .links))) (all-intro places _ (k .counts)))
                 (all-intro places _ (k .above));
           };
       sum = k .sum;
@@ -153,7 +154,7 @@ module _ {t : Table} (k : Fitted t) where
       refute _
       (λ u.
       let l = used-place (k .shape) i u in
-      let above = and-right (all places (stepFits t) && all (places * exits) (exitFits t) && all places (countersFit t)) _ (k .arrays) in
+      let above = and-right (all places (stepFits t) && all (exitPlaces places) (exitFits t) && all places (countersFit t)) _ (k .arrays) in
       ⊎-elim (λ h. let b = ltb-true i (t .capacity) h in omega arith)
       (λ h. let z = eqb-true (getD (t .used) i 0) 0 h in let o = eqb-true (getD (t .used) i 0) 1 u in omega arith)
       (or-elim (ltb i (t .capacity)) _ (all-at places _ above i l)))
@@ -183,14 +184,14 @@ module _ {t : Table} (k : Fitted t) where
       )
 
 -- every link lands in one counter
-landing-total : (t : Table) → Ranged t → total (places * counters) (landing (slotAt t)) ≡ faults (places * exits) (emptyAt t)
+landing-total : (t : Table) → Ranged t → total (places * counters) (landing (slotAt t)) ≡ faults (exitPlaces places) (emptyAt t)
 unfolding landing faults emptyAt
 landing-total t r =
-    total-landing (places * counters) (places * exits) (slotAt t) (λ p l. slot-below t r p)
-    ∙ count-ext (places * exits) _ _ (λ p l. ap not (slot-zero t p))
+    total-landing (places * counters) (exitPlaces places) (slotAt t) (λ p l. slot-below t r p)
+    ∙ count-ext (exitPlaces places) _ _ (λ p l. ap not (slot-zero t p))
 
 module _ {t : Table} (k : Facts t) where
-  link-at : (p : ℕ) → p < places * exits → ((getD (t .targets) p 0 ≡ 0) × (getD (t .bits) p 0 ≡ 0)) ⊎
+  link-at : (p : ℕ) → p < exitPlaces places → ((getD (t .targets) p 0 ≡ 0) × (getD (t .bits) p 0 ≡ 0)) ⊎
       ((getD (t .targets) p 0 ≡ 0 → ⊥) × (getD (t .targets) p 0 < places) × (getD (t .bits) p 0 < counters))
   unfolding exitFits
   link-at p l = link-fits _ _ (k .links p l)
@@ -287,21 +288,21 @@ module _ {t : Table} (k : Facts t) where
     lands-own p d = lands-intro (slotAt t) p (slotAt t p) refl (slot-some t p d)
 
     -- a link is one of a marked step, so of one in use
-    marked-source : (p : ℕ) → p < places * exits → (getD (t .targets) p 0 ≡ 0 → ⊥) → inUse t (p / exits) ≡ true
+    marked-source : (p : ℕ) → p < exitPlaces places → (getD (t .targets) p 0 ≡ 0 → ⊥) → inUse t (holderAt p) ≡ true
     unfolding landingKept
     marked-source p l d =
-        used-marked (p / exits) (omega arith)
+        used-marked (holderAt p) (omega arith)
         ∙ ⊎-elim (λ m. m)
         (λ m.
         let q = slotAt t p in
         let c =
-        count-pos (places * exits) (λ p′. lands (slotAt t) p′ q && not (isMarked marks (p′ / exits))) p l (and-intro (lands-own p d) (ap not m)) in
+        count-pos (exitPlaces places) (λ p′. lands (slotAt t) p′ q && not (isMarked marks (holderAt p′))) p l (and-intro (lands-own p d) (ap not m)) in
         let z = none-kept q (slot-pos p d) (slot-below t ranged p) in
         absurd (omega arith))
-        (test (isMarked marks (p / exits)))
+        (test (isMarked marks (holderAt p)))
 
     -- and it leads to a step in use: the counters of a free step are zero
-    target-used : (p : ℕ) → p < places * exits → (getD (t .targets) p 0 ≡ 0 → ⊥) → inUse t (getD (t .targets) p 0) ≡ true
+    target-used : (p : ℕ) → p < exitPlaces places → (getD (t .targets) p 0 ≡ 0 → ⊥) → inUse t (getD (t .targets) p 0) ≡ true
     unfolding landing counterOf
     target-used p l d =
         ⊎-elim (λ u. u)
@@ -309,16 +310,16 @@ module _ {t : Table} (k : Facts t) where
         let r = ranged in
         let j = getD (t .targets) p 0 in
         let b = getD (t .bits) p 0 in
-        let c = count-pos (places * exits) (λ p′. lands (slotAt t) p′ (counterPlace j b)) p l (link-lands t j b p d refl refl) in
+        let c = count-pos (exitPlaces places) (λ p′. lands (slotAt t) p′ (counterPlace j b)) p l (link-lands t j b p d refl refl) in
         let e = exact (counterPlace j b) (counter-place-below j b (r .bits p) (r .targets p)) in
         let z = free-counter j b (r .targets p) (r .bits p) f in
         absurd (omega arith))
         (test (inUse t (getD (t .targets) p 0)))
 
-    free-empty : (p : ℕ) → p < places * exits → inUse t (p / exits) ≡ false → getD (t .targets) p 0 ≡ 0
+    free-empty : (p : ℕ) → p < exitPlaces places → inUse t (holderAt p) ≡ false → getD (t .targets) p 0 ≡ 0
     free-empty p l f = ⊎-elim (λ z. z) (λ d. clash (marked-source p l d) f) (eq-or-ne (getD (t .targets) p 0) 0)
 
-    free-exit : (i e : ℕ) → e < exits → i < places → inUse t i ≡ false → getD (t .targets) (exitPlace i e) 0 ≡ 0
+    free-exit : (i e : ℕ) → e < exitsOf i → i < places → inUse t i ≡ false → getD (t .targets) (exitPlace i e) 0 ≡ 0
     free-exit i e x l f =
         free-empty (exitPlace i e) (exit-place-below i e places x l) (subst (λ (n : ℕ). inUse t n ≡ false) (sym (exit-place-step i e x)) f)
 
@@ -362,7 +363,7 @@ module _ {t : Table} (k : Facts t) where
           exact =
               λ j b l x.
               exact (counterPlace j b) (counter-place-below j b x l)
-              ∙ landing-links t ranged (k .most) (λ p g y. free-empty p y (above-free (p / exits) (omega arith) (omega arith))) j b x;
+              ∙ landing-links t ranged (k .most) (λ p g y. free-empty p y (above-free (holderAt p) (omega arith) (omega arith))) j b x;
         }
 
     strong-used : (i j : ℕ) → stronglyLinked t i j ≡ true → (inUse t i ≡ true) × (inUse t j ≡ true)
@@ -400,11 +401,11 @@ module _ {t : Table} (s : Sound t) where
   g : Formed t
   g = sound-formed s
 
-  empty-bit : (p : ℕ) → p < places * exits → getD (t .targets) p 0 ≡ 0 → getD (t .bits) p 0 ≡ 0
+  empty-bit : (p : ℕ) → p < exitPlaces places → getD (t .targets) p 0 ≡ 0 → getD (t .bits) p 0 ≡ 0
   empty-bit p l z =
-      let i = p / exits in
-      let e = p % exits in
-      let le : e < exits = omega arith in
+      let i = holderAt p in
+      let e = exitAt p in
+      let le : e < exitsOf i = exit-at-below p in
       let here = exit-here t p in
       sym (here .1)
       ∙ ⊎-elim (λ u. g .empty i e u le (target-empty t i e (here .0 ∙ z))) (λ f. g .free i (omega arith) f .bits e le) (test (inUse t i))
@@ -511,13 +512,13 @@ module _ {t : Table} (s : Sound t) where
     nothing-kept : (q : ℕ) → landingKept (slotAt t) (w .marks) q ≡ 0
     unfolding landingKept
     nothing-kept q =
-        count-none (places * exits) _
+        count-none (exitPlaces places) _
         (λ p l.
         refute _
         (λ h.
         let u = source-used t g p (lands-held t p q (and-left (lands (slotAt t) p q) _ h)) in
         clash
-        (used-marks (suc (sound-spine s .rank (p / exits))) (p / exits) (omega arith) u)
+        (used-marks (suc (sound-spine s .rank (holderAt p))) (holderAt p) (omega arith) u)
         (not-true-false _ (and-right (lands (slotAt t) p q) _ h))))
 
     left-zero : (q : ℕ) → q < places * counters → getD (w .left) q 0 ≡ 0

@@ -14,11 +14,11 @@
 --   hasCabin t c i    step i is in use with the number of cabin c; cabinSteps t c, how many are, step 0 among those of cabin 0
 --   quotasHold t      the list of quotas is good, and the charges fit it
 use mathlib.Core.Bool.{Bool, true, _&&_, _||_, not, cond}
-use Prim.Native.Nat.{ℕ, _*_}
+use Prim.Native.Nat.{ℕ}
 use lib.ListN.{getD}
 use lib.Dec.{eqb, ltb}
 use Rattle.finite.specs.Below.{all, count}
-use Rattle.table.specs.Table.{Table, places, exits, counters, cabinCount, inUse, kindOf, contentOf, ownBit, cabinOf, counterOf}
+use Rattle.table.specs.Table.{Table, places, exitPlaces, counters, cabinCount, inUse, kindOf, contentOf, ownBit, cabinOf, counterOf}
 use Rattle.table.specs.Cabins.{quotasFit, charge}
 use Rattle.table.specs.Sound.{capacityFits, contentFits}
 use Rattle.cabins.specs.Parts.{sharesFit}
@@ -59,7 +59,7 @@ freeAbove t c i = ltb i c || eqb (getD (t .used) i 0) 0
 
 unfoldable pub arraysFit : Table → Bool
 arraysFit t =
-    all places (stepFits t) && all (places * exits) (exitFits t) && all places (countersFit t) && all places (freeAbove t (t .capacity))
+    all places (stepFits t) && all (exitPlaces places) (exitFits t) && all places (countersFit t) && all places (freeAbove t (t .capacity))
 
 unfoldable pub emptyAt : Table → ℕ → Bool
 emptyAt t p = eqb (getD (t .targets) p 0) 0

@@ -6,7 +6,7 @@ ghost use Prim.Native.Nat.{_*_, _-_, _≤_};
 ghost use lib.ListN.{getD, set};
 ghost use lib.Dec.{eqb};
 ghost use Rattle.finite.specs.Below.{one, total, tabulate};
-ghost use Rattle.table.specs.Table.{places, exits, counters, cabinCount};
+ghost use Rattle.table.specs.Table.{places, exitPlaces, counters, cabinCount};
 ghost use Rattle.table.specs.Cabins.{charge};
 ghost use Rattle.table.specs.Sound.{capacityFits, contentFits, sound};
 ghost use Rattle.table.specs.Answer.{first};
@@ -125,7 +125,7 @@ fn link_fits(target: u16, bit: u16) -> bool
 
 // The exits that do not fit.
 fn link_faults(t: &[u16; WORDS]) -> u16
-    ensures { λ r. ⌜ r ≡ faults (places * exits) (exitFits (tableOf (now (t .entry)))) ⌝ }
+    ensures { λ r. ⌜ r ≡ faults (exitPlaces places) (exitFits (tableOf (now (t .entry)))) ⌝ }
 {
     let mut n = 0u16;
     let mut p = 0usize;
@@ -187,7 +187,7 @@ fn used_above(t: &[u16; WORDS], capacity: usize) -> u16
 
 // The exits that hold a link.
 fn filled(t: &[u16; WORDS]) -> u16
-    ensures { λ r. ⌜ r ≡ faults (places * exits) (emptyAt (tableOf (now (t .entry)))) ⌝ }
+    ensures { λ r. ⌜ r ≡ faults (exitPlaces places) (emptyAt (tableOf (now (t .entry)))) ⌝ }
 {
     let mut n = 0u16;
     let mut p = 0usize;

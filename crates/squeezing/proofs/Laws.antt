@@ -15,10 +15,11 @@ use Rattle.finite.specs.Below.{tabulate, tabulateFrom}
 use Rattle.finite.proofs.Bools.{clash}
 use Rattle.finite.proofs.Below.{le-or-lt, eq-or-ne, getD-tabulate}
 use Rattle.table.specs.declared.Fields.{Fields}
-use Rattle.table.specs.Table.{Table, places, exits, counters, inUse, kindOf, contentOf, ownBit, cabinOf, targetOf, linkBit, counterOf, stepsInUse, withLinks, withSteps, withNumbers}
+use Rattle.table.specs.Table.{Table, places, exits, entries, counters, inUse, kindOf, contentOf, ownBit, cabinOf, targetOf, linkBit, counterOf, stepsInUse, withLinks, withSteps, withNumbers}
 use Rattle.table.specs.Sound.{Shape, Blank}
 use Rattle.table.specs.Calls.{fieldsOf, noFields}
 use Rattle.table.specs.Squeeze.{newNumber, squeezed}
+use Rattle.table.proofs.Places.{own-exit}
 use Rattle.table.proofs.Links.{Wired, used-place, used-below}
 use Rattle.table.proofs.Formed.{Formed, formed-wired}
 use Rattle.table.proofs.Renumber.{new-used, new-free, new-most, new-rises, new-step, new-all, new-place, moved-new, moved-none, squeezed-shape, squeezed-entry, squeezed-kind, squeezed-content, squeezed-own, squeezed-cabin, squeezed-target, squeezed-bit, squeezed-counter, squeezed-renumbered}
@@ -41,6 +42,10 @@ pub record Staged (t u : Table) (i : ℕ) : Type 0 where
   pub moved : (j : ℕ) → j < i → inUse t j ≡ true → stepAt u (newNumber t j) ≡ stepMoved t j
   pub left : (k : ℕ) → newNumber t i ≤ k → k < i → stepAt u k ≡ stepFree
   pub rest : (k : ℕ) → i ≤ k → k < places → stepAt u k ≡ stepAt t k
+
+-- Each record holds the four exits of its step, and a table has no other exit as long as it has no entry (document 02, W12): with the records all is moved.
+no-entry : (p : ℕ) → p < entries → ⊥
+no-entry p l = omega arith
 
 -- the record of a free step
 blank-free : {t : Table} {i : ℕ} → Blank t i → stepAt t i ≡ stepFree
@@ -193,7 +198,7 @@ module _ {t u : Table} {i : ℕ} (f : Formed t) (g : Staged t u i) (place : i < 
       let same = ap (λ (x : ℕ × Fields). getD (x .1 .targets) e 0) (g .rest i (omega arith) place) in
       let here : targetOf u i e ≡ targetOf t i e =
       sym (getD-tabulate exits (targetOf u i) 0 e l) ∙ same ∙ getD-tabulate exits (targetOf t i) 0 e l in
-      rw here (target-place f i e l)
+      rw here (target-place f i e (own-exit i e l))
 
   module _ (numbers : List ℕ) (q : numbers ≡ tabulate places (newNumber t)) (v : inUse t i ≡ true) where
     number : (j : ℕ) → j < places → getD numbers j 0 ≡ newNumber t j
@@ -263,5 +268,5 @@ module _ {t u : Table} (w : Wired t) (g : Staged t u (t .capacity)) where
   staged-done s =
       let size = w .shape .quotas in
       let shape = with-numbers-shape (squeezed-shape t (t .capacity) (t .quotas) size) (t .capacity) (t .last) (t .quotas) size in
-      table-ext u (squeezedSteps t) s shape (g .capacity) (g .last) (g .quotas)
+      table-ext u (squeezedSteps t) s shape (g .capacity) (g .last) (g .quotas) (λ p l. absurd (no-entry p l))
       (λ k l. all-moved k l ∙ sym (with-numbers-step (squeezed t (t .capacity) (t .quotas)) (t .capacity) (t .last) (t .quotas) k))

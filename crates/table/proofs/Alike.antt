@@ -5,7 +5,7 @@ use mathlib.Core.Bool.{Bool, _&&_}
 use Prim.Native.Nat.{ℕ}
 use lib.Dec.{eqb}
 use Rattle.finite.proofs.Below.{any-ext}
-use Rattle.table.specs.Table.{Table, exits, inUse, targetOf, holds, leads, linked}
+use Rattle.table.specs.Table.{Table, exitsOf, inUse, targetOf, holds, leads, linked}
 
 pub record Alike (t u : Table) : Type 0 where
   pub capacity : u .capacity ≡ t .capacity
@@ -49,4 +49,4 @@ module _ {t u : Table} (a : Alike t u) where
   pub alike-linked : (i j : ℕ) → linked u i j ≡ linked t i j
   unfolding linked leads
   alike-linked i j =
-      any-ext exits _ _ (λ e l. ap₂ (λ (h : Bool) (x : ℕ). h && eqb x j) (alike-holds i e) (alike-target i e))
+      any-ext (exitsOf i) _ _ (λ e l. ap₂ (λ (h : Bool) (x : ℕ). h && eqb x j) (alike-holds i e) (alike-target i e))

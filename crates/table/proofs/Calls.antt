@@ -18,7 +18,7 @@ use Rattle.finite.proofs.Bools.{and-left, and-right, test, not-true-false, not-
 use Rattle.finite.proofs.Below.{eq-or-ne, find-ext}
 use Rattle.table.specs.declared.Answer.the-variants.{Given, Refused}
 use Rattle.table.specs.declared.Tried.the-variants.{Refused as TrialRefused}
-use Rattle.table.specs.Table.{Table, exits, cabinCount, inUse, targetOf, holds, stepsInUse}
+use Rattle.table.specs.Table.{Table, exits, exitsOf, cabinCount, inUse, targetOf, holds, stepsInUse}
 use Rattle.table.specs.Cabins.{atLimit, noneToSpare, charge, freeSteps}
 use Rattle.table.specs.Sound.{Sound, contentFits, sound}
 use Rattle.table.specs.Answer.{Outcome, notSound, tooShort, first, refusalOf, unless}
@@ -26,6 +26,7 @@ use Rattle.table.specs.Calls.{numberGiven, withStep, addRefusal, addTabl
 use Rattle.table.specs.Trial.{tryFrom, trialRefusal, trialCall}
 use Rattle.table.specs.Clear.{emptied, stops, repairOf, repaired, clearConditions, cleared, clearRefusal, clearCall}
 use Rattle.table.specs.Plan.{Plan, planOf, planNumber, replan, withTarget, planAdd, planLink, pruned, planClear, planAddRefusal, planLinkRefusal, planHoldTests, planClearRefusal, planClearIntoRefusal, planReadRefusal, planTrialRefusal}
+use Rattle.table.proofs.Places.{own-exit}
 use Rattle.table.proofs.Links.{Wired, sound-wired}
 use Rattle.table.proofs.Sound.{test-sound, sound-test}
 use Rattle.table.proofs.Formed.{sound-formed, formed-wired}
@@ -173,7 +174,7 @@ module _ {t : Table} (s : Sound t) where
       (next refl
       (λ _. next (ap not (sym (plan-used w holder)))
       (λ _. next refl
-      (λ l. next (sym (plan-holds w holder e (leb-false exits e l)))
+      (λ l. next (sym (plan-holds w holder e (own-exit holder e (leb-false exits e l))))
       (λ _. next refl
       (λ _. next (ap₂ eqb (sym (plan-count w)) (sym (plan-capacity t)))
       (λ _. next (ap (λ (f : ℕ → ℕ). atLimit (t .quotas) f cabin) (sym (plan-charge w)))
@@ -187,9 +188,9 @@ module _ {t : Table} (s : Sound t) where
       ∙ first-same
       (next (ap not (sym (plan-used w source)))
       (λ _. next refl
-      (λ l. next (ap not (sym (plan-holds w source e (leb-false exits e l))))
+      (λ l. next (ap not (sym (plan-holds w source e (own-exit source e (leb-false exits e l)))))
       (λ _. next (ap not (sym (plan-used w second)))
-      (λ _. next refl (λ x. next (sym (plan-holds w second f (leb-false exits f x))) (λ _. done)))))))
+      (λ _. next refl (λ x. next (sym (plan-holds w second f (own-exit second f (leb-false exits f x)))) (λ _. done)))))))
 
   pub clear-refusal : (i e : ℕ) → clearRefusal t i e ≡ planClearRefusal (planOf t) i e
   unfolding clearRefusal planClearRefusal
@@ -197,7 +198,7 @@ module _ {t : Table} (s : Sound t) where
       past-sound _
       ∙ first-same
       (next (ap not (sym (plan-used w i)))
-      (λ _. next refl (λ l. next (ap not (sym (plan-holds w i e (leb-false exits e l)))) (λ _. done))))
+      (λ _. next refl (λ l. next (ap not (sym (plan-holds w i e (own-exit i e (leb-false exits e l))))) (λ _. done))))
 
   pub into-refusal : (i e : ℕ) (short : Bool) → first (clearConditions t i e ++ ((short, tooShort) ∷ [])) ≡ planClearIntoRefusal (planOf t) short i e
   unfolding planClearRefusal planClearIntoRefusal first
@@ -218,7 +219,7 @@ module _ {t : Table} (s : Sound t) where
 pub record AddFits (t : Table) (holder e kind content cabin : ℕ) : Type 0 where
   pub shared : cabin < cabinCount
   pub used : inUse t holder ≡ true
-  pub exit : e < exits
+  pub exit : e < exitsOf holder
   pub empty : holds t holder e ≡ false
   pub fits : contentFits kind content ≡ true
   pub room : stepsInUse t ≡ t .capacity → ⊥
@@ -227,15 +228,15 @@ pub record AddFits (t : Table) (holder e kind content cabin : ℕ) : Type 0 wher
 
 pub record LinkFits (t : Table) (source e second f : ℕ) : Type 0 where
   pub used : inUse t source ≡ true
-  pub exit : e < exits
+  pub exit : e < exitsOf source
   pub filled : holds t source e ≡ true
   pub second-used : inUse t second ≡ true
-  pub second-exit : f < exits
+  pub second-exit : f < exitsOf second
   pub empty : holds t second f ≡ false
 
 pub record ClearFits (t : Table) (i e : ℕ) : Type 0 where
   pub used : inUse t i ≡ true
-  pub exit : e < exits
+  pub exit : e < exitsOf i
   pub filled : holds t i e ≡ true
 
 pub add-fits : (t : Table) (holder e kind content cabin : ℕ) → addRefusal t holder e kind content cabin ≡ 0 → AddFits t holder e kind content cabin
@@ -245,7 +246,7 @@ add-fits t holder e kind content cabin z =
     record {
       shared = leb-false cabinCount cabin (at 1);
       used = not-false-true _ (at 2);
-      exit = leb-false exits e (at 3);
+      exit = own-exit holder e (leb-false exits e (at 3));
       empty = at 4;
       fits = not-false-true _ (at 5);
       room = eqb-false _ _ (at 6);
@@ -259,10 +260,10 @@ link-fits t source e second f z =
     let at = first-zero _ z refl in
     record {
       used = not-false-true _ (at 1);
-      exit = leb-false exits e (at 2);
+      exit = own-exit source e (leb-false exits e (at 2));
       filled = not-false-true _ (at 3);
       second-used = not-false-true _ (at 4);
-      second-exit = leb-false exits f (at 5);
+      second-exit = own-exit second f (leb-false exits f (at 5));
       empty = at 6;
     }
 
@@ -270,7 +271,7 @@ pub clear-fits : (t : Table) (i e : ℕ) → clearRefusal t i e ≡ 0 → ClearF
 unfolding clearRefusal nonzero
 clear-fits t i e z =
     let at = first-zero _ z refl in
-    record { used = not-false-true _ (at 1); exit = leb-false exits e (at 2); filled = not-false-true _ (at 3) }
+    record { used = not-false-true _ (at 1); exit = own-exit i e (leb-false exits e (at 2)); filled = not-false-true _ (at 3) }
 
 module _ {t : Table} (s : Sound t) where
   pub number-plan : numberGiven (t .capacity) (t .last) (λ k. not (inUse t k)) ≡ planNumber (planOf t)
@@ -299,7 +300,7 @@ module _ {t : Table} (s : Sound t) where
         ∙ ap (λ (p : Plan). withTarget p holder e n) (plan-with-step t (sound-formed s) n kind content cabin (g .2) (g .1) (g .0) (f .fits) (f .shared))
         ∙ ap
         (λ (m : ℕ).
-        withTarget (replan (planOf t) m (set (planOf t .steps) m (some (record { kind = kind; content = content; targets = replicate exits 0; cabin = cabin })))) holder e m)
+        withTarget (replan (planOf t) m (set (planOf t .steps) m (some (record { kind = kind; content = content; targets = replicate (exitsOf m) 0; cabin = cabin })))) holder e m)
         number-plan
 
   module _ (source e second f : ℕ) (g : LinkFits t source e second f) where

@@ -5,7 +5,7 @@
 use mathlib.Core.Path.{_≡_, refl, sym, _∙_, ap}
 use mathlib.Core.Bool.{Bool, true, false, _&&_, not}
 use mathlib.Core.Logic.{_⊎_, inl, inr, ⊎-elim}
-use Prim.Native.Nat.{ℕ, _+_, _*_, _/_, _%_, _<_}
+use Prim.Native.Nat.{ℕ, _+_, _<_}
 use native.Mathlib.Omega.{arith}
 use lib.ListN.{getD, List·getD-eq-default}
 use lib.Dec.{eqb}
@@ -15,12 +15,13 @@ use Rattle.finite.specs.Reach.{Chain, start, then, marked, reach, reaches}
 use Rattle.finite.proofs.Bools.{and-intro, and-left, and-right, or-elim, or-false-left, clash, refute, test, same-test, not-true-false, not-false-true}
 use Rattle.finite.proofs.Below.{le-or-lt, count-ext, count-le, count-none, count-some, count-split, length-tabulate, getD-tabulate}
 use Rattle.finite.proofs.Reach.{chain-map, chain-keeps, reach-sound, reach-complete, reach-closed, reach-start, reach-below}
-use Rattle.table.specs.Table.{Table, exits, counters, inUse, kindOf, contentOf, ownBit, cabinOf, targetOf, linkBit, holds, strong, linked, stronglyLinked, countsAt, linksTo, stepsInUse, withLinks}
+use Rattle.table.specs.Table.{Table, exitsOf, exitPlaces, holderAt, exitAt, counters, inUse, kindOf, contentOf, ownBit, cabinOf, targetOf, linkBit, holds, strong, linked, stronglyLinked, countsAt, linksTo, stepsInUse, withLinks}
 use Rattle.table.specs.Sound.{Sound}
 use Rattle.table.specs.Calls.{relink}
 use Rattle.table.specs.Clear.{Repair, emptied, heldStrongly, stops, doubtful, repair, release, size}
+use Rattle.table.proofs.Places.{exit-at-below, exit-place-split}
 use Rattle.table.proofs.Links.{Wired, sound-wired, holder-used, target-holds, empty-target, exit-linked, holds-target, strong-holds, bit-strong, strongly-exit, exit-strongly, strongly-linked, linked-used, linked-below}
-use Rattle.table.proofs.Relink.{exit-place-split, relink-target}
+use Rattle.table.proofs.Relink.{relink-target}
 use Rattle.table.proofs.Formed.{Formed, at-exit, sound-formed, formed-wired, formed-place, formed-below, formed-relink}
 use Rattle.table.proofs.Spine.{Spine, sound-spine, spine-sound, spine-fewer, spine-ext, strong-below}
 use Rattle.table.proofs.Cabins.{Shares, sound-shares, shares-fewer}
@@ -54,7 +55,7 @@ pub record Cleared (u : Table) (doubts freed : ℕ) (v : Table) : Type 0 where
   pub content : (k : ℕ) → inUse v k ≡ true → contentOf v k ≡ contentOf u k
   pub cabin : (k : ℕ) → inUse v k ≡ true → cabinOf v k ≡ cabinOf u k
   pub quotas : v .quotas ≡ u .quotas
-  pub target : (k e : ℕ) → e < exits → inUse v k ≡ true → targetOf v k e ≡ targetOf u k e
+  pub target : (k e : ℕ) → e < exitsOf k → inUse v k ≡ true → targetOf v k e ≡ targetOf u k e
   pub doubtfuls : doubts ≡ count (u .capacity) (λ k. inUse u k && not (reaches (stronglyLinked u) (u .capacity) 0 k))
   pub fall : stepsInUse v + freed ≡ stepsInUse u
 
@@ -72,7 +73,7 @@ module _ (t : Table) (i e : ℕ) where
   unfolding stepsInUse inUse emptied relink withLinks
   emptied-steps = refl
 
-module _ (t : Table) (s : Sound t) (i e : ℕ) (ui : inUse t i ≡ true) (le : e < exits) (h : holds t i e ≡ true) where
+module _ (t : Table) (s : Sound t) (i e : ℕ) (ui : inUse t i ≡ true) (le : e < exitsOf i) (h : holds t i e ≡ true) where
   abbrev u : Table
   u = emptied t i e
 
@@ -98,7 +99,7 @@ module _ (t : Table) (s : Sound t) (i e : ℕ) (ui : inUse t i ≡ true) (le : e
   unfolding emptied
   emptied-strongly a b l = let r = strongly-exit t a b l in at a b (r .0) (r .1) (r .2) (r .3)
     where
-      at : (a b f : ℕ) → f < exits → strong t a f ≡ true → targetOf t a f ≡ b →
+      at : (a b f : ℕ) → f < exitsOf a → strong t a f ≡ true → targetOf t a f ≡ b →
           (stronglyLinked u a b ≡ true) ⊎ ((b ≡ targetOf t i e) × (strong t i e ≡ true))
       at a b f l x q =
           ⊎-elim (λ (p : (a ≡ i) × (f ≡ e)). inr (sym (rw (p .0, p .1) at q), rw (p .0, p .1) at x))
@@ -113,11 +114,11 @@ module _ (t : Table) (s : Sound t) (i e : ℕ) (ui : inUse t i ≡ true) (le : e
       let b = ownBit u j in
       let lb : b < counters = g .own j (emptied-used t i e j ∙ uj) in
       let some : 0 < linksTo u j b = rw (sym (g .exact j b (formed-place g j (emptied-used t i e j ∙ uj)) lb)) (ltb-true _ _ x) in
-      let p = count-some (u .capacity * exits) _ some in
+      let p = count-some (exitPlaces (u .capacity)) _ some in
       let both = and-left (not (eqb j 0) && eqb (getD (u .targets) (p .0) 0) j) _ (p .2) in
-      let a = p .0 / exits in
-      let f = p .0 % exits in
-      let lf : f < exits = omega arith in
+      let a = holderAt (p .0) in
+      let f = exitAt (p .0) in
+      let lf : f < exitsOf a = exit-at-below (p .0) in
       let at : targetOf u a f ≡ j = ap (λ (q : ℕ). getD (u .targets) q 0) (exit-place-split (p .0)) ∙ eqb-true _ _ (and-right (not (eqb j 0)) _ both) in
       let bit : linkBit u a f ≡ b = ap (λ (q : ℕ). getD (u .bits) q 0) (exit-place-split (p .0)) ∙ eqb-true _ _ (and-right (not (eqb j 0) && eqb (getD (u .targets) (p .0) 0) j) _ (p .2)) in
       let filled = target-holds u a f (λ z. d (sym at ∙ z)) in
@@ -264,7 +265,7 @@ module _ (t : Table) (s : Sound t) (i e : ℕ) (ui : inUse t i ≡ true) (le : e
       (and-left (inUse (ended .table) k) _ b, not-true-false _ (and-right (inUse (ended .table) k) _ b))
 
   -- a link out of a kept step is what it was, and so is its strength
-  kept-strong : (a f : ℕ) → f < exits → inUse v a ≡ true → strong v a f ≡ strong (ended .table) a f
+  kept-strong : (a f : ℕ) → f < exitsOf a → inUse v a ≡ true → strong v a f ≡ strong (ended .table) a f
   kept-strong a f l y =
       let k = kept-used a y in
       let w = repaired-ended .repairing .formed in

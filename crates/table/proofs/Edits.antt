@@ -13,7 +13,7 @@ use lib.Dec.{eqb}
 use borrow.Author.Tests.{eqb-true, eqb-false, eq-eqb, ne-eqb, lt-ltb, le-ltb}
 use Rattle.finite.proofs.Bools.{and-left, and-right, clash, refute, same-test, or-left, or-right, or-elim, not-true-false}
 use Rattle.finite.proofs.Below.{le-or-lt, eq-or-ne, count-none, count-gap, walk, walk-add, find-reaches, find-keeps}
-use Rattle.table.specs.Table.{Table, places, exits, counters, cabinCount, quotaNumbers, exitPlace, counterPlace, inUse, kindOf, contentOf, ownBit, cabinOf, targetOf, linkBit, counterOf, holds, strong, leads, stronglyLinked, countsAt, linksTo, stepsInUse, withLinks, withSteps}
+use Rattle.table.specs.Table.{Table, places, exitsOf, exitPlaces, counters, cabinCount, quotaNumbers, exitPlace, counterPlace, inUse, kindOf, contentOf, ownBit, cabinOf, targetOf, linkBit, counterOf, holds, strong, leads, stronglyLinked, countsAt, linksTo, stepsInUse, withLinks, withSteps}
 use Rattle.table.specs.Cabins.{listFits, atLimit, noneToSpare, charge, freeSteps}
 use Rattle.table.specs.Sound.{Blank, Sound, kindFits, contentFits}
 use Rattle.table.specs.Calls.{freshTable, after, numberGiven, relink, withStep, addTable, weakBit, linkTable}
@@ -33,22 +33,22 @@ strong-same t u k f a b c = rw (a, b, c)
 pub weak-bit : (t : Table) (i e : ℕ) → (linkBit t i e ≡ ownBit t (targetOf t i e) → ⊥) → strong t i e ≡ false
 weak-bit t i e d = refute (strong t i e) (λ h. d (strong-bit t i e h))
 
-module _ (t : Table) (g : Formed t) (i e j b : ℕ) (u : inUse t i ≡ true) (le : e < exits) where
-  pub relink-strong-other : (k f : ℕ) → f < exits → ((k ≡ i) × (f ≡ e) → ⊥) → strong (relink t i e j b) k f ≡ strong t k f
+module _ (t : Table) (g : Formed t) (i e j b : ℕ) (u : inUse t i ≡ true) (le : e < exitsOf i) where
+  pub relink-strong-other : (k f : ℕ) → f < exitsOf k → ((k ≡ i) × (f ≡ e) → ⊥) → strong (relink t i e j b) k f ≡ strong t k f
   relink-strong-other k f l d =
       strong-same t (relink t i e j b) k f (relink-target-other t (g .shape) i e j b (formed-place g i u) le k f l d)
       (relink-bit-other t (g .shape) i e j b (formed-place g i u) le k f l d)
       (unfold relink withLinks ownBit in refl)
 
   -- another exit's strong link stays
-  pub relink-strongly-other : (k m f : ℕ) → f < exits → ((k ≡ i) × (f ≡ e) → ⊥) → strong t k f ≡ true → targetOf t k f ≡ m →
+  pub relink-strongly-other : (k m f : ℕ) → f < exitsOf k → ((k ≡ i) × (f ≡ e) → ⊥) → strong t k f ≡ true → targetOf t k f ≡ m →
       stronglyLinked (relink t i e j b) k m ≡ true
   relink-strongly-other k m f l d h q =
       exit-strongly (relink t i e j b) k m f l (relink-strong-other k f l d ∙ h)
       (relink-target-other t (g .shape) i e j b (formed-place g i u) le k f l d ∙ q)
 
   -- a strong link afterwards is the new one, or was there
-  strongly-at : (k m f : ℕ) → f < exits → strong (relink t i e j b) k f ≡ true → targetOf (relink t i e j b) k f ≡ m →
+  strongly-at : (k m f : ℕ) → f < exitsOf k → strong (relink t i e j b) k f ≡ true → targetOf (relink t i e j b) k f ≡ m →
       ((k ≡ i) × (m ≡ j) × (strong (relink t i e j b) i e ≡ true)) ⊎ (stronglyLinked t k m ≡ true)
   strongly-at k m f l h q =
       ⊎-elim
@@ -74,8 +74,8 @@ unfolding relink withLinks inUse cabinOf
 shares-relink t i e j b g h s = shares-fewer g h refl refl (λ k u. u) (λ k u. refl) s
 
 -- Link: the copy is weak, so the strong links are what they were
-module _ (t : Table) (s : Sound t) (i e k f : ℕ) (ui : inUse t i ≡ true) (le : e < exits) (h : holds t i e ≡ true)
-    (uk : inUse t k ≡ true) (lf : f < exits) (free : holds t k f ≡ false) where
+module _ (t : Table) (s : Sound t) (i e k f : ℕ) (ui : inUse t i ≡ true) (le : e < exitsOf i) (h : holds t i e ≡ true)
+    (uk : inUse t k ≡ true) (lf : f < exitsOf k) (free : holds t k f ≡ false) where
   link-fit : Fit t (targetOf t i e) (weakBit t (targetOf t i e))
   unfolding weakBit
   link-fit = inr (s .targets i e ui le h, holds-target t i e h, omega arith)
@@ -275,18 +275,19 @@ module _ (t : Table) (g : Formed t) (n kind content cabin : ℕ) (low : n < t .c
         own = each (λ i. ownBit t i < 2) (rw (blank .own) (omega arith)) (g .own);
         bits =
             λ i e v l.
-            each (λ i. linkBit t i e < 2) (rw (blank .bits e l) (omega arith)) (λ i v. g .bits i e v l) i v;
+            each (λ i. e < exitsOf i → linkBit t i e < 2) (λ x. rw (blank .bits e x) (omega arith)) (λ i v x. g .bits i e v x) i v l;
         targets =
             λ i e v l h.
-            each (λ i. holds t i e ≡ true → inUse (withStep t n kind content cabin) (targetOf t i e) ≡ true)
-            (λ f. absurd (holds-target t n e f (blank .targets e l)))
-            (λ i v f. with-step-kept (targetOf t i e) (g .targets i e v l f))
+            each (λ i. e < exitsOf i → holds t i e ≡ true → inUse (withStep t n kind content cabin) (targetOf t i e) ≡ true)
+            (λ x f. absurd (holds-target t n e f (blank .targets e x)))
+            (λ i v x f. with-step-kept (targetOf t i e) (g .targets i e v x f))
             i
             v
+            l
             h;
         empty =
             λ i e v l h.
-            each (λ i. holds t i e ≡ false → linkBit t i e ≡ 0) (λ f. blank .bits e l) (λ i v f. g .empty i e v l f) i v h;
+            each (λ i. e < exitsOf i → holds t i e ≡ false → linkBit t i e ≡ 0) (λ x f. blank .bits e x) (λ i v x f. g .empty i e v x f) i v l h;
         free =
             λ i l h.
             let r = still-free i h in
@@ -309,7 +310,7 @@ module _ (t : Table) (g : Formed t) (n kind content cabin : ℕ) (low : n < t .c
       }
 
 -- Add: the new step hangs by a strong link from its holder, and leads nowhere
-module _ (t : Table) (s : Sound t) (i e kind content cabin n : ℕ) (ui : inUse t i ≡ true) (le : e < exits) (empty : holds t i e ≡ false)
+module _ (t : Table) (s : Sound t) (i e kind content cabin n : ℕ) (ui : inUse t i ≡ true) (le : e < exitsOf i) (empty : holds t i e ≡ false)
     (fits : contentFits kind content ≡ true) (shared : cabin < cabinCount) (limit : atLimit (t .quotas) (charge t) cabin ≡ false)
     (spare : noneToSpare (t .quotas) (charge t) (freeSteps t) cabin ≡ false) (low : n < t .capacity) (nonzero : n ≡ 0 → ⊥) (free : inUse t n ≡ false) where
   abbrev stepped : Table
@@ -429,7 +430,7 @@ module _ (t : Table) (s : Sound t) (i e kind content cabin n : ℕ) (ui : inUse 
 unlinked-count : (t : Table) (k b : ℕ) → ((p : ℕ) → getD (t .targets) p 0 ≡ 0) → linksTo t k b ≡ 0
 unfolding linksTo countsAt
 unlinked-count t k b z =
-    count-none (t .capacity * exits) _
+    count-none (exitPlaces (t .capacity)) _
     (λ p l.
     refute _
     (λ h.
@@ -455,7 +456,7 @@ module _ (c : ℕ) (q : List ℕ) where
 
   pub fresh-target : (i e : ℕ) → targetOf (freshTable c q) i e ≡ 0
   unfolding freshTable targetOf
-  fresh-target i e = getD-zeros (places * exits) (exitPlace i e)
+  fresh-target i e = getD-zeros (exitPlaces places) (exitPlace i e)
 
   fresh-unlinked : (i j : ℕ) → stronglyLinked (freshTable c q) i j ≡ true → ⊥
   fresh-unlinked i j h =
@@ -485,9 +486,9 @@ module _ (c : ℕ) (q : List ℕ) where
         alarm = refl;
         kinds = λ i h. let z = fresh-used i h in rw z refl;
         own = λ i h. rw (getD-zeros places i) (omega arith);
-        bits = λ i e h l. rw (getD-zeros (places * exits) (exitPlace i e)) (omega arith);
+        bits = λ i e h l. rw (getD-zeros (exitPlaces places) (exitPlace i e)) (omega arith);
         targets = λ i e h l f. absurd (holds-target (freshTable c q) i e f (fresh-target i e));
-        empty = λ i e h l f. getD-zeros (places * exits) (exitPlace i e);
+        empty = λ i e h l f. getD-zeros (exitPlaces places) (exitPlace i e);
         free =
             λ i l f.
             record {
@@ -496,7 +497,7 @@ module _ (c : ℕ) (q : List ℕ) where
               content = getD-zeros places i;
               own = getD-zeros places i;
               targets = λ e x. fresh-target i e;
-              bits = λ e x. getD-zeros (places * exits) (exitPlace i e);
+              bits = λ e x. getD-zeros (exitPlaces places) (exitPlace i e);
               counts = λ b x. getD-zeros (places * counters) (counterPlace i b);
               cabin = getD-zeros places i;
             };
@@ -506,7 +507,7 @@ module _ (c : ℕ) (q : List ℕ) where
       }
     where
       none : (k b : ℕ) → linksTo (freshTable c q) k b ≡ 0
-      none k b = unlinked-count (freshTable c q) k b (λ p. unfold freshTable in getD-zeros (places * exits) p)
+      none k b = unlinked-count (freshTable c q) k b (λ p. unfold freshTable in getD-zeros (exitPlaces places) p)
 
   pub sound-fresh : 1 ≤ c → c ≤ places → listFits c q ≡ true → Sound (freshTable c q)
   unfolding listFits

@@ -8,7 +8,7 @@
 use mathlib.Core.Path.{_≡_, refl, sym, _∙_, ap, ap₂}
 use mathlib.Core.Bool.{Bool, true, false, _&&_, not}
 use mathlib.Core.Logic.{⊎-elim}
-use Prim.Native.Nat.{ℕ, _+_, _*_, _/_, _%_, _≤_, _<_}
+use Prim.Native.Nat.{ℕ, _+_, _*_, _≤_, _<_}
 use native.Mathlib.Nat.{mul-one}
 use native.Mathlib.Omega.{arith}
 use lib.ListN.{getD}
@@ -17,29 +17,29 @@ use borrow.Author.Tests.{eqb-true, eq-eqb, ltb-true, lt-ltb}
 use Rattle.finite.specs.Below.{count}
 use Rattle.finite.specs.Reach.{Chain, reaches}
 use Rattle.finite.proofs.Bools.{clash, refute, test, same-test}
-use Rattle.finite.proofs.Below.{le-or-lt}
+use Rattle.finite.proofs.Below.{le-or-lt, eq-or-ne}
 use Rattle.finite.proofs.Reach.{chain-named, chain-unnamed, reach-named}
 use Rattle.finite.proofs.Packed.{count-packed, count-past}
-use Rattle.table.specs.Table.{Table, exits, exitPlace, inUse, ownBit, targetOf, linkBit, holds, strong, linked, stronglyLinked, countsAt, linksTo, stepsInUse}
+use Rattle.table.specs.Table.{Table, exitPlace, exitsOf, exitPlaces, holderAt, exitAt, inUse, ownBit, targetOf, linkBit, holds, strong, linked, stronglyLinked, countsAt, linksTo, stepsInUse}
 use Rattle.table.specs.Squeeze.{newNumber, Renumbered}
+use Rattle.table.proofs.Places.{count-moved, entries-none, exit-place-step, exit-at-below, exit-place-split}
 use Rattle.table.proofs.Links.{Wired, counts-there, holds-target, target-holds, empty-target, target-empty, strong-holds, linked-exit, exit-linked, strongly-exit, exit-strongly, used-below, holder-used, linked-below}
-use Rattle.table.proofs.Relink.{exit-place-split}
 use Rattle.table.proofs.Spine.{strong-below}
 use Rattle.table.proofs.Renumber.{new-zero, new-rises, new-once, new-step, new-below}
 
 -- an exit that is counted is that of a step in use
-counts-holder : {t : Table} → Wired t → (j b p : ℕ) → countsAt t j b p ≡ true → inUse t (p / exits) ≡ true
+counts-holder : {t : Table} → Wired t → (j b p : ℕ) → countsAt t j b p ≡ true → inUse t (holderAt p) ≡ true
 unfolding targetOf
 counts-holder {t} w j b p h =
     let c = counts-there t j b p h in
-    let here : targetOf t (p / exits) (p % exits) ≡ j = ap (λ (q : ℕ). getD (t .targets) q 0) (exit-place-split p) ∙ c .1 in
-    holder-used w (p / exits) (p % exits) (omega arith) (target-holds t (p / exits) (p % exits) (λ z. c .0 (sym here ∙ z)))
+    let here : targetOf t (holderAt p) (exitAt p) ≡ j = ap (λ (q : ℕ). getD (t .targets) q 0) (exit-place-split p) ∙ c .1 in
+    holder-used w (holderAt p) (exitAt p) (exit-at-below p) (target-holds t (holderAt p) (exitAt p) (λ z. c .0 (sym here ∙ z)))
 
 pub record Follows (t u : Table) : Type 0 where
   pub used : (k : ℕ) → inUse u k ≡ ltb k (stepsInUse t)
-  pub target : (i e : ℕ) → inUse t i ≡ true → e < exits → targetOf u (newNumber t i) e ≡ newNumber t (targetOf t i e)
+  pub target : (i e : ℕ) → inUse t i ≡ true → e < exitsOf i → targetOf u (newNumber t i) e ≡ newNumber t (targetOf t i e)
   pub own : (i : ℕ) → inUse t i ≡ true → ownBit u (newNumber t i) ≡ ownBit t i
-  pub bit : (i e : ℕ) → inUse t i ≡ true → e < exits → linkBit u (newNumber t i) e ≡ linkBit t i e
+  pub bit : (i e : ℕ) → inUse t i ≡ true → e < exitsOf i → linkBit u (newNumber t i) e ≡ linkBit t i e
 
 pub renumbered-follows : {t u : Table} → Renumbered t u → Follows t u
 renumbered-follows r = record { used = r .used; target = r .target; own = r .own; bit = r .bit }
@@ -47,6 +47,13 @@ renumbered-follows r = record { used = r .used; target = r .target; own = r .own
 -- no step but 0 becomes step 0
 pub new-nonzero : (t : Table) → inUse t 0 ≡ true → (j : ℕ) → (j ≡ 0 → ⊥) → newNumber t j ≡ 0 → ⊥
 new-nonzero t alarm j d z = let l = new-rises t 0 j (omega arith) alarm in omega (arith, new-zero t)
+
+-- a step has as many exits under its new number
+pub new-exits : (t : Table) → inUse t 0 ≡ true → (i : ℕ) → exitsOf (newNumber t i) ≡ exitsOf i
+new-exits t alarm i =
+    ⊎-elim (λ (z : i ≡ 0). ap (λ (k : ℕ). exitsOf k) (ap (newNumber t) z ∙ new-zero t ∙ sym z))
+    (λ d. let n = entries-none (newNumber t i) (new-nonzero t alarm i d) in let m = entries-none i d in omega arith)
+    (eq-or-ne i 0)
 
 module _ {t u : Table} (w : Wired t) (alarm : inUse t 0 ≡ true) (f : Follows t u) where
   pub new-used-step : (i : ℕ) → inUse t i ≡ true → inUse u (newNumber t i) ≡ true
@@ -56,7 +63,7 @@ module _ {t u : Table} (w : Wired t) (alarm : inUse t 0 ≡ true) (f : Follows t
   pub used-new-step : (k : ℕ) → inUse u k ≡ true → (i : ℕ) × (inUse t i ≡ true) × (newNumber t i ≡ k)
   used-new-step k y = new-step t k (ltb-true k (stepsInUse t) (sym (f .used k) ∙ y))
 
-  pub follow-holds : (i e : ℕ) → inUse t i ≡ true → e < exits → holds u (newNumber t i) e ≡ holds t i e
+  pub follow-holds : (i e : ℕ) → inUse t i ≡ true → e < exitsOf i → holds u (newNumber t i) e ≡ holds t i e
   follow-holds i e x l =
       ⊎-elim
       (λ (h : holds t i e ≡ true).
@@ -66,7 +73,7 @@ module _ {t u : Table} (w : Wired t) (alarm : inUse t 0 ≡ true) (f : Follows t
       (test (holds t i e))
 
   -- a link has its bit, and its target has its own: it stays strong, or weak
-  pub follow-strong : (i e : ℕ) → inUse t i ≡ true → e < exits → strong u (newNumber t i) e ≡ strong t i e
+  pub follow-strong : (i e : ℕ) → inUse t i ≡ true → e < exitsOf i → strong u (newNumber t i) e ≡ strong t i e
   unfolding strong
   follow-strong i e x l =
       ⊎-elim
@@ -81,28 +88,29 @@ module _ {t u : Table} (w : Wired t) (alarm : inUse t 0 ≡ true) (f : Follows t
 
   -- a relation of two steps by an exit that passes p, as `linked` is by `holds` and `stronglyLinked` by `strong`
   module _ (E p : Table → ℕ → ℕ → Bool)
-      (exit : (t : Table) (i j : ℕ) → E t i j ≡ true → (e : ℕ) × (e < exits) × (p t i e ≡ true) × (targetOf t i e ≡ j))
-      (joined : (t : Table) (i j e : ℕ) → e < exits → p t i e ≡ true → targetOf t i e ≡ j → E t i j ≡ true)
+      (exit : (t : Table) (i j : ℕ) → E t i j ≡ true → (e : ℕ) × (e < exitsOf i) × (p t i e ≡ true) × (targetOf t i e ≡ j))
+      (joined : (t : Table) (i j e : ℕ) → e < exitsOf i → p t i e ≡ true → targetOf t i e ≡ j → E t i j ≡ true)
       (held : (i e : ℕ) → p t i e ≡ true → holds t i e ≡ true)
-      (same : (i e : ℕ) → inUse t i ≡ true → e < exits → p u (newNumber t i) e ≡ p t i e) where
+      (same : (i e : ℕ) → inUse t i ≡ true → e < exitsOf i → p u (newNumber t i) e ≡ p t i e) where
     -- a link under the new numbers, and back
     there : (i j : ℕ) → Used i → E t i j ≡ true → Used j × (E u (newNumber t i) (newNumber t j) ≡ true)
     there i j x h =
         let r = exit t i j h in
         let e = r .0 in (
           rw (r .3) at (w .targets i e x (r .1) (held i e (r .2))),
-          joined u (newNumber t i) (newNumber t j) e (r .1) (same i e x (r .1) ∙ r .2) (f .target i e x (r .1) ∙ ap (newNumber t) (r .3)),
+          joined u (newNumber t i) (newNumber t j) e (omega (arith, r .1, new-exits t alarm i)) (same i e x (r .1) ∙ r .2) (f .target i e x (r .1) ∙ ap (newNumber t) (r .3)),
         )
 
     back : (i k : ℕ) → Used i → E u (newNumber t i) k ≡ true → (j : ℕ) × Used j × (k ≡ newNumber t j) × (E t i j ≡ true)
     back i k x h =
         let r = exit u (newNumber t i) k h in
         let e = r .0 in
-        let y = sym (same i e x (r .1)) ∙ r .2 in (
+        let l : e < exitsOf i = omega (arith, r .1, new-exits t alarm i) in
+        let y = sym (same i e x l) ∙ r .2 in (
           targetOf t i e,
-          w .targets i e x (r .1) (held i e y),
-          sym (r .3) ∙ f .target i e x (r .1),
-          joined t i (targetOf t i e) e (r .1) y refl,
+          w .targets i e x l (held i e y),
+          sym (r .3) ∙ f .target i e x l,
+          joined t i (targetOf t i e) e l y refl,
         )
 
     -- so step 0 reaches what it reached
@@ -131,12 +139,12 @@ module _ {t u : Table} (w : Wired t) (alarm : inUse t 0 ≡ true) (f : Follows t
   new-same i j x y = same-test _ _ (λ h. eq-eqb i j (new-once t i j x y (eqb-true _ _ h))) (λ h. eq-eqb _ _ (ap (newNumber t) (eqb-true i j h)))
 
   -- what an exit of a step in use leads to is in use, step 0 for an empty one too
-  target-used : (i e : ℕ) → inUse t i ≡ true → e < exits → inUse t (targetOf t i e) ≡ true
+  target-used : (i e : ℕ) → inUse t i ≡ true → e < exitsOf i → inUse t (targetOf t i e) ≡ true
   target-used i e x l =
       ⊎-elim (λ (h : holds t i e ≡ true). w .targets i e x l h) (λ (h : holds t i e ≡ false). rw (empty-target t i e h) alarm) (test (holds t i e))
 
   -- an exit of a step in use counts for a counter as it did, and one of a free step for none
-  follow-counts : (j b i e : ℕ) → inUse t j ≡ true → inUse t i ≡ true → e < exits →
+  follow-counts : (j b i e : ℕ) → inUse t j ≡ true → inUse t i ≡ true → e < exitsOf i →
       countsAt u (newNumber t j) b (exitPlace (newNumber t i) e) ≡ countsAt t j b (exitPlace i e)
   unfolding countsAt targetOf linkBit
   follow-counts j b i e y x l =
@@ -180,19 +188,16 @@ module _ {t u : Table} (w : Wired t) (alarm : inUse t 0 ≡ true) (f : Follows t
     follow-used = follow-count (inUse t) (inUse u) (λ i x. new-used-step i x ∙ sym x) (λ i x. x) (λ k y. y)
 
     pub follow-links : (j b : ℕ) → inUse t j ≡ true → linksTo u (newNumber t j) b ≡ linksTo t j b
-    unfolding linksTo newNumber stepsInUse exitPlace
+    unfolding linksTo newNumber stepsInUse
     follow-links j b y =
-        count-past (stepsInUse t * exits) (u .capacity * exits) (countsAt u (newNumber t j) b) (let l = fits in omega arith)
+        count-past (exitPlaces (stepsInUse t)) (exitPlaces (u .capacity)) (countsAt u (newNumber t j) b) (let l = fits in omega arith)
         (λ p l.
         refute (countsAt u (newNumber t j) b p)
         (λ h.
         let k = counts-holder v (newNumber t j) b p h in
-        let a = ltb-true (p / exits) (stepsInUse t) (sym (f .used (p / exits)) ∙ k) in
+        let a = ltb-true (holderAt p) (stepsInUse t) (sym (f .used (holderAt p)) ∙ k) in
         omega arith))
-        ∙ count-packed exits (t .capacity) (inUse t) (countsAt t j b) (countsAt u (newNumber t j) b)
-        (λ i e _ l x. follow-counts j b i e y x l)
-        (λ i e _ l x.
-        refute (countsAt t j b (i * exits + e))
-        (λ h.
-        let q : (i * exits + e) / exits ≡ i = omega arith in
-        clash (rw q at (counts-holder w j b (i * exits + e) h)) x))
+        ∙ count-moved (t .capacity) (inUse t) (countsAt t j b) (countsAt u (newNumber t j) b) (omega (arith, used-below w 0 alarm)) alarm
+        (λ i e l x. follow-counts j b i e y x l)
+        (λ i e l x.
+        refute (countsAt t j b (exitPlace i e)) (λ h. clash (rw (exit-place-step i e l) at (counts-holder w j b (exitPlace i e) h)) x))

@@ -5,7 +5,7 @@
 use mathlib.Core.Path.{_≡_, sym, _∙_, ap}
 use mathlib.Core.Bool.{true, false, _&&_, not}
 use mathlib.Core.Logic.{_⊎_, inl, inr, ⊎-elim}
-use Prim.Native.Nat.{ℕ, _*_, _-_, _/_, _%_, _≤_, _<_}
+use Prim.Native.Nat.{ℕ, _-_, _≤_, _<_}
 use native.Mathlib.Omega.{arith}
 use lib.ListN.{length, getD, length-set}
 use lib.Seq.{getD-set-same, getD-set-other}
@@ -13,12 +13,13 @@ use lib.Dec.{eqb}
 use borrow.Author.Tests.{eqb-true, eqb-false}
 use Rattle.finite.proofs.Bools.{and-left, and-right, clash, refute, test, not-true-false}
 use Rattle.finite.proofs.Below.{eq-or-ne, count-none}
-use Rattle.table.specs.Table.{Table, places, exits, cabinCount, inUse, kindOf, contentOf, ownBit, cabinOf, targetOf, linkBit, counterOf, holds, countsAt, linksTo, withLinks, withSteps}
+use Rattle.table.specs.Table.{Table, places, exitsOf, exitPlaces, holderAt, exitAt, cabinCount, inUse, kindOf, contentOf, ownBit, cabinOf, targetOf, linkBit, counterOf, holds, countsAt, linksTo, withLinks, withSteps}
 use Rattle.table.specs.Sound.{Shape, Blank, Sound, kindFits}
 use Rattle.table.specs.Calls.{relink}
 use Rattle.table.specs.Clear.{flipped}
+use Rattle.table.proofs.Places.{exit-at-below, exit-place-split}
 use Rattle.table.proofs.Links.{Wired, sound-wired, used-below, used-place, holder-used, holds-target, target-holds, empty-target, target-empty}
-use Rattle.table.proofs.Relink.{Exact, exit-place-split, relink-shape, relink-target, relink-bit, relink-target-other, relink-bit-other, relink-exact}
+use Rattle.table.proofs.Relink.{Exact, relink-shape, relink-target, relink-bit, relink-target-other, relink-bit-other, relink-exact}
 
 pub record Formed (t : Table) : Type 0 where
   pub shape : Shape t
@@ -29,35 +30,35 @@ pub record Formed (t : Table) : Type 0 where
   pub alarm : inUse t 0 ≡ true
   pub kinds : (i : ℕ) → inUse t i ≡ true → kindFits i (kindOf t i) (contentOf t i) ≡ true
   pub own : (i : ℕ) → inUse t i ≡ true → ownBit t i < 2
-  pub bits : (i e : ℕ) → inUse t i ≡ true → e < exits → linkBit t i e < 2
-  pub targets : (i e : ℕ) → inUse t i ≡ true → e < exits → holds t i e ≡ true → inUse t (targetOf t i e) ≡ true
-  pub empty : (i e : ℕ) → inUse t i ≡ true → e < exits → holds t i e ≡ false → linkBit t i e ≡ 0
+  pub bits : (i e : ℕ) → inUse t i ≡ true → e < exitsOf i → linkBit t i e < 2
+  pub targets : (i e : ℕ) → inUse t i ≡ true → e < exitsOf i → holds t i e ≡ true → inUse t (targetOf t i e) ≡ true
+  pub empty : (i e : ℕ) → inUse t i ≡ true → e < exitsOf i → holds t i e ≡ false → linkBit t i e ≡ 0
   pub free : (i : ℕ) → i < places → inUse t i ≡ false → Blank t i
   pub cabins : (i : ℕ) → inUse t i ≡ true → cabinOf t i < cabinCount
   pub alarmCabin : cabinOf t 0 ≡ 0
   pub exact : Exact t
 
 -- no exit leads to k: no link to it is counted
-pub none-lead : (t : Table) (k c : ℕ) → ((i e : ℕ) → e < exits → holds t i e ≡ true → targetOf t i e ≡ k → ⊥) → linksTo t k c ≡ 0
+pub none-lead : (t : Table) (k c : ℕ) → ((i e : ℕ) → e < exitsOf i → holds t i e ≡ true → targetOf t i e ≡ k → ⊥) → linksTo t k c ≡ 0
 unfolding linksTo countsAt targetOf
 none-lead t k c alone =
-    count-none (t .capacity * exits) _
+    count-none (exitPlaces (t .capacity)) _
     (λ p l.
     refute (countsAt t k c p)
     (λ h.
     let both = and-left (not (eqb k 0) && eqb (getD (t .targets) p 0) k) _ h in
     let same : getD (t .targets) p 0 ≡ k = eqb-true _ _ (and-right (not (eqb k 0)) _ both) in
     let nonzero : k ≡ 0 → ⊥ = eqb-false k 0 (not-true-false _ (and-left (not (eqb k 0)) _ both)) in
-    let here : targetOf t (p / exits) (p % exits) ≡ k = ap (λ (q : ℕ). getD (t .targets) q 0) (exit-place-split p) ∙ same in
-    alone (p / exits) (p % exits) (omega arith) (target-holds t (p / exits) (p % exits) (λ z. nonzero (sym here ∙ z))) here))
+    let here : targetOf t (holderAt p) (exitAt p) ≡ k = ap (λ (q : ℕ). getD (t .targets) q 0) (exit-place-split p) ∙ same in
+    alone (holderAt p) (exitAt p) (exit-at-below p) (target-holds t (holderAt p) (exitAt p) (λ z. nonzero (sym here ∙ z))) here))
 
 -- where links lead to steps in use alone, no link leads to a free step
-pub no-links : (t : Table) → ((i e : ℕ) → e < exits → holds t i e ≡ true → inUse t (targetOf t i e) ≡ true) →
+pub no-links : (t : Table) → ((i e : ℕ) → e < exitsOf i → holds t i e ≡ true → inUse t (targetOf t i e) ≡ true) →
     (k c : ℕ) → inUse t k ≡ false → linksTo t k c ≡ 0
 no-links t lead k c f = none-lead t k c (λ i e l h q. clash (rw q at (lead i e l h)) f)
 
 -- a held exit leads to a step in use
-pub lead-used : {t : Table} → Wired t → (i e : ℕ) → e < exits → holds t i e ≡ true → inUse t (targetOf t i e) ≡ true
+pub lead-used : {t : Table} → Wired t → (i e : ℕ) → e < exitsOf i → holds t i e ≡ true → inUse t (targetOf t i e) ≡ true
 lead-used w i e l h = w .targets i e (holder-used w i e l h) l h
 
 pub sound-formed : {t : Table} → Sound t → Formed t
@@ -104,11 +105,11 @@ pub at-exit : (i e k f : ℕ) → ((k ≡ i) × (f ≡ e)) ⊎ ((k ≡ i) × (f 
 at-exit i e k f =
     ⊎-elim (λ a. ⊎-elim (λ b. inl (a, b)) (λ b. inr (λ c. b (c .1))) (eq-or-ne f e)) (λ a. inr (λ c. a (c .0))) (eq-or-ne k i)
 
-module _ (t : Table) (g : Formed t) (i e j b : ℕ) (u : inUse t i ≡ true) (le : e < exits) (fit : Fit t j b) where
+module _ (t : Table) (g : Formed t) (i e j b : ℕ) (u : inUse t i ≡ true) (le : e < exitsOf i) (fit : Fit t j b) where
   fit-below : j < places
   fit-below = ⊎-elim (λ z. omega (arith, z .0)) (λ f. formed-place g j (f .0)) fit
 
-  lead : (k f : ℕ) → f < exits → holds (relink t i e j b) k f ≡ true → inUse t (targetOf (relink t i e j b) k f) ≡ true
+  lead : (k f : ℕ) → f < exitsOf k → holds (relink t i e j b) k f ≡ true → inUse t (targetOf (relink t i e j b) k f) ≡ true
   lead k f l h =
       let li = formed-place g i u in
       ⊎-elim

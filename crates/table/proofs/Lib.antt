@@ -1,4 +1,5 @@
 -- The laws of the definitions, for every layer above.
+pub mod Places
 pub mod Links
 pub mod Sound
 pub mod Relink

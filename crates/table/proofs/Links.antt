@@ -3,15 +3,16 @@
 use mathlib.Core.Path.{_≡_, ap}
 use mathlib.Core.Bool.{true, false, _&&_, not}
 use mathlib.Core.Logic.{_⊎_, ⊎-elim}
-use Prim.Native.Nat.{ℕ, _+_, _*_, _≤_, _<_}
+use Prim.Native.Nat.{ℕ, _≤_, _<_}
 use native.Mathlib.Omega.{arith}
 use lib.ListN.{getD, List·getD-eq-default}
 use lib.Dec.{eqb}
 use borrow.Author.Tests.{eqb-true, eqb-false, eq-eqb, ne-eqb}
 use Rattle.finite.proofs.Bools.{and-intro, and-left, and-right, clash, test, not-true-false, not-false-true}
 use Rattle.finite.proofs.Below.{le-or-lt, any-at, any-intro}
-use Rattle.table.specs.Table.{Table, places, exits, exitPlace, inUse, targetOf, linkBit, ownBit, holds, strong, leads, linked, stronglyLinked, countsAt}
+use Rattle.table.specs.Table.{Table, places, exitPlace, exitsOf, inUse, targetOf, linkBit, ownBit, holds, strong, leads, linked, stronglyLinked, countsAt}
 use Rattle.table.specs.Sound.{Shape, Blank, Sound}
+use Rattle.table.proofs.Places.{exit-place-outside}
 
 -- an exit that holds a link has a target other than 0, and the other way round
 pub holds-target : (t : Table) (i e : ℕ) → holds t i e ≡ true → targetOf t i e ≡ 0 → ⊥
@@ -43,30 +44,30 @@ unfolding strong
 bit-strong t i e h b = and-intro h (eq-eqb _ _ b)
 
 -- a link to j, by its exit
-pub linked-exit : (t : Table) (i j : ℕ) → linked t i j ≡ true → (e : ℕ) × (e < exits) × (holds t i e ≡ true) × (targetOf t i e ≡ j)
+pub linked-exit : (t : Table) (i j : ℕ) → linked t i j ≡ true → (e : ℕ) × (e < exitsOf i) × (holds t i e ≡ true) × (targetOf t i e ≡ j)
 unfolding linked leads
 linked-exit t i j h =
-    let r = any-at exits _ h in
+    let r = any-at (exitsOf i) _ h in
     (r .0, r .1, and-left (holds t i (r .0)) _ (r .2), eqb-true _ _ (and-right (holds t i (r .0)) _ (r .2)))
 
-pub exit-linked : (t : Table) (i j e : ℕ) → e < exits → holds t i e ≡ true → targetOf t i e ≡ j → linked t i j ≡ true
+pub exit-linked : (t : Table) (i j e : ℕ) → e < exitsOf i → holds t i e ≡ true → targetOf t i e ≡ j → linked t i j ≡ true
 unfolding linked leads
-exit-linked t i j e l h g = any-intro exits _ e l (and-intro h (eq-eqb _ _ g))
+exit-linked t i j e l h g = any-intro (exitsOf i) _ e l (and-intro h (eq-eqb _ _ g))
 
-pub strongly-exit : (t : Table) (i j : ℕ) → stronglyLinked t i j ≡ true → (e : ℕ) × (e < exits) × (strong t i e ≡ true) × (targetOf t i e ≡ j)
+pub strongly-exit : (t : Table) (i j : ℕ) → stronglyLinked t i j ≡ true → (e : ℕ) × (e < exitsOf i) × (strong t i e ≡ true) × (targetOf t i e ≡ j)
 unfolding stronglyLinked leads
 strongly-exit t i j h =
-    let r = any-at exits _ h in (
+    let r = any-at (exitsOf i) _ h in (
       r .0,
       r .1,
       and-right (leads t i (r .0) j) _ (r .2),
       eqb-true _ _ (and-right (holds t i (r .0)) _ (and-left (leads t i (r .0) j) _ (r .2))),
     )
 
-pub exit-strongly : (t : Table) (i j e : ℕ) → e < exits → strong t i e ≡ true → targetOf t i e ≡ j → stronglyLinked t i j ≡ true
+pub exit-strongly : (t : Table) (i j e : ℕ) → e < exitsOf i → strong t i e ≡ true → targetOf t i e ≡ j → stronglyLinked t i j ≡ true
 unfolding stronglyLinked leads
 exit-strongly t i j e l h g =
-    any-intro exits _ e l (and-intro (and-intro (strong-holds t i e h) (eq-eqb _ _ g)) h)
+    any-intro (exitsOf i) _ e l (and-intro (and-intro (strong-holds t i e h) (eq-eqb _ _ g)) h)
 
 pub strongly-linked : (t : Table) (i j : ℕ) → stronglyLinked t i j ≡ true → linked t i j ≡ true
 strongly-linked t i j h = let r = strongly-exit t i j h in exit-linked t i j (r .0) (r .1) (strong-holds t i (r .0) (r .2)) (r .3)
@@ -91,7 +92,7 @@ pub record Wired (t : Table) : Type 0 where
   pub shape : Shape t
   pub most : t .capacity ≤ places
   pub above : (i : ℕ) → t .capacity ≤ i → i < places → inUse t i ≡ false
-  pub targets : (i e : ℕ) → inUse t i ≡ true → e < exits → holds t i e ≡ true → inUse t (targetOf t i e) ≡ true
+  pub targets : (i e : ℕ) → inUse t i ≡ true → e < exitsOf i → holds t i e ≡ true → inUse t (targetOf t i e) ≡ true
   pub free : (i : ℕ) → i < places → inUse t i ≡ false → Blank t i
 
 pub sound-wired : {t : Table} → Sound t → Wired t
@@ -112,16 +113,17 @@ module _ {t : Table} (w : Wired t) where
   pub used-below : (i : ℕ) → inUse t i ≡ true → i < t .capacity
   used-below i h = ⊎-elim (λ g. clash h (w .above i g (used-place (w .shape) i h))) (λ l. l) (le-or-lt (t .capacity) i)
 
-  outside : (i e : ℕ) → places ≤ i → targetOf t i e ≡ 0
-  unfolding targetOf exitPlace
-  outside i e g = List·getD-eq-default (t .targets) 0 {n = i * exits + e} (rw (w .shape .targets) (omega arith))
+  outside : (i e : ℕ) → e < exitsOf i → places ≤ i → targetOf t i e ≡ 0
+  unfolding targetOf
+  outside i e l g =
+      List·getD-eq-default (t .targets) 0 {n = exitPlace i e} (rw (w .shape .targets) (exit-place-outside i e places l (omega arith) g))
 
   -- only a step in use holds a link
-  pub holder-used : (i e : ℕ) → e < exits → holds t i e ≡ true → inUse t i ≡ true
+  pub holder-used : (i e : ℕ) → e < exitsOf i → holds t i e ≡ true → inUse t i ≡ true
   holder-used i e l h =
       ⊎-elim (λ u. u)
       (λ f.
-      ⊎-elim (λ g. absurd (holds-target t i e h (outside i e g)))
+      ⊎-elim (λ g. absurd (holds-target t i e h (outside i e l g)))
       (λ p. absurd (holds-target t i e h (w .free i p f .targets e l)))
       (le-or-lt places i))
       (test (inUse t i))

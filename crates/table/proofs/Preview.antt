@@ -19,7 +19,7 @@ use Rattle.finite.proofs.Bools.{and-left, and-right, and-intro, same-test, refu
 use Rattle.finite.proofs.Below.{eq-or-ne, any-ext, count-ext, count-le, count-pos, count-split}
 use Rattle.finite.proofs.Those.{length-those, those-none}
 use Rattle.table.specs.declared.Answer.the-variants.{Refused}
-use Rattle.table.specs.Table.{Table, exits, inUse, targetOf, holds, leads, linked, stronglyLinked, stepsInUse, withLinks}
+use Rattle.table.specs.Table.{Table, exitsOf, inUse, targetOf, holds, leads, linked, stronglyLinked, stepsInUse, withLinks}
 use Rattle.table.specs.Sound.{Sound}
 use Rattle.table.specs.Answer.{Outcome, WriteOutcome, tooShort, refusalOf, secondOf}
 use Rattle.table.specs.Calls.{relink}
@@ -31,7 +31,7 @@ use Rattle.table.proofs.Links.{exit-strongly}
 use Rattle.table.proofs.Relink.{relink-target-other}
 use Rattle.table.proofs.Spine.{sound-spine}
 use Rattle.table.proofs.Clear.{Cleared, reached-in-use, emptied-used, emptied-steps, emptied-strongly, goes-strong, formed-emptied, doubtful-at, freed-marked}
-use Rattle.table.proofs.Calls.{cleared-given, into-order, into-accepted, ClearFits, clear-fits, clear-sound, clear-cleared}
+use Rattle.table.proofs.Calls.{cleared-given, into-order, into-accepted, ClearFits, clear-cleared}
 
 module _ (t : Table) (i e : ℕ) (buffer : List ℕ) where
   -- refused as the clearing is, then for the room
@@ -60,19 +60,13 @@ module _ (t : Table) (i e : ℕ) (buffer : List ℕ) where
   unfolding previewRefusal
   preview-accepted z = let r = into-accepted t i e (ltb (length buffer) previewRoom) z in (r .0, ltb-false _ _ (r .1))
 
--- a clearing that is not refused
-module _ (t : Table) (i e : ℕ) (z : clearRefusal t i e ≡ 0) where
+-- a clearing that can be made
+module _ (t : Table) (i e : ℕ) (s : Sound t) (g : ClearFits t i e) where
   abbrev u : Table
   u = emptied t i e
 
   abbrev v : Table
   v = cleared t i e .table
-
-  s : Sound t
-  s = clear-sound t i e z
-
-  g : ClearFits t i e
-  g = clear-fits t i e z
 
   done : Cleared u (clear-cleared s i e g .0) (clear-cleared s i e g .1) v
   done = clear-cleared s i e g .3
@@ -161,5 +155,5 @@ module _ (t : Table) (s : Sound t) (i e : ℕ) (g : ClearFits t i e) (h : stops 
   unfolding linked leads holds emptied
   doubtful-links k j m =
       let d : k ≡ i → ⊥ = λ q. clash (rw q at m) (unfold emptied in holder-certain) in
-      any-ext exits _ _
+      any-ext (exitsOf k) _ _
       (λ f l. ap (λ (n : ℕ). not (eqb n 0) && eqb n j) (sym (relink-target-other t (s .shape) i e 0 0 (formed-place (sound-formed s) i (g .used)) (g .exit) k f l (λ q. d (q .0)))))

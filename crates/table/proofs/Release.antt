@@ -11,7 +11,7 @@ use lib.Seq.{getD-set-same, getD-set-other}
 use Rattle.finite.specs.Reach.{marked}
 use Rattle.finite.proofs.Bools.{and-right, clash, refute, test, not-true-false}
 use Rattle.finite.proofs.Below.{eq-or-ne, below-suc, rounds-induct}
-use Rattle.table.specs.Table.{Table, places, exits, counters, counterPlace, inUse, kindOf, contentOf, ownBit, cabinOf, targetOf, linkBit, counterOf, holds, linked, countsAt, linksTo, withLinks, withSteps}
+use Rattle.table.specs.Table.{Table, places, exitsOf, counters, counterPlace, inUse, kindOf, contentOf, ownBit, cabinOf, targetOf, linkBit, counterOf, holds, linked, countsAt, linksTo, withLinks, withSteps}
 use Rattle.table.specs.Calls.{relink}
 use Rattle.table.specs.Clear.{unlinked, blanked, eachDoubtful, release}
 use Rattle.table.proofs.Links.{target-holds, exit-linked}
@@ -56,10 +56,10 @@ module _ (t : Table) (g : Formed t) (k : ℕ) (u : inUse t k ≡ true) where
     same : SameSteps t v
     target : (e : ℕ) → e < m → targetOf v k e ≡ 0
     bit : (e : ℕ) → e < m → linkBit v k e ≡ 0
-    target-other : (i e : ℕ) → e < exits → (i ≡ k → ⊥) → targetOf v i e ≡ targetOf t i e
-    bit-other : (i e : ℕ) → e < exits → (i ≡ k → ⊥) → linkBit v i e ≡ linkBit t i e
+    target-other : (i e : ℕ) → e < exitsOf i → (i ≡ k → ⊥) → targetOf v i e ≡ targetOf t i e
+    bit-other : (i e : ℕ) → e < exitsOf i → (i ≡ k → ⊥) → linkBit v i e ≡ linkBit t i e
 
-  unlinked-more : (m : ℕ) → m < exits → (v : Table) → Unlinked m v → Unlinked (suc m) (relink v k m 0 0)
+  unlinked-more : (m : ℕ) → m < exitsOf k → (v : Table) → Unlinked m v → Unlinked (suc m) (relink v k m 0 0)
   unlinked-more m l v r =
       let f = r .formed in
       let uk = same-used (r .same) k ∙ u in
@@ -81,10 +81,10 @@ module _ (t : Table) (g : Formed t) (k : ℕ) (u : inUse t k ≡ true) where
         bit-other = λ i e x d. relink-bit-other v (f .shape) k m 0 0 lk l i e x (λ q. d (q .0)) ∙ r .bit-other i e x d;
       }
 
-  unlinking : Unlinked exits (unlinked t k)
+  unlinking : Unlinked (exitsOf k) (unlinked t k)
   unfolding unlinked
   unlinking =
-      rounds-induct Unlinked exits (λ e v. relink v k e 0 0) t unlinked-more
+      rounds-induct Unlinked (exitsOf k) (λ e v. relink v k e 0 0) t unlinked-more
       (record {
         formed = g;
         same = same-refl t;
@@ -96,8 +96,8 @@ module _ (t : Table) (g : Formed t) (k : ℕ) (u : inUse t k ≡ true) where
 
 -- one step's record becomes zero: no link leads to it, and its exits are empty
 module _ (t : Table) (g : Formed t) (k : ℕ) (u : inUse t k ≡ true) (nonzero : k ≡ 0 → ⊥)
-    (alone : (i e : ℕ) → e < exits → targetOf t i e ≡ k → ⊥)
-    (no-target : (e : ℕ) → e < exits → targetOf t k e ≡ 0) (no-bit : (e : ℕ) → e < exits → linkBit t k e ≡ 0) where
+    (alone : (i e : ℕ) → e < exitsOf i → targetOf t i e ≡ k → ⊥)
+    (no-target : (e : ℕ) → e < exitsOf k → targetOf t k e ≡ 0) (no-bit : (e : ℕ) → e < exitsOf k → linkBit t k e ≡ 0) where
   place : k < places
   place = formed-place g k u
 
@@ -245,8 +245,8 @@ pub record Released (t : Table) (d : List Bool) (v : Table) : Type 0 where
   pub own : (i : ℕ) → marked d i ≡ false → ownBit v i ≡ ownBit t i
   pub cabin : (i : ℕ) → marked d i ≡ false → cabinOf v i ≡ cabinOf t i
   pub quotas : v .quotas ≡ t .quotas
-  pub target : (i e : ℕ) → e < exits → marked d i ≡ false → targetOf v i e ≡ targetOf t i e
-  pub bit : (i e : ℕ) → e < exits → marked d i ≡ false → linkBit v i e ≡ linkBit t i e
+  pub target : (i e : ℕ) → e < exitsOf i → marked d i ≡ false → targetOf v i e ≡ targetOf t i e
+  pub bit : (i e : ℕ) → e < exitsOf i → marked d i ≡ false → linkBit v i e ≡ linkBit t i e
 
 module _ (t : Table) (g : Formed t) (d : List Bool) (doubted : (i : ℕ) → marked d i ≡ true → inUse t i ≡ true)
     (alarm : marked d 0 ≡ false) (closed : (i j : ℕ) → marked d i ≡ false → linked t i j ≡ true → marked d j ≡ false) where
@@ -254,10 +254,10 @@ module _ (t : Table) (g : Formed t) (d : List Bool) (doubted : (i : ℕ) → mar
   record Leaving (m : ℕ) (v : Table) : Type 0 where
     formed : Formed v
     same : SameSteps t v
-    target : (i e : ℕ) → e < exits → marked d i ≡ true → i < m → targetOf v i e ≡ 0
-    bit : (i e : ℕ) → e < exits → marked d i ≡ true → i < m → linkBit v i e ≡ 0
-    target-kept : (i e : ℕ) → e < exits → marked d i ≡ false → targetOf v i e ≡ targetOf t i e
-    bit-kept : (i e : ℕ) → e < exits → marked d i ≡ false → linkBit v i e ≡ linkBit t i e
+    target : (i e : ℕ) → e < exitsOf i → marked d i ≡ true → i < m → targetOf v i e ≡ 0
+    bit : (i e : ℕ) → e < exitsOf i → marked d i ≡ true → i < m → linkBit v i e ≡ 0
+    target-kept : (i e : ℕ) → e < exitsOf i → marked d i ≡ false → targetOf v i e ≡ targetOf t i e
+    bit-kept : (i e : ℕ) → e < exitsOf i → marked d i ≡ false → linkBit v i e ≡ linkBit t i e
 
   leaving-more : (m : ℕ) → (v : Table) → Leaving m v → Leaving (suc m) (cond (marked d m) (unlinked v m) v)
   leaving-more m v r = ⊎-elim (λ y. subst (λ (b : Bool). Leaving (suc m) (cond b (unlinked v m) v)) (sym y) (go y)) (λ n. subst (λ (b : Bool). Leaving (suc m) (cond b (unlinked v m) v)) (sym n) (stay n)) (test (marked d m))
@@ -270,12 +270,12 @@ module _ (t : Table) (g : Formed t) (d : List Bool) (doubted : (i : ℕ) → mar
             same = same-trans (r .same) (u .same);
             target =
                 λ i e l h x.
-                ⊎-elim (λ (q : i ≡ m). rw q (u .target e l))
+                ⊎-elim (λ (q : i ≡ m). rw q (u .target e (rw q at l)))
                 (λ z. u .target-other i e l (λ q. omega arith) ∙ r .target i e l h z)
                 (below-suc x);
             bit =
                 λ i e l h x.
-                ⊎-elim (λ (q : i ≡ m). rw q (u .bit e l)) (λ z. u .bit-other i e l (λ q. omega arith) ∙ r .bit i e l h z) (below-suc x);
+                ⊎-elim (λ (q : i ≡ m). rw q (u .bit e (rw q at l))) (λ z. u .bit-other i e l (λ q. omega arith) ∙ r .bit i e l h z) (below-suc x);
             target-kept = λ i e l h. u .target-other i e l (λ q. clash y (rw q at h)) ∙ r .target-kept i e l h;
             bit-kept = λ i e l h. u .bit-other i e l (λ q. clash y (rw q at h)) ∙ r .bit-kept i e l h;
           }
@@ -312,7 +312,7 @@ module _ (t : Table) (g : Formed t) (d : List Bool) (doubted : (i : ℕ) → mar
   marked-below i h = formed-below g i (doubted i h)
 
   -- no link leads to a marked step any more
-  parted-alone : (k : ℕ) → marked d k ≡ true → (i e : ℕ) → e < exits → targetOf parted i e ≡ k → ⊥
+  parted-alone : (k : ℕ) → marked d k ≡ true → (i e : ℕ) → e < exitsOf i → targetOf parted i e ≡ k → ⊥
   parted-alone k y i e l q =
       ⊎-elim
       (λ h. let z : k ≡ 0 = sym q ∙ left .target i e l h (marked-below i h) in clash y (rw z alarm))
@@ -353,9 +353,9 @@ module _ (t : Table) (g : Formed t) (d : List Bool) (doubted : (i : ℕ) → mar
       go y =
           let u = r .later m (omega arith) ∙ doubted m y in
           let nonzero : m ≡ 0 → ⊥ = λ q. clash y (rw q alarm) in
-          let alone : (i e : ℕ) → e < exits → targetOf v i e ≡ m → ⊥ = λ i e l q. parted-alone m y i e l (sym (target-in v (r .targets) i e) ∙ q) in
-          let no-target : (e : ℕ) → e < exits → targetOf v m e ≡ 0 = λ e l. target-in v (r .targets) m e ∙ left .target m e l y (marked-below m y) in
-          let no-bit : (e : ℕ) → e < exits → linkBit v m e ≡ 0 = λ e l. bit-in v (r .bits) m e ∙ left .bit m e l y (marked-below m y) in
+          let alone : (i e : ℕ) → e < exitsOf i → targetOf v i e ≡ m → ⊥ = λ i e l q. parted-alone m y i e l (sym (target-in v (r .targets) i e) ∙ q) in
+          let no-target : (e : ℕ) → e < exitsOf m → targetOf v m e ≡ 0 = λ e l. target-in v (r .targets) m e ∙ left .target m e l y (marked-below m y) in
+          let no-bit : (e : ℕ) → e < exitsOf m → linkBit v m e ≡ 0 = λ e l. bit-in v (r .bits) m e ∙ left .bit m e l y (marked-below m y) in
           let f = r .formed in
           let apart : (i : ℕ) → marked d i ≡ false → i ≡ m → ⊥ = λ i h q. clash y (rw q at h) in
           record {

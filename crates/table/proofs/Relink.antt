@@ -4,7 +4,7 @@ use mathlib.Core.Path.{_≡_, refl, sym, _∙_, ap, ap₂}
 use mathlib.Core.Bool.{Bool, true, false, _&&_, not, cond}
 use mathlib.Core.Logic.{_⊎_, ⊎-elim}
 use mathlib.Core.List.{List}
-use Prim.Native.Nat.{ℕ, _+_, _*_, _-_, _/_, _%_, _≤_, _<_}
+use Prim.Native.Nat.{ℕ, _+_, _*_, _-_, _≤_, _<_}
 use native.Mathlib.Omega.{arith}
 use lib.ListN.{length, getD, set, length-set}
 use lib.Seq.{getD-set-same, getD-set-other}
@@ -13,24 +13,12 @@ use borrow.Author.Tests.{eqb-true, eqb-false, eq-eqb, ne-eqb}
 use Rattle.finite.specs.Below.{count, one}
 use Rattle.finite.proofs.Bools.{and-intro, and-left, and-right, clash, refute, test, not-true-false}
 use Rattle.finite.proofs.Below.{eq-or-ne, count-change, count-pos}
-use Rattle.table.specs.Table.{Table, places, exits, counters, exitPlace, counterPlace, inUse, kindOf, contentOf, cabinOf, targetOf, linkBit, counterOf, countsAt, linksTo, withLinks}
+use Rattle.table.specs.Table.{Table, places, counters, exitPlace, exitsOf, exitPlaces, counterPlace, inUse, kindOf, contentOf, cabinOf, targetOf, linkBit, counterOf, countsAt, linksTo, withLinks}
 use Rattle.table.specs.Sound.{Shape}
 use Rattle.table.specs.Calls.{lowered, raised, relink}
+use Rattle.table.proofs.Places.{exit-place-same, exit-place-below}
 
--- two exits that stand in one place are one exit, and so are two counters
-pub exit-place-same : (i e k f : ℕ) → e < exits → f < exits → exitPlace k f ≡ exitPlace i e → (k ≡ i) × (f ≡ e)
-unfolding exitPlace
-exit-place-same i e k f le lf h = (omega arith, omega arith)
-
-pub exit-place-below : (i e n : ℕ) → e < exits → i < n → exitPlace i e < n * exits
-unfolding exitPlace
-exit-place-below i e n l h = omega arith
-
--- every place below n * 4 is that of an exit of a step below n
-pub exit-place-split : (p : ℕ) → exitPlace (p / exits) (p % exits) ≡ p
-unfolding exitPlace
-exit-place-split p = omega arith
-
+-- two counters that stand in one place are one counter
 pub counter-place-same : (i b k c : ℕ) → b < counters → c < counters → counterPlace k c ≡ counterPlace i b → (k ≡ i) × (c ≡ b)
 unfolding counterPlace
 counter-place-same i b k c lb lc h = (omega arith, omega arith)
@@ -145,7 +133,7 @@ module _ (t : Table) (i e j b k : ℕ) where
   unfolding relink withLinks cabinOf
   relink-cabin = refl
 
-module _ (t : Table) (s : Shape t) (i e j b : ℕ) (li : i < places) (le : e < exits) where
+module _ (t : Table) (s : Shape t) (i e j b : ℕ) (li : i < places) (le : e < exitsOf i) where
   pub relink-shape : Shape (relink t i e j b)
   unfolding relink withLinks
   relink-shape =
@@ -169,12 +157,12 @@ module _ (t : Table) (s : Shape t) (i e j b : ℕ) (li : i < places) (le : e < e
   unfolding relink withLinks linkBit
   relink-bit = getD-set-same (t .bits) (exitPlace i e) b 0 (rw (s .bits) (exit-place-below i e places le li))
 
-  pub relink-target-other : (k f : ℕ) → f < exits → ((k ≡ i) × (f ≡ e) → ⊥) → targetOf (relink t i e j b) k f ≡ targetOf t k f
+  pub relink-target-other : (k f : ℕ) → f < exitsOf k → ((k ≡ i) × (f ≡ e) → ⊥) → targetOf (relink t i e j b) k f ≡ targetOf t k f
   unfolding relink withLinks targetOf
   relink-target-other k f lf d =
       getD-set-other (t .targets) (exitPlace i e) (exitPlace k f) j 0 (λ q. d (exit-place-same i e k f le lf q))
 
-  pub relink-bit-other : (k f : ℕ) → f < exits → ((k ≡ i) × (f ≡ e) → ⊥) → linkBit (relink t i e j b) k f ≡ linkBit t k f
+  pub relink-bit-other : (k f : ℕ) → f < exitsOf k → ((k ≡ i) × (f ≡ e) → ⊥) → linkBit (relink t i e j b) k f ≡ linkBit t k f
   unfolding relink withLinks linkBit
   relink-bit-other k f lf d =
       getD-set-other (t .bits) (exitPlace i e) (exitPlace k f) b 0 (λ q. d (exit-place-same i e k f le lf q))
@@ -186,21 +174,21 @@ module _ (t : Table) (s : Shape t) (i e j b : ℕ) (li : i < places) (le : e < e
       let p = exitPlace i e in
       let old : Bool = hits (getD (t .targets) p 0) (getD (t .bits) p 0) k c in
       let new : Bool = hits j b k c in
-      let lp : p < t .capacity * exits = exit-place-below i e (t .capacity) le lc in
+      let lp : p < exitPlaces (t .capacity) = exit-place-below i e (t .capacity) le lc in
       let was : ℕ → Bool = λ q. hits (getD (t .targets) q 0) (getD (t .bits) q 0) k c in
       let is : ℕ → Bool = λ q. hits (getD (set (t .targets) p j) q 0) (getD (set (t .bits) p b) q 0) k c in
       let at : is p ≡ new =
       ap₂ (λ (x y : ℕ). hits x y k c) (getD-set-same (t .targets) p j 0 (rw (s .targets) (exit-place-below i e places le li)))
       (getD-set-same (t .bits) p b 0 (rw (s .bits) (exit-place-below i e places le li))) in
-      let moved : count (t .capacity * exits) is + one (was p) ≡ count (t .capacity * exits) was + one (is p) =
-      count-change (t .capacity * exits) was is p lp
+      let moved : count (exitPlaces (t .capacity)) is + one (was p) ≡ count (exitPlaces (t .capacity)) was + one (is p) =
+      count-change (exitPlaces (t .capacity)) was is p lp
       (λ q l d. ap₂ (λ (x y : ℕ). hits x y k c) (getD-set-other (t .targets) p q j 0 d) (getD-set-other (t .bits) p q b 0 d)) in
       let low : getD (lowered (getD (t .targets) p 0) (getD (t .bits) p 0) (t .counts)) (counterPlace k c) 0 ≡ getD (t .counts) (counterPlace k c) 0 - one old =
       lowered-at (getD (t .targets) p 0) (getD (t .bits) p 0) k c (t .counts) (s .counts) lo lb lc′ in
       let high : getD (raised j b (lowered (getD (t .targets) p 0) (getD (t .bits) p 0) (t .counts))) (counterPlace k c) 0 ≡ getD (lowered (getD (t .targets) p 0) (getD (t .bits) p 0) (t .counts)) (counterPlace k c) 0 + one new =
       raised-at j b k c _ (length-lowered _ _ (t .counts) ∙ s .counts) lj lb′ lc′ in
-      let here : getD (t .counts) (counterPlace k c) 0 ≡ count (t .capacity * exits) was = x k c lk lc′ in
-      let enough : one old ≤ count (t .capacity * exits) was = counted (t .capacity * exits) was p lp in
+      let here : getD (t .counts) (counterPlace k c) 0 ≡ count (exitPlaces (t .capacity)) was = x k c lk lc′ in
+      let enough : one old ≤ count (exitPlaces (t .capacity)) was = counted (exitPlaces (t .capacity)) was p lp in
       let new′ : one (is p) ≡ one new = ap one at in
       omega arith
     where

@@ -4,7 +4,7 @@
 --   old-new                      the step that gets a number is the one that has it as its new number
 --   squeezed-*                   a field of the squeezed table
 --   squeezed-renumbered          the squeezed table has the steps of the old one under their new numbers
-use mathlib.Core.Path.{_≡_, refl, _∙_, ap}
+use mathlib.Core.Path.{_≡_, refl, sym, _∙_, ap}
 use mathlib.Core.Bool.{Bool, true, false, _&&_, cond}
 use mathlib.Core.Logic.{⊎-elim}
 use Prim.Native.Nat.{ℕ, _+_, _*_, _≤_, _<_}
@@ -14,19 +14,27 @@ use lib.ListN.{length, getD, List·getD-eq-default}
 use lib.Dec.{eqb, ltb}
 use borrow.Author.Tests.{eqb-true, eq-eqb, lt-ltb, le-ltb}
 use Rattle.finite.proofs.Bools.{and-intro, and-left, and-right}
-use Rattle.finite.proofs.Below.{le-or-lt, count-le, length-tabulate, getD-tabulate}
+use Rattle.finite.proofs.Below.{le-or-lt, eq-or-ne, count-le, length-tabulate, getD-tabulate}
 use Rattle.finite.proofs.Packed.{tabulate-blocks}
 use Rattle.finite.proofs.Loops.{count-zero, count-hit, count-miss}
 use Rattle.finite.proofs.Select.{select, count-rises, count-injective, lowest-only}
-use Rattle.table.specs.Table.{Table, places, exits, counters, quotaNumbers, exitPlace, counterPlace, inUse, kindOf, contentOf, ownBit, cabinOf, targetOf, linkBit, counterOf, stepsInUse}
+use Rattle.table.specs.Table.{Table, places, entriesOf, exitsOf, exitPlaces, counters, quotaNumbers, counterPlace, inUse, kindOf, contentOf, ownBit, cabinOf, targetOf, linkBit, counterOf, stepsInUse}
 use Rattle.table.specs.Sound.{Shape}
 use Rattle.table.specs.Squeeze.{newNumber, oldNumber, moved, squeezed, Renumbered}
+use Rattle.table.proofs.Places.{tabulate-exits, entries-none}
 use Rattle.table.proofs.Links.{Wired, used-below}
 
 module _ (t : Table) where
   pub new-zero : newNumber t 0 ≡ 0
   unfolding newNumber
   new-zero = count-zero (inUse t)
+
+  -- step 0 stays step 0, so no step has fewer exits under its new number
+  pub new-more : (i : ℕ) → exitsOf i ≤ exitsOf (newNumber t i)
+  new-more i =
+      ⊎-elim (λ (z : i ≡ 0). let n = ap entriesOf (ap (newNumber t) z ∙ new-zero ∙ sym z) in omega arith)
+      (λ d. let n = entries-none i d in omega arith)
+      (eq-or-ne i 0)
 
   pub new-used : (i : ℕ) → inUse t i ≡ true → newNumber t (i + 1) ≡ newNumber t i + 1
   unfolding newNumber
@@ -98,8 +106,8 @@ module _ (t : Table) (c : ℕ) (q : List ℕ) where
         kinds = length-tabulate places _;
         contents = length-tabulate places _;
         own = length-tabulate places _;
-        targets = length-tabulate (places * exits) _;
-        bits = length-tabulate (places * exits) _;
+        targets = length-tabulate (exitPlaces places) _;
+        bits = length-tabulate (exitPlaces places) _;
         counts = length-tabulate (places * counters) _;
         cabins = length-tabulate places _;
         quotas = size;
@@ -121,13 +129,13 @@ module _ (t : Table) (c : ℕ) (q : List ℕ) where
   unfolding cabinOf squeezed
   squeezed-cabin k l = getD-tabulate places _ 0 k l
 
-  pub squeezed-target : (k e : ℕ) → k < places → e < exits → targetOf (squeezed t c q) k e ≡ moved t k (λ i. newNumber t (targetOf t i e))
-  unfolding targetOf exitPlace squeezed
-  squeezed-target k e l h = tabulate-blocks places exits (λ k e. moved t k (λ i. newNumber t (targetOf t i e))) k e l h
+  pub squeezed-target : (k e : ℕ) → k < places → e < exitsOf k → targetOf (squeezed t c q) k e ≡ moved t k (λ i. newNumber t (targetOf t i e))
+  unfolding targetOf squeezed
+  squeezed-target k e l h = tabulate-exits places (λ k e. moved t k (λ i. newNumber t (targetOf t i e))) k e l h
 
-  pub squeezed-bit : (k e : ℕ) → k < places → e < exits → linkBit (squeezed t c q) k e ≡ moved t k (λ i. linkBit t i e)
-  unfolding linkBit exitPlace squeezed
-  squeezed-bit k e l h = tabulate-blocks places exits (λ k e. moved t k (λ i. linkBit t i e)) k e l h
+  pub squeezed-bit : (k e : ℕ) → k < places → e < exitsOf k → linkBit (squeezed t c q) k e ≡ moved t k (λ i. linkBit t i e)
+  unfolding linkBit squeezed
+  squeezed-bit k e l h = tabulate-exits places (λ k e. moved t k (λ i. linkBit t i e)) k e l h
 
   pub squeezed-counter : (k b : ℕ) → k < places → b < counters → counterOf (squeezed t c q) k b ≡ moved t k (λ i. counterOf t i b)
   unfolding counterOf counterPlace squeezed
@@ -161,9 +169,9 @@ squeezed-renumbered {t} w c q =
       used = squeezed-used t c q (let m = used-most t in omega (arith, w .most));
       kind = λ i u. squeezed-kind t c q _ (place i u) ∙ moved-new w i _ u;
       content = λ i u. squeezed-content t c q _ (place i u) ∙ moved-new w i _ u;
-      target = λ i e u l. squeezed-target t c q _ e (place i u) l ∙ moved-new w i _ u;
+      target = λ i e u l. squeezed-target t c q _ e (place i u) (omega (arith, new-more t i)) ∙ moved-new w i _ u;
       own = λ i u. squeezed-own t c q _ (place i u) ∙ moved-new w i _ u;
-      bit = λ i e u l. squeezed-bit t c q _ e (place i u) l ∙ moved-new w i _ u;
+      bit = λ i e u l. squeezed-bit t c q _ e (place i u) (omega (arith, new-more t i)) ∙ moved-new w i _ u;
       counter = λ i b u l. squeezed-counter t c q _ b (place i u) l ∙ moved-new w i _ u;
       cabin = λ i u. squeezed-cabin t c q _ (place i u) ∙ moved-new w i _ u;
     }

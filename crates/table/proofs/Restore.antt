@@ -10,7 +10,7 @@ use lib.ListN.{getD, set}
 use lib.Seq.{getD-set-same, getD-set-other, set-getD}
 use Rattle.finite.proofs.Bools.{clash, test}
 use Rattle.finite.proofs.Below.{eq-or-ne, below-suc, rounds-induct}
-use Rattle.table.specs.Table.{Table, exits, exitPlace, inUse, ownBit, targetOf, linkBit, strong, linked, stronglyLinked, withLinks, withSteps}
+use Rattle.table.specs.Table.{Table, exitPlace, exitsOf, inUse, ownBit, targetOf, linkBit, strong, linked, stronglyLinked, withLinks, withSteps}
 use Rattle.table.specs.Calls.{relink, weakBit}
 use Rattle.table.specs.Clear.{flipped, weakened, restored}
 use Rattle.table.proofs.Links.{holds-target, strong-holds, bit-strong, linked-exit, strongly-exit, exit-strongly}
@@ -21,7 +21,7 @@ use Rattle.table.proofs.Edits.{strong-same, weak-bit, relink-strong-oth
 use Rattle.table.proofs.Alike.{Alike, alike-refl, alike-trans, alike-used, alike-target, alike-holds}
 
 -- one link made weak
-module _ (t : Table) (g : Formed t) (k e : ℕ) (u : inUse t k ≡ true) (le : e < exits) where
+module _ (t : Table) (g : Formed t) (k e : ℕ) (u : inUse t k ≡ true) (le : e < exitsOf k) where
   abbrev turned : Table
   turned = relink t k e (targetOf t k e) (weakBit t (targetOf t k e))
 
@@ -74,8 +74,8 @@ module _ (t : Table) (g : Formed t) (k e : ℕ) (u : inUse t k ≡ true) (le : e
     alike : Alike t v
     own : v .own ≡ t .own
     weak : strong v k e ≡ false
-    other : (i f : ℕ) → f < exits → ((i ≡ k) × (f ≡ e) → ⊥) → linkBit v i f ≡ linkBit t i f
-    strongs : (i f : ℕ) → f < exits → ((i ≡ k) × (f ≡ e) → ⊥) → strong v i f ≡ strong t i f
+    other : (i f : ℕ) → f < exitsOf i → ((i ≡ k) × (f ≡ e) → ⊥) → linkBit v i f ≡ linkBit t i f
+    strongs : (i f : ℕ) → f < exitsOf i → ((i ≡ k) × (f ≡ e) → ⊥) → strong v i f ≡ strong t i f
 
   weakening : Weakened (weakened t k e)
   weakening =
@@ -110,7 +110,7 @@ module _ (t : Table) (g : Formed t) (k : ℕ) (u : inUse t k ≡ true) where
     pub alike : Alike t v
     pub own : v .own ≡ set (t .own) k (1 - ownBit t k)
     pub weak : (e : ℕ) → e < m → strong v k e ≡ false
-    pub other : (i f : ℕ) → f < exits → (i ≡ k → ⊥) → linkBit v i f ≡ linkBit t i f
+    pub other : (i f : ℕ) → f < exitsOf i → (i ≡ k → ⊥) → linkBit v i f ≡ linkBit t i f
 
   turned-start : Turned 0 (flipped t k)
   turned-start =
@@ -124,7 +124,7 @@ module _ (t : Table) (g : Formed t) (k : ℕ) (u : inUse t k ≡ true) where
         other = λ i f l d. unfold flipped withSteps linkBit in refl;
       }
 
-  turned-more : (m : ℕ) → m < exits → (v : Table) → Turned m v → Turned (suc m) (weakened v k m)
+  turned-more : (m : ℕ) → m < exitsOf k → (v : Table) → Turned m v → Turned (suc m) (weakened v k m)
   turned-more m l v r =
       let uv = alike-used (r .alike) k ∙ u in
       let w = weakening v (r .formed) k m uv l in
@@ -140,9 +140,9 @@ module _ (t : Table) (g : Formed t) (k : ℕ) (u : inUse t k ≡ true) where
         other = λ i f x d. w .other i f x (λ q. d (q .0)) ∙ r .other i f x d;
       }
 
-  pub taken : Turned exits (restored t k)
+  pub taken : Turned (exitsOf k) (restored t k)
   unfolding restored
-  taken = rounds-induct Turned exits (λ e v. weakened v k e) (flipped t k) turned-more turned-start
+  taken = rounds-induct Turned (exitsOf k) (λ e v. weakened v k e) (flipped t k) turned-more turned-start
 
   own-taken : ownBit (restored t k) k ≡ 1 - ownBit t k
   unfolding ownBit
@@ -155,7 +155,7 @@ module _ (t : Table) (g : Formed t) (k : ℕ) (u : inUse t k ≡ true) where
   own-other j d = ap (λ (l : List ℕ). getD l j 0) (taken .own) ∙ getD-set-other (t .own) k j (1 - getD (t .own) k 0) 0 d
 
   -- of links of other steps to other steps, the strength stays
-  strong-other : (i e : ℕ) → e < exits → (i ≡ k → ⊥) → (targetOf t i e ≡ k → ⊥) → strong (restored t k) i e ≡ strong t i e
+  strong-other : (i e : ℕ) → e < exitsOf i → (i ≡ k → ⊥) → (targetOf t i e ≡ k → ⊥) → strong (restored t k) i e ≡ strong t i e
   strong-other i e l d c =
       strong-same t (restored t k) i e (alike-target (taken .alike) i e) (taken .other i e l d) (own-other (targetOf t i e) c)
 

@@ -10,7 +10,7 @@ use Rattle.finite.specs.Reach.{reaches}
 use Rattle.finite.proofs.Bools.{passes-at, and-intro, and-left, and-right, clash, refute, implied, imply, otherwise, either, not-true-false}
 use Rattle.finite.proofs.Below.{all-at, all-intro}
 use Rattle.finite.proofs.Reach.{chain-head, reach-sound, reach-complete, chain-first}
-use Rattle.table.specs.Table.{Table, places, exits, counters, inUse, holds, stronglyLinked}
+use Rattle.table.specs.Table.{Table, places, exitsOf, counters, inUse, holds, stronglyLinked}
 use Rattle.table.specs.Cabins.{charge, freeSteps}
 use Rattle.table.specs.Sound.{Shape, Blank, Sound, capacityFits, eachUsed, shapeTests, blankTests, ringless, soundTests, sound}
 use Rattle.table.proofs.Cabins.{quotas-pairs, quotas-together, quotas-test, charges-limit, charges-reserve, charges-test}
@@ -60,8 +60,8 @@ tests-blank t i h =
       kind = eqb-true _ _ (at 1);
       content = eqb-true _ _ (at 2);
       own = eqb-true _ _ (at 3);
-      targets = λ e l. eqb-true _ _ (all-at exits _ (at 4) e l);
-      bits = λ e l. eqb-true _ _ (all-at exits _ (at 5) e l);
+      targets = λ e l. eqb-true _ _ (all-at (exitsOf i) _ (at 4) e l);
+      bits = λ e l. eqb-true _ _ (all-at (exitsOf i) _ (at 5) e l);
       counts = λ b l. eqb-true _ _ (all-at counters _ (at 6) b l);
       cabin = eqb-true _ _ (at 7);
     }
@@ -73,8 +73,8 @@ blank-tests t i s =
     (and-intro (eq-eqb _ _ (s .kind))
     (and-intro (eq-eqb _ _ (s .content))
     (and-intro (eq-eqb _ _ (s .own))
-    (and-intro (all-intro exits _ (λ e l. eq-eqb _ _ (s .targets e l)))
-    (and-intro (all-intro exits _ (λ e l. eq-eqb _ _ (s .bits e l)))
+    (and-intro (all-intro (exitsOf i) _ (λ e l. eq-eqb _ _ (s .targets e l)))
+    (and-intro (all-intro (exitsOf i) _ (λ e l. eq-eqb _ _ (s .bits e l)))
     (and-intro (all-intro counters _ (λ b l. eq-eqb _ _ (s .counts b l))) (and-intro (eq-eqb _ _ (s .cabin)) refl)))))))
 
 -- a capacity in range
@@ -92,7 +92,7 @@ module _ (t : Table) where
         shape = shape;
         most = leb-true _ _ (and-right (leb 1 (t .capacity)) _ (at 1));
         above = λ i g l. refute (inUse t i) (λ u. let b : i < t .capacity = ltb-true _ _ (each-used-at t _ (at 3) i l u) in omega arith);
-        targets = λ i e u l g. implied (holds t i e) _ (all-at exits _ (each-used-at t _ (at 8) i (used-place shape i u) u) e l) g;
+        targets = λ i e u l g. implied (holds t i e) _ (all-at (exitsOf i) _ (each-used-at t _ (at 8) i (used-place shape i u) u) e l) g;
         free = λ i l f. tests-blank t i (otherwise (inUse t i) _ (all-at places _ (at 10) i l) f);
       }
 
@@ -111,9 +111,9 @@ module _ (t : Table) where
         alarm = at 4;
         kinds = λ i u. each-used-at t _ (at 5) i (used-place (w .shape) i u) u;
         own = λ i u. ltb-true _ _ (each-used-at t _ (at 6) i (used-place (w .shape) i u) u);
-        bits = λ i e u l. ltb-true _ _ (all-at exits _ (each-used-at t _ (at 7) i (used-place (w .shape) i u) u) e l);
+        bits = λ i e u l. ltb-true _ _ (all-at (exitsOf i) _ (each-used-at t _ (at 7) i (used-place (w .shape) i u) u) e l);
         targets = w .targets;
-        empty = λ i e u l g. eqb-true _ _ (otherwise (holds t i e) _ (all-at exits _ (each-used-at t _ (at 9) i (used-place (w .shape) i u) u) e l) g);
+        empty = λ i e u l g. eqb-true _ _ (otherwise (holds t i e) _ (all-at (exitsOf i) _ (each-used-at t _ (at 9) i (used-place (w .shape) i u) u) e l) g);
         free = w .free;
         counts = λ i b u l. eqb-true _ _ (all-at counters _ (each-used-at t _ (at 11) i (used-place (w .shape) i u) u) b l);
         acyclic =
@@ -146,9 +146,9 @@ module _ (t : Table) where
       (and-intro (s .alarm)
       (and-intro (each-used-intro t _ (s .kinds))
       (and-intro (each-used-intro t _ (λ i u. lt-ltb _ _ (s .own i u)))
-      (and-intro (each-used-intro t _ (λ i u. all-intro exits _ (λ e l. lt-ltb _ _ (s .bits i e u l))))
-      (and-intro (each-used-intro t _ (λ i u. all-intro exits _ (λ e l. imply (holds t i e) _ (s .targets i e u l))))
-      (and-intro (each-used-intro t _ (λ i u. all-intro exits _ (λ e l. either (holds t i e) _ (λ f. eq-eqb _ _ (s .empty i e u l f)))))
+      (and-intro (each-used-intro t _ (λ i u. all-intro (exitsOf i) _ (λ e l. lt-ltb _ _ (s .bits i e u l))))
+      (and-intro (each-used-intro t _ (λ i u. all-intro (exitsOf i) _ (λ e l. imply (holds t i e) _ (s .targets i e u l))))
+      (and-intro (each-used-intro t _ (λ i u. all-intro (exitsOf i) _ (λ e l. either (holds t i e) _ (λ f. eq-eqb _ _ (s .empty i e u l f)))))
       (and-intro (all-intro places _ (λ i l. either (inUse t i) _ (λ f. blank-tests t i (s .free i l f))))
       (and-intro (each-used-intro t _ (λ i u. all-intro counters _ (λ b l. eq-eqb _ _ (s .counts i b u l))))
       (and-intro

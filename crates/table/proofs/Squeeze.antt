@@ -21,7 +21,7 @@ use Rattle.finite.proofs.Packed.{tabulate-next, tabulate-past, take-tabulate, m
 use Rattle.finite.specs.Below.{tabulate, tabulateFrom}
 use Rattle.finite.specs.Reach.{Chain}
 use Rattle.table.specs.declared.Answer.the-variants.{Given}
-use Rattle.table.specs.Table.{Table, places, exits, cabinCount, quotaNumbers, inUse, kindOf, contentOf, ownBit, cabinOf, targetOf, linkBit, counterOf, holds, stronglyLinked, linksTo, stepsInUse, StrongChain}
+use Rattle.table.specs.Table.{Table, places, exitsOf, cabinCount, quotaNumbers, inUse, kindOf, contentOf, ownBit, cabinOf, targetOf, linkBit, counterOf, holds, stronglyLinked, linksTo, stepsInUse, StrongChain}
 use Rattle.table.specs.Cabins.{quotasFit, listFits, chargesFit, charged, charge, freeSteps}
 use Rattle.table.specs.Sound.{Blank, Sound, capacityFits, contentFits, kindFits, sound}
 use Rattle.table.specs.Squeeze.{newNumber, squeezed, squeezeRefusal, squeezeCall, Renumbered}
@@ -30,7 +30,7 @@ use Rattle.table.proofs.Cabins.{quotas-pairs, quotas-together, charges-
 use Rattle.table.proofs.Sound.{capacity-range, test-sound, sound-test}
 use Rattle.table.proofs.Links.{Wired, sound-wired, empty-target, used-below}
 use Rattle.table.proofs.Renumber.{new-zero, new-used, new-free, new-all, new-once, new-below, moved-none, squeezed-shape, squeezed-entry, squeezed-kind, squeezed-content, squeezed-own, squeezed-cabin, squeezed-target, squeezed-bit, squeezed-counter, squeezed-renumbered}
-use Rattle.table.proofs.Follow.{Follows, renumbered-follows, new-nonzero, used-new-step, new-used-step, follow-holds, follow-chain, follow-chain-back, follow-links, follow-used, follow-count}
+use Rattle.table.proofs.Follow.{Follows, renumbered-follows, new-nonzero, new-exits, used-new-step, new-used-step, follow-holds, follow-chain, follow-chain-back, follow-links, follow-used, follow-count}
 use Rattle.table.proofs.Plan.{step-path, plan-path, plan-count, plan-charge}
 use Rattle.table.proofs.Calls.{done, next, first-same, nonzero, first-zero, unless-zero, unless-answer, past-sound}
 
@@ -97,6 +97,9 @@ module _ {t : Table} (s : Sound t) (c : ℕ) (q : List ℕ) (fit : Roomy t c q) 
   f : Follows t u
   f = renumbered-follows r
 
+  old-exit : (i e : ℕ) → e < exitsOf (newNumber t i) → e < exitsOf i
+  old-exit i e l = omega (arith, new-exits t (s .alarm) i)
+
   pub squeezed-wired : Wired u
   unfolding squeezed
   squeezed-wired =
@@ -106,12 +109,14 @@ module _ {t : Table} (s : Sound t) (c : ℕ) (q : List ℕ) (fit : Roomy t c q) 
         above = λ k l p. r .used k ∙ le-ltb k (stepsInUse t) (let m = fit .room in omega arith);
         targets =
             λ k e y l.
-            each (λ k. holds u k e ≡ true → inUse u (targetOf u k e) ≡ true)
-            (λ i x h.
-            rw (r .target i e x l)
-            (new-used-step w (s .alarm) f (targetOf t i e) (s .targets i e x l (sym (follow-holds w (s .alarm) f i e x l) ∙ h))))
+            each (λ k. e < exitsOf k → holds u k e ≡ true → inUse u (targetOf u k e) ≡ true)
+            (λ i x b h.
+            let o = old-exit i e b in
+            rw (r .target i e x o)
+            (new-used-step w (s .alarm) f (targetOf t i e) (s .targets i e x o (sym (follow-holds w (s .alarm) f i e x o) ∙ h))))
             k
-            y;
+            y
+            l;
         free = blank;
       }
 
@@ -187,14 +192,17 @@ module _ {t : Table} (s : Sound t) (c : ℕ) (q : List ℕ) (fit : Roomy t c q) 
         alarm = rw (new-zero t) at (new-used-step w (s .alarm) f 0 (s .alarm));
         kinds = each (λ k. kindFits k (kindOf u k) (contentOf u k) ≡ true) fits-there;
         own = each (λ k. ownBit u k < 2) (λ i x. rw (r .own i x) (s .own i x));
-        bits = λ k e y l. each (λ k. linkBit u k e < 2) (λ i x. rw (r .bit i e x l) (s .bits i e x l)) k y;
+        bits =
+            λ k e y l.
+            each (λ k. e < exitsOf k → linkBit u k e < 2) (λ i x b. let o = old-exit i e b in rw (r .bit i e x o) (s .bits i e x o)) k y l;
         targets = squeezed-wired .targets;
         empty =
             λ k e y l.
-            each (λ k. holds u k e ≡ false → linkBit u k e ≡ 0)
-            (λ i x h. r .bit i e x l ∙ s .empty i e x l (sym (follow-holds w (s .alarm) f i e x l) ∙ h))
+            each (λ k. e < exitsOf k → holds u k e ≡ false → linkBit u k e ≡ 0)
+            (λ i x b h. let o = old-exit i e b in r .bit i e x o ∙ s .empty i e x o (sym (follow-holds w (s .alarm) f i e x o) ∙ h))
             k
-            y;
+            y
+            l;
         free = blank;
         counts =
             λ k b y l.
@@ -272,7 +280,7 @@ packed-append (some s ∷ xs) ys = ap {B = List PlanStep} (λ l. s ∷ l) (packe
 module _ (t : Table) where
   -- what the plan keeps of a step in use
   stepKept : ℕ → PlanStep
-  stepKept i = record { kind = kindOf t i; content = contentOf t i; targets = tabulate exits (targetOf t i); cabin = cabinOf t i }
+  stepKept i = record { kind = kindOf t i; content = contentOf t i; targets = tabulate (exitsOf i) (targetOf t i); cabin = cabinOf t i }
 
   plan-step-used : (i : ℕ) → inUse t i ≡ true → planStep t i ≡ some (stepKept i)
   unfolding planStep stepKept
@@ -322,12 +330,13 @@ module _ {t : Table} (s : Sound t) (c : ℕ) (q : List ℕ) (fit : Roomy t c q) 
       ∙ ap some
       (unfold followed stepKept in
       step-path (r .kind i x) (r .content i x)
-      (tabulate-ext exits _ _
+      (ap (λ (n : ℕ). tabulate n (targetOf (squeezed t c q) (newNumber t i))) (new-exits t (s .alarm) i)
+      ∙ tabulate-ext (exitsOf i) _ _
       (λ e l. r .target i e x l ∙ sym (plan-rank t (targetOf t i e) (target-low w e l)))
-      ∙ sym (map-tabulate (planRank (planOf t)) exits (targetOf t i)))
+      ∙ sym (map-tabulate (planRank (planOf t)) (exitsOf i) (targetOf t i)))
       (r .cabin i x)))
     where
-      target-low : Wired t → (e : ℕ) → e < exits → targetOf t i e ≤ t .capacity
+      target-low : Wired t → (e : ℕ) → e < exitsOf i → targetOf t i e ≤ t .capacity
       target-low w e l =
           ⊎-elim (λ (h : holds t i e ≡ true). let b = used-below w (targetOf t i e) (s .targets i e x l h) in omega arith)
           (λ (h : holds t i e ≡ false). rw (empty-target t i e h) (omega arith))

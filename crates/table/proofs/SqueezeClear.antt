@@ -13,18 +13,19 @@ use Rattle.finite.specs.Below.{count}
 use Rattle.finite.proofs.Bools.{and-left}
 use Rattle.finite.proofs.Below.{eq-or-ne}
 use Rattle.table.specs.declared.Answer.the-variants.{Given, Refused}
-use Rattle.table.specs.Table.{Table, places, exits, inUse, ownBit, targetOf, linkBit, stepsInUse, withLinks}
+use Rattle.table.specs.Table.{Table, places, exits, exitsOf, inUse, ownBit, targetOf, linkBit, stepsInUse, withLinks}
 use Rattle.table.specs.Sound.{Sound}
 use Rattle.table.specs.Calls.{relink}
 use Rattle.table.specs.Clear.{emptied, cleared, clearRefusal, clearCall}
 use Rattle.table.specs.Squeeze.{newNumber, squeezed, ClearsAlike}
+use Rattle.table.proofs.Places.{own-exit}
 use Rattle.table.proofs.Links.{Wired, sound-wired, used-place}
 use Rattle.table.proofs.Relink.{relink-target, relink-target-other, relink-bit, relink-bit-other}
 use Rattle.table.proofs.Formed.{at-exit, formed-wired}
 use Rattle.table.proofs.Clear.{reached-in-use, Cleared, emptied-used, emptied-steps, formed-emptied}
 use Rattle.table.proofs.Calls.{done, next, first-same, past-sound, clear-made, clear-refused, ClearFits, clear-fits, clear-cleared}
 use Rattle.table.proofs.Renumber.{new-zero, new-once, squeezed-renumbered}
-use Rattle.table.proofs.Follow.{Follows, renumbered-follows, new-used-step, follow-holds, follow-used, follow-reach, follow-strong-reach, follow-count}
+use Rattle.table.proofs.Follow.{Follows, renumbered-follows, new-exits, new-used-step, follow-holds, follow-used, follow-reach, follow-strong-reach, follow-count}
 use Rattle.table.proofs.Squeeze.{SqueezeFits, squeeze-sound}
 
 -- an emptied exit changes no step, and so no new number
@@ -60,14 +61,18 @@ module _ {t : Table} (s : Sound t) (c : ℕ) (q : List ℕ) (fit : SqueezeFits t
   unfolding clearRefusal
   refusal-same =
       past-sound v _
-      ∙ first-same (next (ap not (used′ ∙ sym used)) (λ _. next refl (λ l. next (ap not (follow-holds w (s .alarm) f i e used (leb-false exits e l))) (λ _. done))))
+      ∙ first-same (next (ap not (used′ ∙ sym used)) (λ _. next refl (λ l. next (ap not (follow-holds w (s .alarm) f i e used (own-exit i e (leb-false exits e l)))) (λ _. done))))
       ∙ sym (past-sound s _)
 
   -- another exit of t is another one of u
   apart : (j g : ℕ) → inUse t j ≡ true → ((j ≡ i) × (g ≡ e) → ⊥) → (newNumber t j ≡ k) × (g ≡ e) → ⊥
   apart j g x d q = d (new-once t j i x used (q .0), q .1)
 
-  module _ (low : e < exits) where
+  -- an exit of a step is one of the step under its new number
+  new-exit : (j g : ℕ) → g < exitsOf j → g < exitsOf (newNumber t j)
+  new-exit j g l = omega (arith, new-exits t (s .alarm) j)
+
+  module _ (low : e < exitsOf i) where
     place : i < places
     place = used-place (s .shape) i used
 
@@ -75,25 +80,25 @@ module _ {t : Table} (s : Sound t) (c : ℕ) (q : List ℕ) (fit : SqueezeFits t
     place′ = used-place (v .shape) k used′
 
     -- the emptied exit is empty in both, and every other one is as it was
-    target-there : (j g : ℕ) → inUse t j ≡ true → g < exits → targetOf (emptied u k e) (newNumber t j) g ≡ newNumber t (targetOf (emptied t i e) j g)
+    target-there : (j g : ℕ) → inUse t j ≡ true → g < exitsOf j → targetOf (emptied u k e) (newNumber t j) g ≡ newNumber t (targetOf (emptied t i e) j g)
     unfolding emptied
     target-there j g x l =
         ⊎-elim
         (λ (q : (j ≡ i) × (g ≡ e)).
-        rw (q .0, q .1, relink-target t (s .shape) i e 0 0 place low) (relink-target u (v .shape) k e 0 0 place′ low ∙ sym (new-zero t)))
+        rw (q .0, q .1, relink-target t (s .shape) i e 0 0 place low) (relink-target u (v .shape) k e 0 0 place′ (new-exit i e low) ∙ sym (new-zero t)))
         (λ d.
         rw (relink-target-other t (s .shape) i e 0 0 place low j g l d)
-        (relink-target-other u (v .shape) k e 0 0 place′ low (newNumber t j) g l (apart j g x d) ∙ f .target j g x l))
+        (relink-target-other u (v .shape) k e 0 0 place′ (new-exit i e low) (newNumber t j) g (new-exit j g l) (apart j g x d) ∙ f .target j g x l))
         (at-exit i e j g)
 
-    bit-there : (j g : ℕ) → inUse t j ≡ true → g < exits → linkBit (emptied u k e) (newNumber t j) g ≡ linkBit (emptied t i e) j g
+    bit-there : (j g : ℕ) → inUse t j ≡ true → g < exitsOf j → linkBit (emptied u k e) (newNumber t j) g ≡ linkBit (emptied t i e) j g
     unfolding emptied
     bit-there j g x l =
         ⊎-elim
-        (λ (q : (j ≡ i) × (g ≡ e)). rw (q .0, q .1, relink-bit t (s .shape) i e 0 0 place low) (relink-bit u (v .shape) k e 0 0 place′ low))
+        (λ (q : (j ≡ i) × (g ≡ e)). rw (q .0, q .1, relink-bit t (s .shape) i e 0 0 place low) (relink-bit u (v .shape) k e 0 0 place′ (new-exit i e low)))
         (λ d.
         rw (relink-bit-other t (s .shape) i e 0 0 place low j g l d)
-        (relink-bit-other u (v .shape) k e 0 0 place′ low (newNumber t j) g l (apart j g x d) ∙ f .bit j g x l))
+        (relink-bit-other u (v .shape) k e 0 0 place′ (new-exit i e low) (newNumber t j) g (new-exit j g l) (apart j g x d) ∙ f .bit j g x l))
         (at-exit i e j g)
 
     emptied-follows : Follows (emptied t i e) (emptied u k e)

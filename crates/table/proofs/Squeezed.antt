@@ -15,14 +15,15 @@ use borrow.Author.Tests.{eqb-false, lt-ltb}
 use Rattle.finite.proofs.Bools.{test}
 use Rattle.finite.proofs.Below.{eq-or-ne, le-or-lt, tabulate-ext}
 use Rattle.finite.proofs.Packed.{count-every}
-use Rattle.table.specs.Table.{Table, places, exits, counters, inUse, kindOf, contentOf, ownBit, cabinOf, targetOf, linkBit, counterOf, holds, stepsInUse}
+use Rattle.table.specs.Table.{Table, places, exits, entriesOf, exitsOf, exitPlaces, holderAt, exitAt, counters, inUse, kindOf, contentOf, ownBit, cabinOf, targetOf, linkBit, counterOf, holds, stepsInUse}
 use Rattle.table.specs.Sound.{Sound, sound}
 use Rattle.table.specs.Answer.{movesOf}
 use Rattle.table.specs.Trial.{TrialOutcome, isContact, exitOf, resultsAfter, noResult, tryFrom, trialRefusal, trialCall, triedUnder, underNumbers}
 use Rattle.table.specs.Squeeze.{newNumber, oldNumber, moved, squeezed, squeezeRefusal, Renumbered}
+use Rattle.table.proofs.Places.{own-exit, exit-at-below}
 use Rattle.table.proofs.Links.{Wired, sound-wired, empty-target}
 use Rattle.table.proofs.Renumber.{new-zero, new-step, new-below, moved-step, moved-none, moved-new, old-new, squeezed-renumbered}
-use Rattle.table.proofs.Follow.{Follows, renumbered-follows, follow-holds}
+use Rattle.table.proofs.Follow.{Follows, renumbered-follows, new-exits, follow-holds}
 use Rattle.table.proofs.Calls.{done, next, first-same, past-sound, trial-refusal, trial-refused, trial-made}
 use Rattle.table.proofs.Trials.{results-at, try-spent, try-open, try-stopped, try-move, try-rule, trial-fit}
 use Rattle.table.proofs.Squeeze.{SqueezeFits, squeezed-wired, used-same, squeeze-sound}
@@ -30,23 +31,27 @@ use Rattle.table.proofs.Squeeze.{SqueezeFits, squeezed-wired, used-same
 -- a field of each step of u is that of the steps of t that were moved there
 abbrev MovedSame : Table → Table → Type 0
 MovedSame t u =
-    (k : ℕ) (field field′ : ℕ → ℕ) → ((i : ℕ) → inUse t i ≡ true → field (newNumber t i) ≡ field′ i) → moved u k field ≡ moved t k field′
+    (k : ℕ) (field field′ : ℕ → ℕ) → ((i : ℕ) → inUse t i ≡ true → newNumber t i ≡ k → field (newNumber t i) ≡ field′ i) → moved u k field ≡ moved t k field′
 
-squeezed-same : (t u : Table) (d : ℕ) (p : List ℕ) → Renumbered t u → stepsInUse u ≡ stepsInUse t → MovedSame t u →
-    ((i e : ℕ) → inUse t i ≡ true → e < exits → newNumber u (targetOf u (newNumber t i) e) ≡ newNumber t (targetOf t i e)) → squeezed u d p ≡ squeezed t d p
+-- the exit at a place is one of the step that moves there
+moves-exit : (t : Table) → inUse t 0 ≡ true → (p i : ℕ) → newNumber t i ≡ holderAt p → exitAt p < exitsOf i
+moves-exit t alarm p i n = omega (arith, exit-at-below p, ap entriesOf n, new-exits t alarm i)
+
+squeezed-same : (t u : Table) (d : ℕ) (p : List ℕ) → inUse t 0 ≡ true → Renumbered t u → stepsInUse u ≡ stepsInUse t → MovedSame t u →
+    ((i e : ℕ) → inUse t i ≡ true → e < exitsOf i → newNumber u (targetOf u (newNumber t i) e) ≡ newNumber t (targetOf t i e)) → squeezed u d p ≡ squeezed t d p
 unfolding squeezed
-squeezed-same t u d l r n same target =
-    let used = tabulate-ext places _ _ (λ k _. same k (λ i. 1) (λ i. 1) (λ i x. refl)) in
-    let kinds = tabulate-ext places _ _ (λ k _. same k (kindOf u) (kindOf t) (r .kind)) in
-    let contents = tabulate-ext places _ _ (λ k _. same k (contentOf u) (contentOf t) (r .content)) in
-    let own = tabulate-ext places _ _ (λ k _. same k (ownBit u) (ownBit t) (r .own)) in
-    let targets = tabulate-ext (places * exits) _ _
-    (λ p _. same (p / exits) (λ i. newNumber u (targetOf u i (p % exits))) (λ i. newNumber t (targetOf t i (p % exits))) (λ i x. target i (p % exits) x (omega arith))) in
-    let bits = tabulate-ext (places * exits) _ _
-    (λ p _. same (p / exits) (λ i. linkBit u i (p % exits)) (λ i. linkBit t i (p % exits)) (λ i x. r .bit i (p % exits) x (omega arith))) in
+squeezed-same t u d l alarm r n same target =
+    let used = tabulate-ext places _ _ (λ k _. same k (λ i. 1) (λ i. 1) (λ i x m. refl)) in
+    let kinds = tabulate-ext places _ _ (λ k _. same k (kindOf u) (kindOf t) (λ i x m. r .kind i x)) in
+    let contents = tabulate-ext places _ _ (λ k _. same k (contentOf u) (contentOf t) (λ i x m. r .content i x)) in
+    let own = tabulate-ext places _ _ (λ k _. same k (ownBit u) (ownBit t) (λ i x m. r .own i x)) in
+    let targets = tabulate-ext (exitPlaces places) _ _
+    (λ p _. same (holderAt p) (λ i. newNumber u (targetOf u i (exitAt p))) (λ i. newNumber t (targetOf t i (exitAt p))) (λ i x m. target i (exitAt p) x (moves-exit t alarm p i m))) in
+    let bits = tabulate-ext (exitPlaces places) _ _
+    (λ p _. same (holderAt p) (λ i. linkBit u i (exitAt p)) (λ i. linkBit t i (exitAt p)) (λ i x m. r .bit i (exitAt p) x (moves-exit t alarm p i m))) in
     let counts = tabulate-ext (places * counters) _ _
-    (λ q _. same (q / counters) (λ i. counterOf u i (q % counters)) (λ i. counterOf t i (q % counters)) (λ i x. r .counter i (q % counters) x (omega arith))) in
-    let cabins = tabulate-ext places _ _ (λ k _. same k (cabinOf u) (cabinOf t) (r .cabin)) in
+    (λ q _. same (q / counters) (λ i. counterOf u i (q % counters)) (λ i. counterOf t i (q % counters)) (λ i x m. r .counter i (q % counters) x (omega arith))) in
+    let cabins = tabulate-ext places _ _ (λ k _. same k (cabinOf u) (cabinOf t) (λ i x m. r .cabin i x)) in
     λ j.
     record {
       capacity = d;
@@ -97,11 +102,11 @@ module _ {t : Table} (s : Sound t) (c : ℕ) (q : List ℕ) (fit : SqueezeFits t
       let x = new-step t k l in
       let y : inUse u k ≡ true = r .used k ∙ lt-ltb k (stepsInUse t) l in
       let z : oldNumber u k ≡ k = ap (oldNumber u) (sym (stays k (omega arith))) ∙ old-new v k y in
-      moved-step u k field (rw used l) ∙ ap field (z ∙ sym (x .2)) ∙ h (x .0) (x .1) ∙ sym (moved-new w (x .0) field′ (x .1)) ∙ ap (λ (j : ℕ). moved t j field′) (x .2))
+      moved-step u k field (rw used l) ∙ ap field (z ∙ sym (x .2)) ∙ h (x .0) (x .1) (x .2) ∙ sym (moved-new w (x .0) field′ (x .1)) ∙ ap (λ (j : ℕ). moved t j field′) (x .2))
       (le-or-lt (stepsInUse t) k)
 
   -- a target stays under its new number
-  target-stays : (i e : ℕ) → inUse t i ≡ true → e < exits → newNumber u (targetOf u (newNumber t i) e) ≡ newNumber t (targetOf t i e)
+  target-stays : (i e : ℕ) → inUse t i ≡ true → e < exitsOf i → newNumber u (targetOf u (newNumber t i) e) ≡ newNumber t (targetOf t i e)
   target-stays i e x l =
       ap (newNumber u) (r .target i e x l)
       ∙ stays (newNumber t (targetOf t i e))
@@ -110,7 +115,7 @@ module _ {t : Table} (s : Sound t) (c : ℕ) (q : List ℕ) (fit : SqueezeFits t
       (test (holds t i e)))
 
   pub squeeze-twice : (d : ℕ) (l : List ℕ) → squeezed (squeezed t c q) d l ≡ squeezed t d l
-  squeeze-twice d l = squeezed-same t u d l r used moved-same target-stays
+  squeeze-twice d l = squeezed-same t u d l (s .alarm) r used moved-same target-stays
 
   pub squeeze-refusal-same : (d : ℕ) (l : List ℕ) → squeezeRefusal u d l ≡ squeezeRefusal t d l
   unfolding squeezeRefusal
@@ -140,7 +145,7 @@ module _ {t : Table} (s : Sound t) (c : ℕ) (q : List ℕ) (fit : SqueezeFits t
     after-under = rw (contact-under i x)
 
     holds-under : exitOf t i results < exits → holds u (newNumber t i) (exitOf u (newNumber t i) results) ≡ holds t i (exitOf t i results)
-    holds-under l = rw exit-under (follow-holds w (s .alarm) f i (exitOf t i results) x l)
+    holds-under l = rw exit-under (follow-holds w (s .alarm) f i (exitOf t i results) x (own-exit i _ l))
 
   Fit : List ℕ → Type 0
   Fit results = (k : ℕ) → k < length results → getD results k 0 < exits
@@ -190,9 +195,9 @@ module _ {t : Table} (s : Sound t) (c : ℕ) (q : List ℕ) (fit : SqueezeFits t
       let e = exit-below i results fit h in
       let j = targetOf t i (exitOf t i results) in
       let n = length-set trace moves j in
-      let target : targetOf u (newNumber t i) (exitOf u (newNumber t i) results) ≡ newNumber t j = rw (exit-under i results x) (r .target i _ x e) in
+      let target : targetOf u (newNumber t i) (exitOf u (newNumber t i) results) ≡ newNumber t j = rw (exit-under i results x) (r .target i _ x (own-exit i _ e)) in
       try-move u (newNumber t i) moves (renumbered moves trace) results left (none-under i results x ∙ h) (holds-under i results x e ∙ g)
-      ∙ rw (target, after-under i results x, renumbered-set moves j trace (omega arith)) (f (s .targets i _ x e g) (after-fit i results fit) (omega arith))
+      ∙ rw (target, after-under i results x, renumbered-set moves j trace (omega arith)) (f (s .targets i _ x (own-exit i _ e) g) (after-fit i results fit) (omega arith))
 
   trial-under : (i moves left : ℕ) (trace results : List ℕ) → Under i moves left trace results (tryFrom t i moves left trace results)
   unfolding underNumbers triedUnder movesOf

@@ -14,7 +14,7 @@ use Prim.Native.Nat.{ℕ, _*_, _-_, _/_, _%_, _<_}
 use lib.Dec.{eqb, ltb}
 use Rattle.finite.specs.Below.{count, lowest, tabulate}
 use Rattle.table.specs.declared.Answer.the-variants.{Given}
-use Rattle.table.specs.Table.{Table, places, exits, exitsOf, exitPlaces, counters, inUse, kindOf, contentOf, ownBit, cabinOf, targetOf, linkBit, counterOf, stepsInUse}
+use Rattle.table.specs.Table.{Table, places, exitsOf, exitPlaces, holderAt, exitAt, counters, inUse, kindOf, contentOf, ownBit, cabinOf, targetOf, linkBit, counterOf, stepsInUse}
 use Rattle.table.specs.Cabins.{listFits}
 use Rattle.table.specs.Sound.{capacityFits, sound}
 use Rattle.table.specs.Answer.{Outcome, badCapacity, doesNotFit, badCabins, first, unless}
@@ -41,8 +41,8 @@ squeezed t c quotas =
       kinds = tabulate places (λ k. moved t k (kindOf t));
       contents = tabulate places (λ k. moved t k (contentOf t));
       own = tabulate places (λ k. moved t k (ownBit t));
-      targets = tabulate (exitPlaces places) (λ p. moved t (p / exits) (λ i. newNumber t (targetOf t i (p % exits))));
-      bits = tabulate (exitPlaces places) (λ p. moved t (p / exits) (λ i. linkBit t i (p % exits)));
+      targets = tabulate (exitPlaces places) (λ p. moved t (holderAt p) (λ i. newNumber t (targetOf t i (exitAt p))));
+      bits = tabulate (exitPlaces places) (λ p. moved t (holderAt p) (λ i. linkBit t i (exitAt p)));
       counts = tabulate (places * counters) (λ q. moved t (q / counters) (λ i. counterOf t i (q % counters)));
       cabins = tabulate places (λ k. moved t k (cabinOf t));
       quotas = quotas;

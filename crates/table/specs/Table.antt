@@ -1,7 +1,9 @@
 -- The table: its steps (nodes), exits (edge slots), links (edges) and counters (document 01, "The table"), and the cabins that share it (document
 -- 02, W5). Assumes nothing.
 --   Table               all fields of all steps
---   exitsOf i           the number of exits of step i; exitPlaces n: the places of the exits of the steps below n
+--   exitsOf i           the number of exits of step i: four, and at step 0 one for each of the entries, of which there are none yet
+--   exitPlace i e       where exit e of step i stands; exitPlaces n: how many places the exits of the steps below n have
+--   holderAt p, exitAt p   the step that has the exit at place p, and the number of that exit
 --   inUse t i           step i is in use
 --   kindOf contentOf ownBit cabinOf   its kind, its content, the bit of its own, the cabin that added it
 --   targetOf t i e, linkBit t i e   what exit e of step i holds: the target, 0 where it is empty, and the link's bit
@@ -17,11 +19,11 @@
 --   withNumbers withLinks withSteps   a table with another capacity, last number and quotas, with other links and counters, or with another last
 --                       number and other steps
 use mathlib.Core.Path.{_≡_}
-use mathlib.Core.Bool.{Bool, true, _&&_, not}
+use mathlib.Core.Bool.{Bool, true, _&&_, not, cond}
 use mathlib.Core.List.{List, [], _∷_}
-use Prim.Native.Nat.{ℕ, _+_, _*_}
+use Prim.Native.Nat.{ℕ, _+_, _*_, _-_, _/_, _%_}
 use lib.ListN.{getD}
-use lib.Dec.{eqb}
+use lib.Dec.{eqb, ltb}
 use Rattle.finite.specs.Below.{any, count, passes, same}
 use Rattle.finite.specs.Reach.{Chain}
 
@@ -61,17 +63,34 @@ pub record Table : Type 0 where
   pub cabins : List ℕ
   pub quotas : List ℕ
 
--- the number of exits that step i has, and how many places the exits of the steps below n have: each step has four
+-- Exits by step. "A step has .. four exits", numbered from 0. W12: an entry has "a link, counted like an exit of its step 0", so step 0 has one exit
+-- more for each entry, numbered from 4; before W12 a table has no entry. The exits of the entries stand first, then four for each step: so the first
+-- `exitPlaces n` are those of the steps below n, and the four of step n begin there. What is known of places is in proofs/Places; nothing else divides
+-- by the number of exits or multiplies by it.
+abbrev pub entries : ℕ
+entries = 0
+
+unfoldable pub entriesOf : ℕ → ℕ
+entriesOf i = cond (eqb i 0) entries 0
+
 abbrev pub exitsOf : ℕ → ℕ
-exitsOf i = exits
+exitsOf i = exits + entriesOf i
 
 abbrev pub exitPlaces : ℕ → ℕ
-exitPlaces n = n * exits
+exitPlaces n = entries + n * exits
 
--- where exit e, and counter b, of step i stand
+-- where exit e of step i stands
 unfoldable pub exitPlace : ℕ → ℕ → ℕ
-exitPlace i e = i * exits + e
+exitPlace i e = cond (ltb e exits) (exitPlaces i + e) (e - exits)
 
+-- the step that has the exit at place p, and the number of that exit
+abbrev pub holderAt : ℕ → ℕ
+holderAt p = (p - entries) / exits
+
+unfoldable pub exitAt : ℕ → ℕ
+exitAt p = cond (ltb p entries) (exits + p) ((p - entries) % exits)
+
+-- where counter b of step i stands
 unfoldable pub counterPlace : ℕ → ℕ → ℕ
 counterPlace i b = i * counters + b
 

@@ -8,7 +8,7 @@ use mathlib.Core.Path.{_≡_, refl, sym, _∙_, ap, ap₂}
 use mathlib.Core.Bool.{Bool, true, false, _&&_, not}
 use mathlib.Core.Logic.{_⊎_, inl, inr, ⊎-elim}
 use mathlib.Core.List.{List}
-use Prim.Native.Nat.{ℕ, zero, suc, _+_, _*_, _-_, _/_, _%_, _<_}
+use Prim.Native.Nat.{ℕ, zero, suc, _+_, _-_, _<_}
 use native.Mathlib.Omega.{arith}
 use lib.ListN.{length, getD, set, length-set}
 use lib.Seq.{getD-set-same, getD-set-other}
@@ -19,18 +19,19 @@ use Rattle.finite.proofs.Bools.{and-intro, and-left, and-right, clash, refute, 
 use Rattle.finite.proofs.Below.{eq-or-ne, any-at, any-intro, count-pos, count-some, tabulate-ext}
 use Rattle.finite.proofs.Reach.{chain-keeps, reach-sound, reach-closed, reach-start}
 use Rattle.finite.proofs.Select.{tabulate-entries}
-use Rattle.table.specs.Table.{Table, places, exits, counters, exitPlace, counterPlace, inUse, ownBit, targetOf, linkBit, counterOf, strong, linked, stronglyLinked}
+use Rattle.table.specs.Table.{Table, places, counters, exitPlace, exitsOf, exitPlaces, holderAt, exitAt, counterPlace, inUse, ownBit, targetOf, linkBit, counterOf, strong, linked, stronglyLinked}
 use Rattle.table.specs.Sound.{Sound}
 use Rattle.table.specs.Clear.{emptied, heldStrongly, stops, doubtful, wanted}
+use Rattle.table.proofs.Places.{exit-place-below, exit-place-step, exit-at-below}
 use Rattle.table.proofs.Links.{holds-target, target-holds, bit-strong, strong-bit, linked-exit, exit-linked, linked-used, strongly-linked}
-use Rattle.table.proofs.Relink.{exit-place-below, counter-place-below, relink-target, relink-target-other}
+use Rattle.table.proofs.Relink.{counter-place-below, relink-target, relink-target-other}
 use Rattle.table.proofs.Formed.{Formed, sound-formed, formed-wired, formed-place, formed-below}
 use Rattle.table.proofs.Spine.{sound-spine}
 use Rattle.table.proofs.Edits.{getD-zeros, relink-strongly-other}
 use Rattle.table.proofs.Clear.{formed-emptied, goes-strong, emptied-used, emptied-fewer, emptied-strongly, doubtful-at}
 use Rattle.withdraw.specs.Search.{slotAt, ownSlot, otherSlot, lands, isMarked, landing, landingKept, rest, Ranged, Exact, Search, Withdrawn, stillLinked}
 use Rattle.withdraw.specs.Withdraw.{Losing, candidate}
-use Rattle.withdraw.proofs.Slots.{own-slot-above, own-slot-below, own-slot-place, exit-here, exit-place-step, link-lands, lands-link, landing-some, landing-linked, formed-ranged, formed-exact}
+use Rattle.withdraw.proofs.Slots.{own-slot-above, own-slot-below, own-slot-place, exit-here, link-lands, lands-link, landing-some, landing-linked, formed-ranged, formed-exact}
 use Rattle.withdraw.proofs.Laws.{AtZero, search-begin, search-mark, mark-here, marked-next}
 use Rattle.withdraw.proofs.Found.{zeros, none-marked, up-marked, left-kept, kept-parent}
 
@@ -213,10 +214,10 @@ module _ (t : Table) (i e : ℕ) (o : Losing t i e) where
       unfolding landingKept otherSlot emptied
       left-linked some =
           let kept : 0 < landingKept (slotAt t) marks (otherSlot t k) = let z = other-kept in omega arith in
-          let p = count-some (places * exits) (λ x. lands (slotAt t) x (otherSlot t k) && not (isMarked marks (x / exits))) kept in
-          let a = p .0 / exits in
-          let f = p .0 % exits in
-          let lf : f < exits = omega arith in
+          let p = count-some (exitPlaces places) (λ x. lands (slotAt t) x (otherSlot t k) && not (isMarked marks (holderAt x))) kept in
+          let a = holderAt (p .0) in
+          let f = exitAt (p .0) in
+          let lf : f < exitsOf a = exit-at-below (p .0) in
           let link = lands-link t ranged k (1 - ownBit t k) (p .0) bit-below (and-left (lands (slotAt t) (p .0) (otherSlot t k)) _ (p .2)) in
           let to : targetOf t a f ≡ k = exit-here t (p .0) .0 ∙ link .1 in
           let bit : linkBit t a f ≡ 1 - ownBit t k = exit-here t (p .0) .1 ∙ link .2 in
@@ -256,7 +257,7 @@ module _ (t : Table) (i e : ℕ) (o : Losing t i e) where
           let own = ranged .own k in
           let bit : linkBit t a f ≡ 1 - ownBit t k = omega arith in
           let c =
-          count-pos (places * exits) (λ y. lands (slotAt t) y (otherSlot t k) && not (isMarked marks (y / exits))) (exitPlace a f)
+          count-pos (exitPlaces places) (λ y. lands (slotAt t) y (otherSlot t k) && not (isMarked marks (holderAt y))) (exitPlace a f)
           (exit-place-below a f places (x .1) la)
           (and-intro (link-lands t k (1 - ownBit t k) (exitPlace a f) nonzero to bit)
           (ap not (ap (isMarked marks) (exit-place-step a f (x .1)) ∙ n))) in

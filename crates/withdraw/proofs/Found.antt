@@ -6,14 +6,14 @@ use mathlib.Core.Path.{_≡_, refl, _∙_, ap, subst}
 use mathlib.Core.Bool.{Bool, true, false, _&&_, not}
 use mathlib.Core.Logic.{inl, inr, ⊎-elim}
 use mathlib.Core.List.{List}
-use Prim.Native.Nat.{ℕ, _*_, _/_, _<_}
+use Prim.Native.Nat.{ℕ, _*_, _<_}
 use native.Mathlib.Omega.{arith}
 use lib.ListN.{length, getD, set, replicate}
 use lib.Dec.{eqb}
 use Rattle.finite.specs.Below.{all}
 use Rattle.finite.proofs.Bools.{and-left, and-right, clash, not-true-false}
 use Rattle.finite.proofs.Below.{count-some}
-use Rattle.table.specs.Table.{Table, places, exits, counters, stronglyLinked}
+use Rattle.table.specs.Table.{Table, places, exitPlaces, holderAt, counters, stronglyLinked}
 use Rattle.table.proofs.Edits.{getD-zeros}
 use Rattle.withdraw.specs.Search.{slotAt, ownSlot, lands, isMarked, landing, landingKept, rest, Ranged, Exact, Search, Withdrawn, Spans}
 use Rattle.withdraw.proofs.Slots.{lands-alarm, strong-lands, lands-strong, own-slot-above, own-slot-below}
@@ -69,8 +69,8 @@ module _ (t : Table) (r : Ranged t) (counts : List ℕ) (x : Exact t counts) (sp
       let c : q ≡ spared → ⊥ = λ e. let z : getD left q 0 ≡ 0 = ap (λ (y : ℕ). getD left y 0) e ∙ s .dry (omega arith) in omega arith in
       let e = left-kept q (omega arith) low c in
       let kept : 0 < landingKept (slotAt t) marks q = omega arith in
-      let a = count-some (places * exits) (λ p. lands (slotAt t) p q && not (isMarked marks (p / exits))) kept in (
-        a .0 / exits,
+      let a = count-some (exitPlaces places) (λ p. lands (slotAt t) p q && not (isMarked marks (holderAt p))) kept in (
+        holderAt (a .0),
         not-true-false _ (and-right (lands (slotAt t) (a .0) q) _ (a .2)),
         lands-strong t r (a .0) j (and-left (lands (slotAt t) (a .0) q) _ (a .2)),
       )

@@ -9,7 +9,7 @@ use mathlib.Core.Path.{_≡_, refl, sym, _∙_, ap}
 use mathlib.Core.Bool.{Bool, true, false, _&&_, not}
 use mathlib.Core.Logic.{_⊎_, inl, inr, ⊎-elim}
 use mathlib.Core.List.{List}
-use Prim.Native.Nat.{ℕ, zero, suc, _+_, _*_, _-_, _/_, _≤_, _<_}
+use Prim.Native.Nat.{ℕ, zero, suc, _+_, _*_, _-_, _≤_, _<_}
 use native.Mathlib.Omega.{arith}
 use lib.ListN.{length, getD, set, length-set}
 use lib.Seq.{getD-set-same, getD-set-other}
@@ -17,47 +17,14 @@ use lib.Dec.{eqb}
 use borrow.Author.Tests.{eqb-true, eq-eqb, ne-eqb}
 use Rattle.finite.specs.Below.{one, all, count}
 use Rattle.finite.proofs.Bools.{and-intro, and-left, and-right, clash, refute, test, same-test, not-true-false}
-use Rattle.finite.proofs.Below.{eq-or-ne, count-ext, count-mono, count-change, count-split, count-none, count-pos}
+use Rattle.finite.proofs.Below.{eq-or-ne, count-ext, count-mono, count-change, count-split, count-pos}
 use Rattle.finite.proofs.Select.{count-grows}
-use Rattle.finite.proofs.Loops.{count-zero, count-add}
-use Rattle.table.specs.Table.{Table, places, exits, counters, exitPlace, counterPlace, ownBit}
+use Rattle.finite.proofs.Loops.{count-zero}
+use Rattle.table.specs.Table.{Table, places, counters, exitPlace, exitsOf, exitPlaces, holderAt, counterPlace, ownBit}
+use Rattle.table.proofs.Places.{count-exits}
 use Rattle.table.proofs.Relink.{counter-place-below}
 use Rattle.withdraw.specs.Search.{slotAt, ownSlot, lands, isMarked, landing, landingKept, at, rest, Ranged, Exact, Accounted, Search, Pending, Withdrawn, unmarked}
 use Rattle.withdraw.proofs.Slots.{lands-target, lands-intro, landing-zero, slot-empty, slot-link, own-slot-above, own-slot-place}
-
--- the places of one step's exits
-count-block : (n k : ℕ) (q : ℕ → Bool) → k < n → count (n * exits) (λ p. q p && eqb (p / exits) k) ≡ count exits (λ f. q (exitPlace k f))
-count-block zero k q l = absurd (omega arith)
-count-block (suc n) k q l =
-    let z : suc n * exits ≡ n * exits + exits = omega arith in
-    let parts = count-add (n * exits) exits (λ p. q p && eqb (p / exits) k) in
-    let all : count (suc n * exits) (λ p. q p && eqb (p / exits) k) ≡ count (n * exits + exits) (λ p. q p && eqb (p / exits) k) =
-    ap (λ (m : ℕ). count m (λ p. q p && eqb (p / exits) k)) z in
-    ⊎-elim
-    (λ (e : k ≡ n).
-    let none : count (n * exits) (λ p. q p && eqb (p / exits) k) ≡ 0 =
-    count-none (n * exits) _ (λ p b. refute _ (λ t. let s : p / exits ≡ k = eqb-true _ _ (and-right (q p) _ t) in omega arith)) in
-    let here : count exits (λ f. q (n * exits + f) && eqb ((n * exits + f) / exits) k) ≡ count exits (λ f. q (exitPlace k f)) =
-    count-ext exits _ _
-    (λ f b.
-    let s : (n * exits + f) / exits ≡ k = omega arith in
-    let same : q (n * exits + f) ≡ q (exitPlace k f) = ap q (placed e f) in
-    let yes′ : eqb ((n * exits + f) / exits) k ≡ true = eq-eqb _ _ s in
-    same-test (q (n * exits + f) && eqb ((n * exits + f) / exits) k) (q (exitPlace k f))
-    (λ t. sym same ∙ and-left (q (n * exits + f)) _ t)
-    (λ t. and-intro (same ∙ t) yes′)) in
-    omega arith)
-    (λ (d : k ≡ n → ⊥).
-    let low : k < n = omega arith in
-    let h = count-block n k q low in
-    let none : count exits (λ f. q (n * exits + f) && eqb ((n * exits + f) / exits) k) ≡ 0 =
-    count-none exits _
-    (λ f b. refute _ (λ t. let s : (n * exits + f) / exits ≡ k = eqb-true _ _ (and-right (q (n * exits + f)) _ t) in d (omega arith))) in
-    omega arith)
-    (eq-or-ne k n)
-  where
-    placed : k ≡ n → (f : ℕ) → n * exits + f ≡ exitPlace k f
-    placed e f = unfold exitPlace in (omega arith)
 
 -- Marking a step k that has no strong link left: its own exits become pending.
 pub record AtZero (t : Table) (counts : List ℕ) (spared : ℕ) (left marks : List ℕ) (pending : ℕ → ℕ) (k : ℕ) : Type 0 where
@@ -73,14 +40,14 @@ pub record AtZero (t : Table) (counts : List ℕ) (spared : ℕ) (left marks : L
   pub rank : ℕ → ℕ
   pub top : ℕ
   pub below : (j : ℕ) → isMarked marks j ≡ true → rank j < top
-  pub rising : Exact t counts → (p j : ℕ) → p < places * exits → lands (slotAt t) p (ownSlot t j) ≡ true → isMarked marks j ≡ true →
-      (ownSlot t j ≡ spared → ⊥) → (isMarked marks (p / exits) ≡ true) × (rank (p / exits) < rank j)
+  pub rising : Exact t counts → (p j : ℕ) → p < exitPlaces places → lands (slotAt t) p (ownSlot t j) ≡ true → isMarked marks j ≡ true →
+      (ownSlot t j ≡ spared → ⊥) → (isMarked marks (holderAt p) ≡ true) × (rank (holderAt p) < rank j)
   pub low : k < places
   pub fresh : isMarked marks k ≡ false
   pub zero : 0 < k → getD left (ownSlot t k) 0 ≡ 0
   -- all strong links to it are of marked steps
-  pub sources : Exact t counts → (ownSlot t k ≡ spared → ⊥) → (p : ℕ) → p < places * exits → lands (slotAt t) p (ownSlot t k) ≡ true →
-      isMarked marks (p / exits) ≡ true
+  pub sources : Exact t counts → (ownSlot t k ≡ spared → ⊥) → (p : ℕ) → p < exitPlaces places → lands (slotAt t) p (ownSlot t k) ≡ true →
+      isMarked marks (holderAt p) ≡ true
 
 module _ (h : ℕ → ℕ) where
   lands-other : (p q : ℕ) → (h p ≡ q → ⊥) → lands h p q ≡ false
@@ -98,18 +65,18 @@ module _ (h : ℕ → ℕ) where
   unfolding at
   at-other p q x e d = ap one (lands-other p x (λ y. d (sym y ∙ e)))
 
-  rest-all : (i q : ℕ) → rest h i 0 q ≡ count exits (λ f. lands h (exitPlace i f) q)
+  rest-all : (i q : ℕ) → rest h i 0 q ≡ count (exitsOf i) (λ f. lands h (exitPlace i f) q)
   unfolding rest
   rest-all i q = let z = count-zero (λ f. lands h (exitPlace i f) q) in omega arith
 
-  pub rest-none : (i q : ℕ) → rest h i exits q ≡ 0
+  pub rest-none : (i q : ℕ) → rest h i (exitsOf i) q ≡ 0
   unfolding rest
   rest-none i q = omega arith
 
-  pub rest-step : (i e q : ℕ) → e < exits → rest h i e q ≡ at h (exitPlace i e) q + rest h i (suc e) q
+  pub rest-step : (i e q : ℕ) → e < exitsOf i → rest h i e q ≡ at h (exitPlace i e) q + rest h i (suc e) q
   unfolding rest at count
   rest-step i e q l =
-      let m = count-grows (λ f. lands h (exitPlace i f) q) (suc e) exits l in
+      let m = count-grows (λ f. lands h (exitPlace i f) q) (suc e) (exitsOf i) l in
       omega arith
 
 module _ (t : Table) where
@@ -271,11 +238,11 @@ module _ (t : Table) where
                 (λ m.
                 let yk : lands (slotAt t) r k ≡ true = rw q at y in
                 let c : 0 < landingKept (slotAt t) marks k =
-                count-pos (places * exits) (λ i. lands (slotAt t) i k && not (isMarked marks (i / exits))) r lr (and-intro yk (ap not m)) in
+                count-pos (exitPlaces places) (λ i. lands (slotAt t) i k && not (isMarked marks (holderAt i))) r lr (and-intro yk (ap not m)) in
                 let a = account-here (inr x) unspared in
                 let b = x k low in
                 absurd (omega arith))
-                (test (isMarked marks (r / exits)));
+                (test (isMarked marks (holderAt r)));
           }
 
 -- Marking it.
@@ -305,37 +272,37 @@ module _ {t : Table} {counts : List ℕ} {spared : ℕ} {left marks : List ℕ} 
   kept-falls : (x : ℕ) → landingKept h marks x ≡ landingKept h (set marks k 1) x + rest h k 0 x
   unfolding landingKept
   kept-falls x =
-      let split = count-split (places * exits) (λ q. lands h q x && not (isMarked marks (q / exits))) (λ q. eqb (q / exits) k) in
-      let own : count (places * exits) (λ q. (lands h q x && not (isMarked marks (q / exits))) && eqb (q / exits) k) ≡
-      count exits (λ f. lands h (exitPlace k f) x) =
-      count-ext (places * exits) _ _
+      let split = count-split (exitPlaces places) (λ q. lands h q x && not (isMarked marks (holderAt q))) (λ q. eqb (holderAt q) k) in
+      let own : count (exitPlaces places) (λ q. (lands h q x && not (isMarked marks (holderAt q))) && eqb (holderAt q) k) ≡
+      count (exitsOf k) (λ f. lands h (exitPlace k f) x) =
+      count-ext (exitPlaces places) _ _
       (λ q l.
       same-test _ _
       (λ t.
-      and-intro (and-left (lands h q x) _ (and-left (lands h q x && not (isMarked marks (q / exits))) _ t))
-      (and-right (lands h q x && not (isMarked marks (q / exits))) _ t))
+      and-intro (and-left (lands h q x) _ (and-left (lands h q x && not (isMarked marks (holderAt q))) _ t))
+      (and-right (lands h q x && not (isMarked marks (holderAt q))) _ t))
       (λ t.
-      let here : q / exits ≡ k = eqb-true (q / exits) k (and-right (lands h q x) _ t) in
-      let un : isMarked marks (q / exits) ≡ false = rw here (s .fresh) in
+      let here : holderAt q ≡ k = eqb-true (holderAt q) k (and-right (lands h q x) _ t) in
+      let un : isMarked marks (holderAt q) ≡ false = rw here (s .fresh) in
       and-intro (and-intro (and-left (lands h q x) _ t) (ap not un)) (and-right (lands h q x) _ t)))
-      ∙ count-block places k (λ q. lands h q x) (s .low) in
-      let others : count (places * exits) (λ q. (lands h q x && not (isMarked marks (q / exits))) && not (eqb (q / exits) k)) ≡
-      count (places * exits) (λ q. lands h q x && not (isMarked (set marks k 1) (q / exits))) =
-      count-ext (places * exits) _ _
+      ∙ count-exits places k (λ q. lands h q x) (s .low) in
+      let others : count (exitPlaces places) (λ q. (lands h q x && not (isMarked marks (holderAt q))) && not (eqb (holderAt q) k)) ≡
+      count (exitPlaces places) (λ q. lands h q x && not (isMarked (set marks k 1) (holderAt q))) =
+      count-ext (exitPlaces places) _ _
       (λ q l.
       ⊎-elim
-      (λ (e : q / exits ≡ k).
-      let m : isMarked (set marks k 1) (q / exits) ≡ true = rw e mark-here in
+      (λ (e : holderAt q ≡ k).
+      let m : isMarked (set marks k 1) (holderAt q) ≡ true = rw e mark-here in
       same-test _ _
-      (λ t. clash (eq-eqb _ _ e) (not-true-false _ (and-right (lands h q x && not (isMarked marks (q / exits))) _ t)))
+      (λ t. clash (eq-eqb _ _ e) (not-true-false _ (and-right (lands h q x && not (isMarked marks (holderAt q))) _ t)))
       (λ t. clash m (not-true-false _ (and-right (lands h q x) _ t))))
-      (λ (c : q / exits ≡ k → ⊥).
-      let m = mark-there (q / exits) c in
-      let n : eqb (q / exits) k ≡ false = ne-eqb _ _ c in
+      (λ (c : holderAt q ≡ k → ⊥).
+      let m = mark-there (holderAt q) c in
+      let n : eqb (holderAt q) k ≡ false = ne-eqb _ _ c in
       same-test _ _
-      (λ t. rw m (and-left (lands h q x && not (isMarked marks (q / exits))) _ t))
+      (λ t. rw m (and-left (lands h q x && not (isMarked marks (holderAt q))) _ t))
       (λ t. and-intro (rw m at t) (ap not n)))
-      (eq-or-ne (q / exits) k)) in
+      (eq-or-ne (holderAt q) k)) in
       let all = rest-all h k x in
       omega arith
 
@@ -382,10 +349,10 @@ module _ {t : Table} {counts : List ℕ} {spared : ℕ} {left marks : List ℕ} 
             ⊎-elim
             (λ (e : j ≡ k).
             let o = s .sources x (rw e at c) q l (rw e at t) in
-            (mark-grows (q / exits) o, rw (e, raised-here, raised-there (q / exits) o) (s .below (q / exits) o)))
+            (mark-grows (holderAt q) o, rw (e, raised-here, raised-there (holderAt q) o) (s .below (holderAt q) o)))
             (λ o.
             let r = s .rising x q j l t o c in
-            (mark-grows (q / exits) (r .0), rw (raised-there (q / exits) (r .0), raised-there j o) (r .1)))
+            (mark-grows (holderAt q) (r .0), rw (raised-there (holderAt q) (r .0), raised-there j o) (r .1)))
             (marked-next j m);
       }
 
@@ -481,7 +448,7 @@ module _ (t : Table) (r : Ranged t) (p j : ℕ) (ej : j ≡ getD (t .targets) p 
         pub marked-falls : ((counts : List ℕ) × Pending t counts left marks (at (slotAt t) p)) → unmarked (set marks j 1) + 1 ≡ unmarked marks
         marked-falls some = unmarked-falls (at-zero-some some)
 
-        pub withdrawn-mark : p < places * exits → ((counts : List ℕ) × Pending t counts left marks (at (slotAt t) p)) → (left′ marks′ : List ℕ) →
+        pub withdrawn-mark : p < exitPlaces places → ((counts : List ℕ) × Pending t counts left marks (at (slotAt t) p)) → (left′ marks′ : List ℕ) →
             Withdrawn t (set left k (getD left k 0 - 1)) (set marks j 1) left′ marks′ (rest (slotAt t) j 0) →
             Withdrawn t left marks left′ marks′ (at (slotAt t) p)
         unfolding landing ownSlot
@@ -498,7 +465,7 @@ module _ (t : Table) (r : Ranged t) (p j : ℕ) (ej : j ≡ getD (t .targets) p 
                   (λ (q : i ≡ j).
                   let e : slotAt t p ≡ ownSlot t i = here ∙ rw (q, own) in
                   let c = lands-intro (slotAt t) p (ownSlot t i) e (λ z. let y = own-slot-above t i (omega arith) in omega arith) in
-                  inr (omega arith, count-pos (places * exits) (λ x. lands (slotAt t) x (ownSlot t i)) p lp c))
+                  inr (omega arith, count-pos (exitPlaces places) (λ x. lands (slotAt t) x (ownSlot t i)) p lp c))
                   (λ u. inl u)
                   (marked-next a i o))
                   (λ u. inr u)
@@ -517,16 +484,16 @@ upto-start t i left marks = record { after = λ counts spared pending s. s; grow
 
 module _ (t : Table) (i : ℕ) (left₀ marks₀ : List ℕ) (e : ℕ) (left marks : List ℕ) (u : Upto t i left₀ marks₀ e left marks) where
   -- the exit that is next is pending, beside those after it
-  next : e < exits → (counts : List ℕ) (spared : ℕ) (pending : ℕ → ℕ) →
+  next : e < exitsOf i → (counts : List ℕ) (spared : ℕ) (pending : ℕ → ℕ) →
       Search t counts spared left₀ marks₀ (λ q. pending q + rest (slotAt t) i 0 q) →
       Search t counts spared left marks (λ q. (pending q + rest (slotAt t) i (suc e) q) + at (slotAt t) (exitPlace i e) q)
   next l counts spared pending s = search-ext t (λ q. let r = rest-step (slotAt t) i e q l in omega arith) (u .after counts spared pending s)
 
-  pub upto-pending : e < exits → ((counts : List ℕ) × Pending t counts left₀ marks₀ (rest (slotAt t) i 0)) →
+  pub upto-pending : e < exitsOf i → ((counts : List ℕ) × Pending t counts left₀ marks₀ (rest (slotAt t) i 0)) →
       ((counts : List ℕ) × Pending t counts left marks (at (slotAt t) (exitPlace i e)))
   upto-pending l some = (some .0, (some .1 .0, _, next l (some .0) (some .1 .0) (some .1 .1) (some .1 .2)))
 
-  pub upto-more : (left′ marks′ : List ℕ) → e < exits → Withdrawn t left marks left′ marks′ (at (slotAt t) (exitPlace i e)) →
+  pub upto-more : (left′ marks′ : List ℕ) → e < exitsOf i → Withdrawn t left marks left′ marks′ (at (slotAt t) (exitPlace i e)) →
       Upto t i left₀ marks₀ (suc e) left′ marks′
   upto-more left′ marks′ l w =
       record {
@@ -535,7 +502,7 @@ module _ (t : Table) (i : ℕ) (left₀ marks₀ : List ℕ) (e : ℕ) (left mar
         new = λ j m. ⊎-elim (λ o. u .new j o) (λ v. inr v) (w .new j m);
       }
 
-  pub upto-done : e ≡ exits → Withdrawn t left₀ marks₀ left marks (rest (slotAt t) i 0)
+  pub upto-done : e ≡ exitsOf i → Withdrawn t left₀ marks₀ left marks (rest (slotAt t) i 0)
   upto-done z =
       record {
         after =
@@ -543,7 +510,7 @@ module _ (t : Table) (i : ℕ) (left₀ marks₀ : List ℕ) (e : ℕ) (left mar
             search-ext t
             (λ q.
             let n = rest-none (slotAt t) i q in
-            let r : rest (slotAt t) i e q ≡ rest (slotAt t) i exits q = ap (λ (x : ℕ). rest (slotAt t) i x q) z in
+            let r : rest (slotAt t) i e q ≡ rest (slotAt t) i (exitsOf i) q = ap (λ (x : ℕ). rest (slotAt t) i x q) z in
             omega arith)
             (u .after counts spared pending s);
         grown = u .grown;
@@ -555,7 +522,7 @@ pub search-begin : (t : Table) (counts : List ℕ) (spared : ℕ) (left marks : 
     length marks ≡ places → ((j : ℕ) → getD marks j 0 ≡ 0) → k < places →
     ((q : ℕ) → (0 < spared → q ≡ spared → ⊥) → getD left q 0 ≡ getD counts q 0) → (0 < spared → getD left spared 0 ≡ 0) →
     ((j : ℕ) → (j ≡ k → ⊥) → 0 < spared → ownSlot t j ≡ spared → ⊥) → (0 < k → getD left (ownSlot t k) 0 ≡ 0) →
-    (Exact t counts → (ownSlot t k ≡ spared → ⊥) → (p : ℕ) → p < places * exits → lands (slotAt t) p (ownSlot t k) ≡ true → ⊥) →
+    (Exact t counts → (ownSlot t k ≡ spared → ⊥) → (p : ℕ) → p < exitPlaces places → lands (slotAt t) p (ownSlot t k) ≡ true → ⊥) →
     AtZero t counts spared left marks (λ q. 0) k
 search-begin t counts spared left marks k ll lm none low same dry only z alone =
     record {
@@ -583,5 +550,5 @@ search-begin t counts spared left marks k ll lm none low same dry only z alone =
     kept-all : (q : ℕ) → landingKept (slotAt t) marks q ≡ landing (slotAt t) q
     kept-all q =
         unfold landingKept landing in
-        (count-ext (places * exits) _ _
-        (λ p l. same-test _ _ (λ y. and-left (lands (slotAt t) p q) _ y) (λ y. and-intro y (ap not (unmarked-at (p / exits))))))
+        (count-ext (exitPlaces places) _ _
+        (λ p l. same-test _ _ (λ y. and-left (lands (slotAt t) p q) _ y) (λ y. and-intro y (ap not (unmarked-at (holderAt p))))))

@@ -18,10 +18,11 @@ use Rattle.finite.specs.Below.{count}
 use Rattle.finite.proofs.Bools.{and-intro, and-left, and-right, refute, test, same-test, not-true-false}
 use Rattle.finite.proofs.Below.{le-or-lt, eq-or-ne, count-ext, count-none, count-pos, count-some}
 use Rattle.finite.proofs.Loops.{count-add}
-use Rattle.table.specs.Table.{Table, places, exits, counters, exitPlace, counterPlace, inUse, ownBit, targetOf, linkBit, counterOf, stronglyLinked, countsAt, linksTo}
+use Rattle.table.specs.Table.{Table, places, counters, exitPlace, exitsOf, exitPlaces, holderAt, exitAt, counterPlace, inUse, ownBit, targetOf, linkBit, counterOf, stronglyLinked, countsAt, linksTo}
 use Rattle.table.specs.Sound.{Shape}
+use Rattle.table.proofs.Places.{exit-place-below, exit-place-step, exit-at-below, exit-place-split}
 use Rattle.table.proofs.Links.{counts-here, counts-there, target-holds, holder-used, strong-holds, strong-bit, bit-strong, holds-target, strongly-exit, exit-strongly}
-use Rattle.table.proofs.Relink.{exit-place-split, exit-place-below, counter-place-same, counter-place-below}
+use Rattle.table.proofs.Relink.{counter-place-same, counter-place-below}
 use Rattle.table.proofs.Formed.{Formed, formed-wired, formed-below}
 use Rattle.words.proofs.Formed.{target-place}
 use Rattle.withdraw.specs.Search.{slotAt, ownSlot, lands, landing, Ranged, Exact}
@@ -38,7 +39,7 @@ module _ (h : ℕ → ℕ) where
   -- no link counts in counter 0
   pub landing-zero : landing h 0 ≡ 0
   unfolding landing
-  landing-zero = count-none (places * exits) _ (λ p l. refute _ (λ t. lands-target p 0 t .1 refl))
+  landing-zero = count-none (exitPlaces places) _ (λ p l. refute _ (λ t. lands-target p 0 t .1 refl))
 
 -- every counter is one of a step's two
 pub counter-place-split : (q : ℕ) → counterPlace (q / counters) (q % counters) ≡ q
@@ -49,14 +50,9 @@ counter-place-some : (j b : ℕ) → (j ≡ 0 → ⊥) → counterPlace j b ≡ 
 unfolding counterPlace
 counter-place-some j b d z = d (omega arith)
 
--- the step of an exit, from its place
-pub exit-place-step : (i e : ℕ) → e < exits → exitPlace i e / exits ≡ i
-unfolding exitPlace
-exit-place-step i e l = omega arith
-
 module _ (t : Table) where
   -- what an exit holds, at its place
-  pub exit-here : (p : ℕ) → (targetOf t (p / exits) (p % exits) ≡ getD (t .targets) p 0) × (linkBit t (p / exits) (p % exits) ≡ getD (t .bits) p 0)
+  pub exit-here : (p : ℕ) → (targetOf t (holderAt p) (exitAt p) ≡ getD (t .targets) p 0) × (linkBit t (holderAt p) (exitAt p) ≡ getD (t .bits) p 0)
   unfolding targetOf linkBit
   exit-here p = (ap (λ (q : ℕ). getD (t .targets) q 0) (exit-place-split p), ap (λ (q : ℕ). getD (t .bits) q 0) (exit-place-split p))
 
@@ -87,7 +83,7 @@ module _ (t : Table) where
       lands-intro (slotAt t) p (counterPlace j b) (slot-link p (λ z. d (sym ej ∙ z)) ∙ rw (ej, eb)) (counter-place-some j b d)
 
   pub strong-lands : (i j : ℕ) → i < places → stronglyLinked t i j ≡ true →
-      (p : ℕ) × (p < places * exits) × (p / exits ≡ i) × (lands (slotAt t) p (ownSlot t j) ≡ true)
+      (p : ℕ) × (p < exitPlaces places) × (holderAt p ≡ i) × (lands (slotAt t) p (ownSlot t j) ≡ true)
   unfolding targetOf linkBit ownSlot
   strong-lands i j l h =
       let a = strongly-exit t i j h in (
@@ -100,7 +96,7 @@ module _ (t : Table) where
 
   pub landing-some : (i j : ℕ) → i < places → stronglyLinked t i j ≡ true → 0 < landing (slotAt t) (ownSlot t j)
   unfolding landing
-  landing-some i j l h = let a = strong-lands i j l h in count-pos (places * exits) _ (a .0) (a .1) (a .3)
+  landing-some i j l h = let a = strong-lands i j l h in count-pos (exitPlaces places) _ (a .0) (a .1) (a .3)
 
   pub own-slot-above : (j : ℕ) → 0 < j → counters ≤ ownSlot t j
   unfolding ownSlot counterPlace
@@ -147,37 +143,37 @@ module _ (t : Table) where
     lands-alarm p = refute _ (λ h. lands-link 0 (ownBit t 0) p (r .own 0) h .0 refl)
 
     -- a link that counts in the slot of its target's own is a strong link of the step that has the place
-    pub lands-strong : (p j : ℕ) → lands (slotAt t) p (ownSlot t j) ≡ true → stronglyLinked t (p / exits) j ≡ true
+    pub lands-strong : (p j : ℕ) → lands (slotAt t) p (ownSlot t j) ≡ true → stronglyLinked t (holderAt p) j ≡ true
     unfolding ownSlot
     lands-strong p j h =
-        let i = p / exits in
-        let e = p % exits in
+        let i = holderAt p in
+        let e = exitAt p in
         let a = lands-link j (ownBit t j) p (r .own j) h in
         let here : targetOf t i e ≡ j = exit-here p .0 ∙ a .1 in
         let bit : linkBit t i e ≡ ownBit t j = exit-here p .1 ∙ a .2 in
-        exit-strongly t i j e (omega arith) (bit-strong t i e (target-holds t i e (λ z. a .0 (sym here ∙ z))) (bit ∙ sym (ap (ownBit t) here))) here
+        exit-strongly t i j e (exit-at-below p) (bit-strong t i e (target-holds t i e (λ z. a .0 (sym here ∙ z))) (bit ∙ sym (ap (ownBit t) here))) here
 
     pub landing-linked : (j : ℕ) → 0 < landing (slotAt t) (ownSlot t j) → (i : ℕ) × (stronglyLinked t i j ≡ true)
     unfolding landing
-    landing-linked j h = let a = count-some (places * exits) _ h in (a .0 / exits, lands-strong (a .0) j (a .2))
+    landing-linked j h = let a = count-some (exitPlaces places) _ h in (holderAt (a .0), lands-strong (a .0) j (a .2))
 
-    pub landing-links : t .capacity ≤ places → ((p : ℕ) → t .capacity * exits ≤ p → p < places * exits → getD (t .targets) p 0 ≡ 0) →
+    pub landing-links : t .capacity ≤ places → ((p : ℕ) → exitPlaces (t .capacity) ≤ p → p < exitPlaces places → getD (t .targets) p 0 ≡ 0) →
         (j b : ℕ) → b < counters → landing (slotAt t) (counterPlace j b) ≡ linksTo t j b
     unfolding landing linksTo
     landing-links most none j b l =
         let here : ℕ → Bool = λ p. lands (slotAt t) p (counterPlace j b) in
-        let n = t .capacity * exits in
-        let m = places * exits - n in
-        let z : places * exits ≡ n + m = omega arith in
+        let n = exitPlaces (t .capacity) in
+        let m = exitPlaces places - n in
+        let z : exitPlaces places ≡ n + m = omega arith in
         let parts = count-add n m here in
-        let whole : count (places * exits) here ≡ count (n + m) here = ap (λ (k : ℕ). count k here) z in
+        let whole : count (exitPlaces places) here ≡ count (n + m) here = ap (λ (k : ℕ). count k here) z in
         let above : count m (λ f. here (n + f)) ≡ 0 =
         count-none m _ (λ f a. refute _ (λ h. lands-held (n + f) (counterPlace j b) h (none (n + f) (omega arith) (omega arith)))) in
         let same : count n here ≡ count n (countsAt t j b) = count-ext n _ _ (λ p a. lands-counts j b p l) in
         omega arith
 
 -- what holds of every place of the arrays holds beyond them too
-pub shape-ranged : (t : Table) → Shape t → ((p : ℕ) → p < places * exits → (getD (t .targets) p 0 < places) × (getD (t .bits) p 0 < counters)) →
+pub shape-ranged : (t : Table) → Shape t → ((p : ℕ) → p < exitPlaces places → (getD (t .targets) p 0 < places) × (getD (t .bits) p 0 < counters)) →
     ((j : ℕ) → j < places → ownBit t j < counters) → Ranged t
 unfolding ownBit
 shape-ranged t s f g =
@@ -185,15 +181,15 @@ shape-ranged t s f g =
       targets =
           λ p.
           ⊎-elim
-          (λ (o : places * exits ≤ p). let z = List·getD-eq-default (t .targets) 0 {n = p} (rw (s .targets) o) in omega arith)
+          (λ (o : exitPlaces places ≤ p). let z = List·getD-eq-default (t .targets) 0 {n = p} (rw (s .targets) o) in omega arith)
           (λ l. f p l .0)
-          (le-or-lt (places * exits) p);
+          (le-or-lt (exitPlaces places) p);
       bits =
           λ p.
           ⊎-elim
-          (λ (o : places * exits ≤ p). let z = List·getD-eq-default (t .bits) 0 {n = p} (rw (s .bits) o) in omega arith)
+          (λ (o : exitPlaces places ≤ p). let z = List·getD-eq-default (t .bits) 0 {n = p} (rw (s .bits) o) in omega arith)
           (λ l. f p l .1)
-          (le-or-lt (places * exits) p);
+          (le-or-lt (exitPlaces places) p);
       own =
           λ j.
           ⊎-elim
@@ -204,26 +200,26 @@ shape-ranged t s f g =
 
 module _ (t : Table) (g : Formed t) where
   -- a link is one of a step in use
-  pub source-used : (p : ℕ) → (getD (t .targets) p 0 ≡ 0 → ⊥) → inUse t (p / exits) ≡ true
+  pub source-used : (p : ℕ) → (getD (t .targets) p 0 ≡ 0 → ⊥) → inUse t (holderAt p) ≡ true
   source-used p d =
-      holder-used (formed-wired g) (p / exits) (p % exits) (omega arith) (target-holds t _ _ (λ z. d (sym (exit-here t p .0) ∙ z)))
+      holder-used (formed-wired g) (holderAt p) (exitAt p) (exit-at-below p) (target-holds t _ _ (λ z. d (sym (exit-here t p .0) ∙ z)))
 
   pub formed-ranged : Ranged t
   formed-ranged =
       shape-ranged t (g .shape)
       (λ p l.
-      let i = p / exits in
-      let e = p % exits in
-      let le : e < exits = omega arith in
+      let i = holderAt p in
+      let e = exitAt p in
+      let le : e < exitsOf i = exit-at-below p in
       let here = exit-here t p in
       let bit : linkBit t i e < counters =
       ⊎-elim (λ u. g .bits i e u le) (λ f. let z = g .free i (omega arith) f .bits e le in omega arith) (test (inUse t i)) in
       (rw (here .0) at (target-place g i e le), rw (here .1) at bit))
       (λ j l. ⊎-elim (λ u. g .own j u) (λ f. let z = g .free j l f .own in omega arith) (test (inUse t j)))
 
-  none-above : (p : ℕ) → t .capacity * exits ≤ p → p < places * exits → getD (t .targets) p 0 ≡ 0
+  none-above : (p : ℕ) → exitPlaces (t .capacity) ≤ p → p < exitPlaces places → getD (t .targets) p 0 ≡ 0
   none-above p a l =
-      ⊎-elim (λ z. z) (λ d. let b = formed-below g (p / exits) (source-used p d) in absurd (omega arith)) (eq-or-ne (getD (t .targets) p 0) 0)
+      ⊎-elim (λ z. z) (λ d. let b = formed-below g (holderAt p) (source-used p d) in absurd (omega arith)) (eq-or-ne (getD (t .targets) p 0) 0)
 
   pub formed-exact : Exact t (t .counts)
   unfolding counterOf

@@ -15,11 +15,11 @@ use mathlib.Core.Path.{_≡_}
 use mathlib.Core.Bool.{Bool, true, false, _&&_, not, cond}
 use mathlib.Core.Logic.{_⊎_}
 use mathlib.Core.List.{List}
-use Prim.Native.Nat.{ℕ, _+_, _*_, _-_, _/_, _<_}
+use Prim.Native.Nat.{ℕ, _+_, _*_, _-_, _<_}
 use lib.ListN.{length, getD}
 use lib.Dec.{eqb}
 use Rattle.finite.specs.Below.{one, all, count}
-use Rattle.table.specs.Table.{Table, places, exits, counters, exitPlace, counterPlace, ownBit}
+use Rattle.table.specs.Table.{Table, places, counters, exitPlace, exitsOf, exitPlaces, holderAt, counterPlace, ownBit}
 
 unfoldable pub slotAt : Table → ℕ → ℕ
 slotAt t p = cond (eqb (getD (t .targets) p 0) 0) 0 (counterPlace (getD (t .targets) p 0) (getD (t .bits) p 0))
@@ -37,16 +37,16 @@ unfoldable pub isMarked : List ℕ → ℕ → Bool
 isMarked marks i = eqb (getD marks i 0) 1
 
 unfoldable pub landing : (ℕ → ℕ) → ℕ → ℕ
-landing h q = count (places * exits) (λ p. lands h p q)
+landing h q = count (exitPlaces places) (λ p. lands h p q)
 
 unfoldable pub landingKept : (ℕ → ℕ) → List ℕ → ℕ → ℕ
-landingKept h marks q = count (places * exits) (λ p. lands h p q && not (isMarked marks (p / exits)))
+landingKept h marks q = count (exitPlaces places) (λ p. lands h p q && not (isMarked marks (holderAt p)))
 
 unfoldable pub at : (ℕ → ℕ) → ℕ → ℕ → ℕ
 at h p q = one (lands h p q)
 
 unfoldable pub rest : (ℕ → ℕ) → ℕ → ℕ → ℕ → ℕ
-rest h i e q = count exits (λ f. lands h (exitPlace i f) q) - count e (λ f. lands h (exitPlace i f) q)
+rest h i e q = count (exitsOf i) (λ f. lands h (exitPlace i f) q) - count e (λ f. lands h (exitPlace i f) q)
 
 -- every target is a place of the table and every bit is 0 or 1
 pub record Ranged (t : Table) : Type 0 where
@@ -76,8 +76,8 @@ pub record Search (t : Table) (counts : List ℕ) (spared : ℕ) (left marks : L
   pub rank : ℕ → ℕ
   pub top : ℕ
   pub low : (j : ℕ) → isMarked marks j ≡ true → rank j < top
-  pub rising : Exact t counts → (p j : ℕ) → p < places * exits → lands (slotAt t) p (ownSlot t j) ≡ true → isMarked marks j ≡ true →
-      (ownSlot t j ≡ spared → ⊥) → (isMarked marks (p / exits) ≡ true) × (rank (p / exits) < rank j)
+  pub rising : Exact t counts → (p j : ℕ) → p < exitPlaces places → lands (slotAt t) p (ownSlot t j) ≡ true → isMarked marks j ≡ true →
+      (ownSlot t j ≡ spared → ⊥) → (isMarked marks (holderAt p) ≡ true) × (rank (holderAt p) < rank j)
 
 -- for some links still pending beside the extra ones
 abbrev pub Pending : Table → List ℕ → List ℕ → List ℕ → (ℕ → ℕ) → Type 0

@@ -7,14 +7,13 @@ ghost use lib.ListN.{getD, replicate};
 ghost use lib.Dec.{eqb};
 ghost use Rattle.finite.specs.Below.{one, all, tabulate};
 ghost use Rattle.finite.specs.Reach.{marked};
-ghost use Rattle.table.specs.Table.{places, exits, counters, exitPlace};
+ghost use Rattle.table.specs.Table.{places, counters, exitPlace, exitsOf};
 ghost use Rattle.table.specs.Clear.{emptied, doubtful};
 ghost use Rattle.words.specs.Words.{tableOf};
 ghost use Rattle.withdraw.specs.Search.{slotAt, at, rest, Ranged, Pending, Withdrawn, stillLinked, Spans};
 ghost use Rattle.withdraw.specs.Withdraw.{Losing, candidate};
 use words::COUNTERS;
 use words::COUNTS;
-use words::EXITS;
 use words::PLACES;
 use words::WORDS;
 
@@ -25,9 +24,10 @@ fn withdraw_step(t: &[u16; WORDS], left: &mut [u16; 256], marks: &mut [u16; 128]
     ensures { λ _. ⌜ Withdrawn (tableOf (now (t .entry))) (now (left .entry)) (now (marks .entry)) (now (left .exit)) (now (marks .exit))
         (rest (slotAt (tableOf (now (t .entry)))) i 0) ⌝ }
 {
+    let n = words::exits_of(i);
     let mut e = 0usize;
     // The exits below e are withdrawn.
-    while e < EXITS {
+    while e < n {
         withdraw_exit(t, left, marks, i, e);
         e += 1;
     }
@@ -42,7 +42,7 @@ fn withdraw_exit(
     i: usize,
     e: usize,
 )
-    requires { ⌜ (i < places) × (e < exits) × Ranged (tableOf (now t)) ×
+    requires { ⌜ (i < places) × (e < exitsOf i) × Ranged (tableOf (now t)) ×
         ((counts : List ℕ) × Pending (tableOf (now t)) counts (now left) (now marks) (at (slotAt (tableOf (now t))) (exitPlace i e))) ⌝ }
     ensures { λ _. ⌜ Withdrawn (tableOf (now (t .entry))) (now (left .entry)) (now (marks .entry)) (now (left .exit)) (now (marks .exit))
         (at (slotAt (tableOf (now (t .entry)))) (exitPlace i e)) ⌝ }

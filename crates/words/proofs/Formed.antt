@@ -11,20 +11,20 @@ use native.Mathlib.Omega.{arith}
 use lib.ListN.{getD, List·getD-eq-default}
 use Rattle.finite.proofs.Bools.{test}
 use Rattle.finite.proofs.Below.{le-or-lt, count-le, count-pos}
-use Rattle.table.specs.Table.{Table, places, exits, counters, exitPlace, counterPlace, inUse, targetOf, linkBit, counterOf, holds, countsAt, linksTo}
+use Rattle.table.specs.Table.{Table, places, counters, exitPlace, exitsOf, exitPlaces, counterPlace, inUse, targetOf, linkBit, counterOf, holds, countsAt, linksTo}
+use Rattle.table.proofs.Places.{exit-place-below}
 use Rattle.table.proofs.Links.{counts-here, empty-target}
-use Rattle.table.proofs.Relink.{exit-place-below}
 use Rattle.table.proofs.Formed.{Formed, formed-wired, formed-place, formed-below, lead-used}
 use Rattle.words.specs.Words.{Linked, Relinkable}
 
 module _ {t : Table} (g : Formed t) where
-  pub target-place : (i e : ℕ) → e < exits → targetOf t i e < places
+  pub target-place : (i e : ℕ) → e < exitsOf i → targetOf t i e < places
   target-place i e l =
       ⊎-elim (λ (h : holds t i e ≡ true). formed-place g (targetOf t i e) (lead-used (formed-wired g) i e l h))
       (λ (h : holds t i e ≡ false). omega (arith, empty-target t i e h))
       (test (holds t i e))
 
-  pub formed-linked : (i e : ℕ) → inUse t i ≡ true → e < exits → Linked t i e
+  pub formed-linked : (i e : ℕ) → inUse t i ≡ true → e < exitsOf i → Linked t i e
   unfolding linksTo targetOf linkBit
   formed-linked i e u l =
       let j = targetOf t i e in
@@ -39,7 +39,7 @@ module _ {t : Table} (g : Formed t) where
         counted =
             λ d.
             let y : 0 < linksTo t j b =
-            count-pos (t .capacity * exits) (countsAt t j b) (exitPlace i e) (exit-place-below i e (t .capacity) l (formed-below g i u))
+            count-pos (exitPlaces (t .capacity)) (countsAt t j b) (exitPlace i e) (exit-place-below i e (t .capacity) l (formed-below g i u))
             (counts-here t j b (exitPlace i e) d refl refl) in
             rw (g .exact j b place bit) y;
       }
@@ -54,11 +54,11 @@ module _ {t : Table} (g : Formed t) where
       (λ (l : q < places * counters).
       let split : q / counters * counters + q % counters ≡ q = omega arith in
       let exact = g .exact (q / counters) (q % counters) (omega arith) (omega arith) in
-      let most = count-le (t .capacity * exits) (countsAt t (q / counters) (q % counters)) in
+      let most = count-le (exitPlaces (t .capacity)) (countsAt t (q / counters) (q % counters)) in
       let here : getD (t .counts) q 0 ≡ _ = rw split at exact in
       omega (arith, g .most))
       (le-or-lt (places * counters) q)
 
-  pub formed-relinkable : (i e j b : ℕ) → inUse t i ≡ true → e < exits → j < places → b < counters → Relinkable t i e j b
+  pub formed-relinkable : (i e j b : ℕ) → inUse t i ≡ true → e < exitsOf i → j < places → b < counters → Relinkable t i e j b
   formed-relinkable i e j b u l place bit =
       record { old = formed-linked i e u l; target = place; bit = bit; room = formed-room }

@@ -14,7 +14,7 @@ use lib.ListN.{length, getD, set, take, drop, length-drop}
 use lib.Seq.{set-out, getD-set-same, getD-set-other, getD-take, getD-drop, take-set-le, take-set-lt, drop-set-lt, drop-set-add, take-at, drop-at, take-all, take-add, drop-drop, length-take-le, drop-cons, drop-append-add}
 use lib.Dec.{eqb}
 use borrow.Author.Tests.{eq-eqb, ne-eqb}
-use Rattle.table.specs.Table.{Table, places, exits, counters, quotaNumbers, counterPlace, withLinks, withSteps, withNumbers}
+use Rattle.table.specs.Table.{Table, places, exitPlaces, counters, quotaNumbers, counterPlace, withLinks, withSteps, withNumbers}
 use Rattle.table.specs.Sound.{Shape}
 use Rattle.table.specs.Calls.{raised, lowered}
 use Rattle.finite.proofs.Bools.{test}
@@ -71,8 +71,8 @@ module _ (w : List ℕ) where
       (part-below w kindsFrom places q x (omega arith))
       (part-below w contentsFrom places q x (omega arith))
       (part-below w ownFrom places q x (omega arith))
-      (part-below w targetsFrom (places * exits) q x (omega arith))
-      (part-below w bitsFrom (places * exits) q x (omega arith))
+      (part-below w targetsFrom (exitPlaces places) q x (omega arith))
+      (part-below w bitsFrom (exitPlaces places) q x (omega arith))
       (part-below w countsFrom (places * counters) q x (omega arith))
       (part-below w cabinsFrom places q x (omega arith))
       (part-below w quotasFrom quotaNumbers q x (omega arith))
@@ -99,8 +99,8 @@ module _ (w : List ℕ) where
       (part-below w kindsFrom places _ x (omega arith))
       (part-below w contentsFrom places _ x (omega arith))
       (part-below w ownFrom places _ x (omega arith))
-      (part-below w targetsFrom (places * exits) _ x (omega arith))
-      (part-below w bitsFrom (places * exits) _ x (omega arith))
+      (part-below w targetsFrom (exitPlaces places) _ x (omega arith))
+      (part-below w bitsFrom (exitPlaces places) _ x (omega arith))
       (part-below w countsFrom (places * counters) _ x (omega arith))
       (part-below w cabinsFrom places _ x (omega arith))
       (part-below w quotasFrom quotaNumbers _ x (omega arith))
@@ -117,8 +117,8 @@ module _ (w : List ℕ) where
       (part-store w kindsFrom places k x l)
       (part-below w contentsFrom places _ x (omega arith))
       (part-below w ownFrom places _ x (omega arith))
-      (part-below w targetsFrom (places * exits) _ x (omega arith))
-      (part-below w bitsFrom (places * exits) _ x (omega arith))
+      (part-below w targetsFrom (exitPlaces places) _ x (omega arith))
+      (part-below w bitsFrom (exitPlaces places) _ x (omega arith))
       (part-below w countsFrom (places * counters) _ x (omega arith))
       (part-below w cabinsFrom places _ x (omega arith))
       (part-below w quotasFrom quotaNumbers _ x (omega arith))
@@ -135,8 +135,8 @@ module _ (w : List ℕ) where
       (part-above w kindsFrom places _ x (omega arith))
       (part-store w contentsFrom places k x l)
       (part-below w ownFrom places _ x (omega arith))
-      (part-below w targetsFrom (places * exits) _ x (omega arith))
-      (part-below w bitsFrom (places * exits) _ x (omega arith))
+      (part-below w targetsFrom (exitPlaces places) _ x (omega arith))
+      (part-below w bitsFrom (exitPlaces places) _ x (omega arith))
       (part-below w countsFrom (places * counters) _ x (omega arith))
       (part-below w cabinsFrom places _ x (omega arith))
       (part-below w quotasFrom quotaNumbers _ x (omega arith))
@@ -153,13 +153,13 @@ module _ (w : List ℕ) where
       (part-above w kindsFrom places _ x (omega arith))
       (part-above w contentsFrom places _ x (omega arith))
       (part-store w ownFrom places k x l)
-      (part-below w targetsFrom (places * exits) _ x (omega arith))
-      (part-below w bitsFrom (places * exits) _ x (omega arith))
+      (part-below w targetsFrom (exitPlaces places) _ x (omega arith))
+      (part-below w bitsFrom (exitPlaces places) _ x (omega arith))
       (part-below w countsFrom (places * counters) _ x (omega arith))
       (part-below w cabinsFrom places _ x (omega arith))
       (part-below w quotasFrom quotaNumbers _ x (omega arith))
 
-  pub store-targets : (k x : ℕ) → k < (places * exits) →
+  pub store-targets : (k x : ℕ) → k < exitPlaces places →
       tableOf (set w (targetsFrom + k) x) ≡
       withLinks (tableOf w) (set (tableOf w .targets) k x) (tableOf w .bits) (tableOf w .counts)
   unfolding tableOf withLinks
@@ -171,13 +171,13 @@ module _ (w : List ℕ) where
       (part-above w kindsFrom places _ x (omega arith))
       (part-above w contentsFrom places _ x (omega arith))
       (part-above w ownFrom places _ x (omega arith))
-      (part-store w targetsFrom (places * exits) k x l)
-      (part-below w bitsFrom (places * exits) _ x (omega arith))
+      (part-store w targetsFrom (exitPlaces places) k x l)
+      (part-below w bitsFrom (exitPlaces places) _ x (omega arith))
       (part-below w countsFrom (places * counters) _ x (omega arith))
       (part-below w cabinsFrom places _ x (omega arith))
       (part-below w quotasFrom quotaNumbers _ x (omega arith))
 
-  pub store-bits : (k x : ℕ) → k < (places * exits) →
+  pub store-bits : (k x : ℕ) → k < exitPlaces places →
       tableOf (set w (bitsFrom + k) x) ≡
       withLinks (tableOf w) (tableOf w .targets) (set (tableOf w .bits) k x) (tableOf w .counts)
   unfolding tableOf withLinks
@@ -189,8 +189,8 @@ module _ (w : List ℕ) where
       (part-above w kindsFrom places _ x (omega arith))
       (part-above w contentsFrom places _ x (omega arith))
       (part-above w ownFrom places _ x (omega arith))
-      (part-above w targetsFrom (places * exits) _ x (omega arith))
-      (part-store w bitsFrom (places * exits) k x l)
+      (part-above w targetsFrom (exitPlaces places) _ x (omega arith))
+      (part-store w bitsFrom (exitPlaces places) k x l)
       (part-below w countsFrom (places * counters) _ x (omega arith))
       (part-below w cabinsFrom places _ x (omega arith))
       (part-below w quotasFrom quotaNumbers _ x (omega arith))
@@ -207,8 +207,8 @@ module _ (w : List ℕ) where
       (part-above w kindsFrom places _ x (omega arith))
       (part-above w contentsFrom places _ x (omega arith))
       (part-above w ownFrom places _ x (omega arith))
-      (part-above w targetsFrom (places * exits) _ x (omega arith))
-      (part-above w bitsFrom (places * exits) _ x (omega arith))
+      (part-above w targetsFrom (exitPlaces places) _ x (omega arith))
+      (part-above w bitsFrom (exitPlaces places) _ x (omega arith))
       (part-store w countsFrom (places * counters) k x l)
       (part-below w cabinsFrom places _ x (omega arith))
       (part-below w quotasFrom quotaNumbers _ x (omega arith))
@@ -225,8 +225,8 @@ module _ (w : List ℕ) where
       (part-above w kindsFrom places _ x (omega arith))
       (part-above w contentsFrom places _ x (omega arith))
       (part-above w ownFrom places _ x (omega arith))
-      (part-above w targetsFrom (places * exits) _ x (omega arith))
-      (part-above w bitsFrom (places * exits) _ x (omega arith))
+      (part-above w targetsFrom (exitPlaces places) _ x (omega arith))
+      (part-above w bitsFrom (exitPlaces places) _ x (omega arith))
       (part-above w countsFrom (places * counters) _ x (omega arith))
       (part-store w cabinsFrom places k x l)
       (part-below w quotasFrom quotaNumbers _ x (omega arith))
@@ -242,8 +242,8 @@ module _ (w : List ℕ) where
       (part-above w kindsFrom places _ x (omega arith))
       (part-above w contentsFrom places _ x (omega arith))
       (part-above w ownFrom places _ x (omega arith))
-      (part-above w targetsFrom (places * exits) _ x (omega arith))
-      (part-above w bitsFrom (places * exits) _ x (omega arith))
+      (part-above w targetsFrom (exitPlaces places) _ x (omega arith))
+      (part-above w bitsFrom (exitPlaces places) _ x (omega arith))
       (part-above w countsFrom (places * counters) _ x (omega arith))
       (part-above w cabinsFrom places _ x (omega arith))
       (part-store w quotasFrom quotaNumbers k x l)
@@ -256,8 +256,8 @@ shape-table w l =
       kinds = part-size w kindsFrom places (omega arith);
       contents = part-size w contentsFrom places (omega arith);
       own = part-size w ownFrom places (omega arith);
-      targets = part-size w targetsFrom (places * exits) (omega arith);
-      bits = part-size w bitsFrom (places * exits) (omega arith);
+      targets = part-size w targetsFrom (exitPlaces places) (omega arith);
+      bits = part-size w bitsFrom (exitPlaces places) (omega arith);
       counts = part-size w countsFrom (places * counters) (omega arith);
       cabins = part-size w cabinsFrom places (omega arith);
       quotas = part-size w quotasFrom quotaNumbers (omega arith);
@@ -298,17 +298,17 @@ table-words t s =
     (ap (take places)
     (past (t .used) _ places 256 (s .used) ∙ past (t .kinds) _ places places (s .kinds) ∙ drop-at (t .contents) _ places (s .contents)) ∙
     take-at (t .own) _ places (s .own))
-    (ap (take (places * exits))
+    (ap (take (exitPlaces places))
     (past (t .used) _ places 384 (s .used) ∙ past (t .kinds) _ places 256 (s .kinds) ∙ past (t .contents) _ places places (s .contents) ∙
     drop-at (t .own) _ places (s .own)) ∙
-    take-at (t .targets) _ (places * exits) (s .targets))
-    (ap (take (places * exits))
+    take-at (t .targets) _ (exitPlaces places) (s .targets))
+    (ap (take (exitPlaces places))
     (past (t .used) _ places 896 (s .used) ∙ past (t .kinds) _ places 768 (s .kinds) ∙ past (t .contents) _ places 640 (s .contents) ∙
-    past (t .own) _ places 512 (s .own) ∙ drop-at (t .targets) _ (places * exits) (s .targets)) ∙
-    take-at (t .bits) _ (places * exits) (s .bits))
+    past (t .own) _ places 512 (s .own) ∙ drop-at (t .targets) _ (exitPlaces places) (s .targets)) ∙
+    take-at (t .bits) _ (exitPlaces places) (s .bits))
     (ap (take (places * counters))
     (past (t .used) _ places 1408 (s .used) ∙ past (t .kinds) _ places 1280 (s .kinds) ∙ past (t .contents) _ places 1152 (s .contents) ∙
-    past (t .own) _ places 1024 (s .own) ∙ past (t .targets) _ 512 512 (s .targets) ∙ drop-at (t .bits) _ (places * exits) (s .bits)) ∙
+    past (t .own) _ places 1024 (s .own) ∙ past (t .targets) _ 512 512 (s .targets) ∙ drop-at (t .bits) _ (exitPlaces places) (s .bits)) ∙
     take-at (t .counts) _ (places * counters) (s .counts))
     (ap (take places)
     (past (t .used) _ places 1664 (s .used) ∙ past (t .kinds) _ places 1536 (s .kinds) ∙ past (t .contents) _ places 1408 (s .contents) ∙

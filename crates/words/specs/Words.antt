@@ -15,7 +15,7 @@ use Prim.Native.Nat.{ℕ, _*_, _<_}
 use lib.ListN.{length, getD, set, take, drop, replicate}
 use lib.Seq.{sets}
 use Rattle.table.specs.declared.Fields.{Fields}
-use Rattle.table.specs.Table.{Table, places, exits, exitPlaces, counters, quotaNumbers, targetOf, linkBit, counterOf, withLinks, withSteps}
+use Rattle.table.specs.Table.{Table, places, exitPlaces, exitsOf, counters, quotaNumbers, targetOf, linkBit, counterOf, withLinks, withSteps}
 
 abbrev pub words : ℕ
 words = 1938
@@ -95,8 +95,8 @@ withFields t i used f =
     withLinks
     (withSteps t (t .last) (set (t .used) i used) (set (t .kinds) i (f .kind)) (set (t .contents) i (f .content)) (set (t .own) i (f .own))
     (set (t .cabins) i (f .cabin)))
-    (sets (t .targets) (i * exits) (f .targets))
-    (sets (t .bits) (i * exits) (f .bits))
+    (sets (t .targets) (exitPlaces i) (f .targets))
+    (sets (t .bits) (exitPlaces i) (f .bits))
     (sets (t .counts) (i * counters) (f .counts))
 
 pub record Becomes (before after : List ℕ) (t : Table) : Type 0 where
@@ -105,7 +105,7 @@ pub record Becomes (before after : List ℕ) (t : Table) : Type 0 where
 
 pub record Linked (t : Table) (i e : ℕ) : Type 0 where
   pub step : i < places
-  pub exit : e < exits
+  pub exit : e < exitsOf i
   pub target : targetOf t i e < places
   pub bit : linkBit t i e < counters
   pub counted : (targetOf t i e ≡ 0 → ⊥) → 0 < counterOf t (targetOf t i e) (linkBit t i e)

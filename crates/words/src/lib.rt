@@ -1,10 +1,10 @@
 // A table as an array of words that is lent to every call: which word is which field, the numbers that the documents give, and the reading and
 // writing of single fields. The one place that changes a link, with its counters, is `relink`.
 ghost use mathlib.Core.Path.{_≡_};
-ghost use Prim.Native.Nat.{_*_, _<_};
+ghost use Prim.Native.Nat.{_*_, _≤_, _<_};
 ghost use lib.ListN.{length, getD, set, replicate};
 ghost use lib.Seq.{sets};
-ghost use Rattle.table.specs.Table.{places, exits, counters, quotaNumbers, exitPlace, inUse, kindOf, contentOf, ownBit, cabinOf, targetOf, linkBit, counterOf, withLinks, withSteps, withNumbers};
+ghost use Rattle.table.specs.Table.{places, exitsOf, exitPlaces, counters, quotaNumbers, exitPlace, inUse, kindOf, contentOf, ownBit, cabinOf, targetOf, linkBit, counterOf, withLinks, withSteps, withNumbers};
 ghost use Rattle.table.specs.Calls.{lowered, raised, relink, withStep};
 ghost use Rattle.table.specs.Clear.{flipped, blanked};
 ghost use Rattle.words.specs.Words.{words, tableOf, wordsOf, blankTable, withFields, Becomes, Relinkable};
@@ -17,6 +17,9 @@ pub const WORDS: usize = 1938;
 pub const PLACES: usize = 128;
 
 pub const EXITS: usize = 4;
+
+// The exits that step 0 has beside its four, one for each entry: none yet (document 02, W12).
+const ENTRIES: usize = 0;
 
 pub const COUNTERS: usize = 2;
 // Eight cabins share a table (document 02, W5); each has a guarantee and a limit in the list of quotas.
@@ -175,7 +178,7 @@ pub fn quota_in(t: &[u16; WORDS], k: usize) -> u16
 
 // The target in the exit at place p; 0 is an empty exit.
 pub fn target_in(t: &[u16; WORDS], p: usize) -> u16
-    requires { ⌜ p < places * exits ⌝ }
+    requires { ⌜ p < exitPlaces places ⌝ }
     ensures { λ r. ⌜ r ≡ getD (tableOf (now (t .entry)) .targets) p 0 ⌝ }
 {
     t[TARGETS_FROM + p]
@@ -183,7 +186,7 @@ pub fn target_in(t: &[u16; WORDS], p: usize) -> u16
 
 // The bit of the link in the exit at place p.
 pub fn bit_in(t: &[u16; WORDS], p: usize) -> u16
-    requires { ⌜ p < places * exits ⌝ }
+    requires { ⌜ p < exitPlaces places ⌝ }
     ensures { λ r. ⌜ r ≡ getD (tableOf (now (t .entry)) .bits) p 0 ⌝ }
 {
     t[BITS_FROM + p]
@@ -197,20 +200,47 @@ pub fn count_in(t: &[u16; WORDS], q: usize) -> u16
     t[COUNTS_FROM + q]
 }
 
+// The number of exits of step i.
+pub fn exits_of(i: usize) -> usize
+    ensures { λ r. ⌜ r ≡ exitsOf i ⌝ }
+{
+    if i == 0 { EXITS + ENTRIES } else { EXITS }
+}
+
+// The places of the exits of the entries, which stand first, and of all exits of the steps below n, four for each step.
+pub fn exit_places(n: usize) -> usize
+    requires { ⌜ n ≤ places ⌝ }
+    ensures { λ r. ⌜ r ≡ exitPlaces n ⌝ }
+{
+    ENTRIES + n * EXITS
+}
+
+// The place of exit e of step i.
+pub fn exit_place(i: usize, e: usize) -> usize
+    requires { ⌜ (i < places) × (e < exitsOf i) ⌝ }
+    ensures { λ r. ⌜ r ≡ exitPlace i e ⌝ }
+{
+    if e < EXITS {
+        exit_places(i) + e
+    } else {
+        e - EXITS
+    }
+}
+
 // The target in exit e of step i.
 pub fn target_at(t: &[u16; WORDS], i: usize, e: usize) -> u16
-    requires { ⌜ (i < places) × (e < exits) ⌝ }
+    requires { ⌜ (i < places) × (e < exitsOf i) ⌝ }
     ensures { λ r. ⌜ r ≡ targetOf (tableOf (now (t .entry))) i e ⌝ }
 {
-    target_in(t, i * EXITS + e)
+    target_in(t, exit_place(i, e))
 }
 
 // The bit of the link in exit e of step i.
 pub fn bit_at(t: &[u16; WORDS], i: usize, e: usize) -> u16
-    requires { ⌜ (i < places) × (e < exits) ⌝ }
+    requires { ⌜ (i < places) × (e < exitsOf i) ⌝ }
     ensures { λ r. ⌜ r ≡ linkBit (tableOf (now (t .entry))) i e ⌝ }
 {
-    bit_in(t, i * EXITS + e)
+    bit_in(t, exit_place(i, e))
 }
 
 // Counter b of step j.
@@ -310,12 +340,12 @@ pub fn blank_step(t: &mut [u16; WORDS], i: usize)
 
 // A target and a bit are put into exit e of step i; no counter changes.
 pub fn put_link(t: &mut [u16; WORDS], i: usize, e: usize, j: u16, b: u16)
-    requires { ⌜ (i < places) × (e < exits) ⌝ }
+    requires { ⌜ (i < places) × (e < exitsOf i) ⌝ }
     ensures { λ _. ⌜ Becomes (now (t .entry)) (now (t .exit)) (withLinks (tableOf (now (t .entry)))
         (set (tableOf (now (t .entry)) .targets) (exitPlace i e) j) (set (tableOf (now (t .entry)) .bits) (exitPlace i e) b)
         (tableOf (now (t .entry)) .counts)) ⌝ }
 {
-    let p = i * EXITS + e;
+    let p = exit_place(i, e);
     t[TARGETS_FROM + p] = j;
     t[BITS_FROM + p] = b;
 }
@@ -324,7 +354,7 @@ pub fn put_link(t: &mut [u16; WORDS], i: usize, e: usize, j: u16, b: u16)
 pub fn put_links(t: &mut [u16; WORDS], i: usize, targets: [u16; EXITS], bits: [u16; EXITS])
     requires { ⌜ i < places ⌝ }
     ensures { λ _. ⌜ Becomes (now (t .entry)) (now (t .exit)) (withLinks (tableOf (now (t .entry)))
-        (sets (tableOf (now (t .entry)) .targets) (i * exits) targets) (sets (tableOf (now (t .entry)) .bits) (i * exits) bits)
+        (sets (tableOf (now (t .entry)) .targets) (exitPlaces i) targets) (sets (tableOf (now (t .entry)) .bits) (exitPlaces i) bits)
         (tableOf (now (t .entry)) .counts)) ⌝ }
 {
     put_link(t, i, 0, targets[0], bits[0]);

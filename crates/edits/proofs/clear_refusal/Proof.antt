@@ -8,6 +8,7 @@ use Rattle.table.specs.Answer.{first}
 use Rattle.table.specs.Sound.{Sound}
 use Rattle.table.specs.Calls.{tableTests}
 use Rattle.table.specs.Clear.{clearRefusal}
+use Rattle.table.proofs.Places.{own-exit}
 use Rattle.table.proofs.Links.{used-place, target-holds, target-empty}
 use Rattle.words.specs.Words.{tableOf}
 use Rattle.words.proofs.Refusals.{table-passed, past-table, table-stopped}
@@ -53,7 +54,7 @@ target-at-requires : tie.Need-target-at-requires
 target-at-requires c κs =
     let x = c .before .before in
     let f = exit-fits x in
-    (rw (c .before .wide .ensures) (used-place (is-sound (passed x) .shape) _ (f .0)), rw (c .wide2 .ensures) (f .1))
+    (rw (c .before .wide .ensures) (used-place (is-sound (passed x) .shape) _ (f .0)), rw (c .wide2 .ensures) (own-exit _ _ (f .1)))
 
 target : (c : tie.After-target-at) → let s = tested (passed (looked c)) in c .target-at .result ≡ targetOf (given s) (s .args .step) (s .args .exit)
 target c =

@@ -7,6 +7,7 @@ use borrow.Author.Tests.{lt-leb}
 use Rattle.table.specs.Table.{exits, inUse, targetOf}
 use Rattle.table.specs.Answer.{first}
 use Rattle.table.specs.Clear.{clearRefusal}
+use Rattle.table.proofs.Places.{own-exit}
 use Rattle.table.proofs.Links.{target-holds, target-empty, used-place}
 use Rattle.table.proofs.Calls.{clear-sound}
 use Rattle.words.specs.Words.{tableOf}
@@ -44,7 +45,7 @@ target-at-requires c κs =
     let x = c .before .before in
     let p = past-into x in
     let place = used-place (clear-sound _ _ _ (past-source (x .before .before)) .shape) _ (p .0) in
-    rw (c .wide2 .ensures, c .before .wide .ensures) (place, p .1)
+    rw (c .wide2 .ensures, c .before .wide .ensures) (place, own-exit _ _ (p .1))
 
 returns-3 : tie.Need-returns-3
 unfolding first

@@ -8,6 +8,7 @@ use borrow.Author.Tests.{lt-leb, eq-eqb, ne-eqb}
 use Rattle.table.specs.Table.{exits, inUse, targetOf, holds}
 use Rattle.table.specs.Sound.{contentFits}
 use Rattle.table.specs.Answer.{first}
+use Rattle.table.proofs.Places.{own-exit}
 use Rattle.table.proofs.Links.{target-holds, target-empty, used-place}
 use Rattle.words.specs.Words.{tableOf}
 use Rattle.edits.specs.Parts.{stepRefusal}
@@ -48,7 +49,7 @@ target-at-requires : tie.Need-target-at-requires
 target-at-requires c κs =
     let c1 = c .before .before in
     let p = past-exit c1 in
-    rw (c .wide2 .ensures, c .before .wide .ensures) (used-place (c1 .before .before .pre .shape) _ (p .0), p .1)
+    rw (c .wide2 .ensures, c .before .wide .ensures) (used-place (c1 .before .before .pre .shape) _ (p .0), own-exit _ _ (p .1))
 
 returns-2 : tie.Need-returns-2
 unfolding stepRefusal first

@@ -1,10 +1,10 @@
 -- `loading::put_record` meets its contract: the step is put, then its exits. Assumes nothing.
 use mathlib.Core.Path.{_∙_, ap}
 use mathlib.Core.List.{[], _∷_}
-use Prim.Native.Nat.{_*_, _/_, _%_}
+use Prim.Native.Nat.{_/_, _%_}
 use lib.Seq.{sets}
 use borrow.Author.Needs.{needs}
-use Rattle.table.specs.Table.{Table, exits, withLinks, withSteps}
+use Rattle.table.specs.Table.{Table, exitPlaces, withLinks, withSteps}
 use Rattle.image.specs.Image.{withRecord}
 use Rattle.records.specs.Parts.{added, recordFields}
 use Rattle.loading.proofs.put_record.Statement.{statement}
@@ -16,7 +16,7 @@ returns c =
     let step = c .before .before in
     let wide = step .before .before in
     let r = wide .before .args .r in
-    let p = wide .wide .result * exits in
+    let p = exitPlaces (wide .wide .result) in
     let s = r .bits in
     record {
       table =

@@ -1,13 +1,13 @@
 -- `arrays_fit` looks at the faults of all passes. Assumes nothing.
 use mathlib.Core.Path.{_≡_, refl, sym, _∙_}
 use mathlib.Core.Bool.{true, false}
-use Prim.Native.Nat.{ℕ, _*_}
+use Prim.Native.Nat.{ℕ}
 use native.Mathlib.Omega.{arith}
 use lib.Dec.{eqb}
 use borrow.Author.Tests.{eq-eqb, ne-eqb}
 use borrow.Author.Needs.{needs}
 use Rattle.finite.specs.Below.{all}
-use Rattle.table.specs.Table.{Table, places, exits}
+use Rattle.table.specs.Table.{Table, places, exitPlaces}
 use Rattle.words.specs.Words.{tableOf}
 use Rattle.soundness.specs.Parts.{fieldsAt, stepFits, faults, exitFits, countersFit, arraysFit}
 use Rattle.soundness.proofs.Totals.{no-faults, one-fault}
@@ -23,7 +23,7 @@ steps-fit t z x e = one-fault places (fieldsAt t) (stepFits t) 0 (omega arith) z
 steps : (c : tie.Else1) → all places (stepFits (tableOf (c .before .args .t .now))) ≡ true
 steps c = sym (steps-fit _ (c .before .pre .1) _ (c .before .pre .2)) ∙ eq-eqb _ _ (c .if1 .left)
 
-links : (c : tie.Else2) → all (places * exits) (exitFits (tableOf (c .before .before .before .args .t .now))) ≡ true
+links : (c : tie.Else2) → all (exitPlaces places) (exitFits (tableOf (c .before .before .before .args .t .now))) ≡ true
 links c = sym (no-faults _ _ _ (c .before .link-faults .ensures)) ∙ eq-eqb _ _ (c .if2 .left)
 
 counts : (c : tie.Else3) → all places (countersFit (tableOf (c .before .before .before .before .before .args .t .now))) ≡ true

@@ -1,10 +1,10 @@
 -- `filled` counts the exits that hold a link. Assumes nothing.
 use mathlib.Core.Path.{_≡_, sym, _∙_}
 use mathlib.Core.Logic.{⊎-elim}
-use Prim.Native.Nat.{_+_, _*_, _-_, _≤_}
+use Prim.Native.Nat.{_+_, _-_, _≤_}
 use native.Mathlib.Omega.{arith}
 use borrow.Author.Tests.{eq-eqb, ne-eqb}
-use Rattle.table.specs.Table.{places, exits}
+use Rattle.table.specs.Table.{places, exitPlaces}
 use Rattle.words.specs.Words.{tableOf}
 use Rattle.soundness.specs.Parts.{emptyAt, faults}
 use Rattle.soundness.proofs.Totals.{faults-none, faults-le, faults-pass, faults-fail}
@@ -12,10 +12,10 @@ use Rattle.soundness.proofs.filled.Statement.{statement}
 use Rattle.soundness.proofs.filled.Tie as tie
 
 abbrev Inv-loop : tie.InvT-loop
-Inv-loop t n₀ p₀ n p = (p ≤ places * exits) × (n ≡ faults p (emptyAt (tableOf t)))
+Inv-loop t n₀ p₀ n p = (p ≤ exitPlaces places) × (n ≡ faults p (emptyAt (tableOf t)))
 
 abbrev μ-loop : tie.MeasureT-loop
-μ-loop t n₀ p₀ n p = places * exits - p
+μ-loop t n₀ p₀ n p = exitPlaces places - p
 
 loop-holds : tie.Need-loop-holds Inv-loop μ-loop
 loop-holds c = (omega arith, sym (faults-none _))
@@ -44,7 +44,7 @@ loop-again c = (omega arith, next (c .before))
 
 returns : tie.Need-returns Inv-loop μ-loop
 returns c =
-    let e : c .before .loop .p ≡ places * exits = omega arith in
+    let e : c .before .loop .p ≡ exitPlaces places = omega arith in
     rw e at (c .before .loop .inv .1)
 
 pub filled-spec : {M : Type 1} → statement M

@@ -7,6 +7,7 @@ use native.Mathlib.Omega.{arith}
 use borrow.Author.Needs.{needs}
 use Rattle.table.specs.Table.{places, kindOf, targetOf}
 use Rattle.table.specs.Trial.{tryFrom}
+use Rattle.table.proofs.Places.{own-exit}
 use Rattle.words.specs.Words.{tableOf}
 use Rattle.table.proofs.Formed.{sound-formed}
 use Rattle.words.proofs.Formed.{target-place}
@@ -57,7 +58,7 @@ chosen c =
     (c .if1 .came)
 
 target-at-requires : tie.Need-target-at-requires Inv-loop μ-loop
-target-at-requires c κs = (rw (c .wide2 .ensures) (c .before .before .before .before .loop .inv .place), chosen (c .before) .below)
+target-at-requires c κs = (rw (c .wide2 .ensures) (c .before .before .before .before .loop .inv .place), own-exit _ _ (chosen (c .before) .below))
 
 -- what it finds there
 found : (c : tie.After-target-at Inv-loop μ-loop) →
@@ -68,7 +69,7 @@ found c = c .target-at .ensures ∙ rw (c .before .wide2 .ensures)
 found-place : (c : tie.After-target-at Inv-loop μ-loop) → c .target-at .result < places
 found-place c =
     let k = c .before .before .before .before .before in
-    rw (found c) (target-place (sound-formed (k .before .before .before .pre .0)) _ _ (chosen (c .before .before) .below))
+    rw (found c) (target-place (sound-formed (k .before .before .before .pre .0)) _ _ (own-exit (k .loop .step) _ (chosen (c .before .before) .below)))
 
 returns : tie.Need-returns Inv-loop μ-loop
 returns c =

@@ -1,16 +1,17 @@
 -- Withdrawing a step and withdrawing an exit, which call each other. The measures: with u steps not marked, an exit is 2u and a step 2u + 1.
 -- The loop's invariant: the exits below e are withdrawn. Assumes nothing.
 use Prim.Native.Nat.{ℕ, _+_, _-_, _≤_, _<_}
-use mathlib.Core.Path.{sym, _∙_}
+use mathlib.Core.Path.{_≡_, sym, _∙_}
 use native.Mathlib.Omega.{arith}
 use native.Mathlib.Numerals.{add-one}
 use borrow.Author.Needs.{needs}
 use borrow.Fn.Kinds.{In}
 use borrow.Fn.PlainCycle.{Measures, is, falls, and}
-use Rattle.table.specs.Table.{places, exits, counterPlace, targetOf, linkBit}
-use Rattle.table.proofs.Relink.{exit-place-below}
+use Rattle.table.specs.Table.{places, exitsOf, counterPlace, targetOf, linkBit}
+use Rattle.table.proofs.Places.{entries-most, exit-place-below}
 use Rattle.words.specs.Words.{tableOf}
 use Rattle.words.proofs.bit_at.Reads as bit-at-reads
+use Rattle.words.proofs.exits_of.Reads as exits-of-reads
 use Rattle.words.proofs.own_at.Reads as own-at-reads
 use Rattle.words.proofs.target_at.Reads as target-at-reads
 use Rattle.words.proofs.wide.Reads as wide-reads
@@ -59,7 +60,7 @@ exit-claims t = (
 )
 
 abbrev step-claims : ℕ → withdraw-step-lts.Claims
-step-claims t = (withdraw-exit-below t, withdraw-exit.Post)
+step-claims t = (exits-of-reads.Asked, exits-of-reads.Learnt, withdraw-exit-below t, withdraw-exit.Post)
 
 withdraw-exit-target-at-requires : (t : ℕ) → withdraw-exit-lts.Need-target-at-requires (exit-claims t) (withdraw-exit-at t) withdraw-exit.Post
 withdraw-exit-target-at-requires t c κs = (c .pre .1 .0, c .pre .1 .1)
@@ -233,28 +234,31 @@ withdraw-exit-returns-5 t c =
     withdrawn-lower _ (s .pre .1 .2) _ _ ej some _ eb _ _ full (λ z e. c .if3 .left z)
 
 abbrev withdraw-step-Inv-loop : withdraw-step-lts.InvT-loop
-withdraw-step-Inv-loop t left₀ marks₀ i e₀ left marks e = (e ≤ exits) × Upto (tableOf t) i left₀ marks₀ e left marks
+withdraw-step-Inv-loop t left₀ marks₀ i n e₀ left marks e = (n ≡ exitsOf i) × (e ≤ n) × Upto (tableOf t) i left₀ marks₀ e left marks
 
 abbrev withdraw-step-μ-loop : withdraw-step-lts.MeasureT-loop
-withdraw-step-μ-loop t left₀ marks₀ i e₀ left marks e = exits - e
+withdraw-step-μ-loop t left₀ marks₀ i n e₀ left marks e = n - e
 
 withdraw-step-loop-holds : (t : ℕ) →
     withdraw-step-lts.Need-loop-holds (step-claims t) (withdraw-step-at t) withdraw-step.Post withdraw-step-Inv-loop withdraw-step-μ-loop
-withdraw-step-loop-holds t c = (omega arith, upto-start _ _ _ _)
+withdraw-step-loop-holds t c = (c .exits-of .ensures, omega arith, upto-start _ _ _ _)
 
 withdraw-step-withdraw-exit-requires : (t : ℕ) →
     withdraw-step-lts.Need-withdraw-exit-requires (step-claims t) (withdraw-step-at t) withdraw-step.Post withdraw-step-Inv-loop withdraw-step-μ-loop
 withdraw-step-withdraw-exit-requires t c κs =
-    let s = c .before .before .before .before in
-    let u = c .before .before .before .loop .inv .1 in
-    let test = c .before .before .loop-test .taken in
+    let s = c .before .before .before .before .before in
+    let inv = c .before .before .before .loop .inv in
+    let u = inv .2 in
+    let test = rw (inv .0) at (c .before .before .loop-test .taken) in
     let size = s .pre .0 in
     let less = unmarked-mono _ _ (u .grown) in
     (omega arith, (s .pre .1 .0, test, s .pre .1 .1, upto-pending _ _ _ _ _ _ _ u test (s .pre .1 .2)))
 
 withdraw-step-add-e : (t : ℕ) →
     withdraw-step-lts.Need-add-e (step-claims t) (withdraw-step-at t) withdraw-step.Post withdraw-step-Inv-loop withdraw-step-μ-loop
-withdraw-step-add-e t c = let test = c .before .before .before .loop-test .taken in omega arith
+withdraw-step-add-e t c =
+    let test = c .before .before .before .loop-test .taken in
+    omega (arith, c .before .before .before .before .loop .inv .0, entries-most (c .before .before .before .before .before .before .args .i))
 
 withdraw-step-loop-less : (t : ℕ) →
     withdraw-step-lts.Need-loop-less (step-claims t) (withdraw-step-at t) withdraw-step.Post withdraw-step-Inv-loop withdraw-step-μ-loop
@@ -264,16 +268,15 @@ withdraw-step-loop-again : (t : ℕ) →
     withdraw-step-lts.Need-loop-again (step-claims t) (withdraw-step-at t) withdraw-step.Post withdraw-step-Inv-loop withdraw-step-μ-loop
 withdraw-step-loop-again t c =
     let test = c .before .before .before .loop-test .taken in
-    let loop = c .before .before .before .before .loop in
-    (omega arith, rw add-one (upto-more _ _ _ _ _ _ _ (loop .inv .1) _ _ test (c .withdraw-exit .ensures)))
+    let inv = c .before .before .before .before .loop .inv in
+    (inv .0, omega arith, rw add-one (upto-more _ _ _ _ _ _ _ (inv .2) _ _ (rw (inv .0) at test) (c .withdraw-exit .ensures)))
 
 withdraw-step-returns : (t : ℕ) →
     withdraw-step-lts.Need-returns (step-claims t) (withdraw-step-at t) withdraw-step.Post withdraw-step-Inv-loop withdraw-step-μ-loop
 withdraw-step-returns t c =
-    let loop = c .before .loop in
-    let low = loop .inv .0 in
+    let inv = c .before .loop .inv in
     let test = c .loop-test .left in
-    upto-done _ _ _ _ _ _ _ (loop .inv .1) (omega arith)
+    upto-done _ _ _ _ _ _ _ (inv .2) (omega (arith, inv .0, inv .1))
 
 pub +withdraw-exit+withdraw-step-spec : {M : Type 1} → statement M
 +withdraw-exit+withdraw-step-spec =
@@ -301,6 +304,7 @@ pub +withdraw-exit+withdraw-step-spec : {M : Type 1} → statement M
     (withdraw-exit-returns-4 t)
     (withdraw-exit-returns-5 t))
     λ t. withdraw-step-lts.spec (step-claims t) (withdraw-step-at t) withdraw-step.Post withdraw-step-Inv-loop withdraw-step-μ-loop
+    (λ c κs. search needs)
     (withdraw-step-loop-holds t)
     (withdraw-step-withdraw-exit-requires t)
     (withdraw-step-add-e t)

@@ -2,7 +2,7 @@
 use mathlib.Core.Path.{_∙_, ap}
 use Prim.Native.Nat.{_*_}
 use lib.Seq.{sets}
-use Rattle.table.specs.Table.{Table, exits, counters, withLinks, withSteps}
+use Rattle.table.specs.Table.{Table, exitPlaces, counters, withLinks, withSteps}
 use Rattle.words.specs.Words.{withFields}
 use borrow.Author.Needs.{needs}
 use Rattle.words.proofs.put_fields.Statement.{statement}
@@ -20,7 +20,7 @@ returns c =
           c .put-counts .ensures .table ∙
           ap (λ (t : Table). withLinks t (t .targets) (t .bits) (sets (t .counts) (i * counters) (a .f .counts)))
           (links .put-links .ensures .table ∙
-          ap (λ (t : Table). withLinks t (sets (t .targets) (i * exits) (a .f .targets)) (sets (t .bits) (i * exits) (a .f .bits)) (t .counts))
+          ap (λ (t : Table). withLinks t (sets (t .targets) (exitPlaces i) (a .f .targets)) (sets (t .bits) (exitPlaces i) (a .f .bits)) (t .counts))
           (step .put-step .ensures .table));
       size = c .put-counts .ensures .size ∙ links .put-links .ensures .size ∙ step .put-step .ensures .size;
     }

@@ -1,13 +1,13 @@
 -- `words::put_links` meets its contract: the four exits one after the other. Assumes nothing.
 use mathlib.Core.Path.{_≡_, refl, _∙_}
 use mathlib.Core.List.{List}
-use Prim.Native.Nat.{ℕ, suc, _+_, _*_}
+use Prim.Native.Nat.{ℕ, suc, _+_}
 use native.Mathlib.Omega.{arith}
 use lib.ListN.{length, getD, set}
 use lib.Seq.{sets}
 use Rattle.finite.specs.Below.{tabulate, tabulateFrom}
 use Rattle.finite.proofs.Select.{tabulate-entries}
-use Rattle.table.specs.Table.{Table, exits, exitPlace, withLinks}
+use Rattle.table.specs.Table.{Table, exits, exitPlace, exitPlaces, withLinks}
 use borrow.Author.Needs.{needs}
 use Rattle.words.proofs.put_links.Statement.{statement}
 use Rattle.words.proofs.put_links.Tie as tie
@@ -19,10 +19,10 @@ putLink i e j b t = withLinks t (set (t .targets) (exitPlace i e) j) (set (t .bi
 all-put : (t a b c u : Table) (i : ℕ) (xs ys : List ℕ) → length xs ≡ exits → length ys ≡ exits →
     a ≡ putLink i 0 (getD xs 0 0) (getD ys 0 0) t → b ≡ putLink i 1 (getD xs 1 0) (getD ys 1 0) a →
     c ≡ putLink i 2 (getD xs 2 0) (getD ys 2 0) b → u ≡ putLink i 3 (getD xs 3 0) (getD ys 3 0) c →
-    u ≡ withLinks t (sets (t .targets) (i * exits) xs) (sets (t .bits) (i * exits) ys) (t .counts)
+    u ≡ withLinks t (sets (t .targets) (exitPlaces i) xs) (sets (t .bits) (exitPlaces i) ys) (t .counts)
 unfolding exitPlace withLinks tabulate tabulateFrom
 all-put t a b c u i xs ys m n f g h k =
-    let p = i * exits in
+    let p = exitPlaces i in
     let e₀ : p + 0 ≡ p = omega arith in
     let e₁ : p + 1 ≡ suc p = omega arith in
     let e₂ : p + 2 ≡ suc (suc p) = omega arith in

@@ -1,7 +1,7 @@
 -- `words::target_in` meets its contract. Assumes nothing.
 use mathlib.Core.Path.{sym}
-use Prim.Native.Nat.{_*_}
-use Rattle.table.specs.Table.{places, exits}
+use Prim.Native.Nat.{}
+use Rattle.table.specs.Table.{places, exitPlaces}
 use Rattle.words.specs.Words.{targetsFrom, tableOf}
 use Rattle.words.proofs.Laws.{part-read}
 use borrow.Author.Needs.{needs}
@@ -10,7 +10,7 @@ use Rattle.words.proofs.target_in.Tie as tie
 
 returns : tie.Need-returns
 unfolding tableOf
-returns c = sym (part-read (c .before .args .t .now) targetsFrom (places * exits) (c .before .args .p) (c .before .pre))
+returns c = sym (part-read (c .before .args .t .now) targetsFrom (exitPlaces places) (c .before .args .p) (c .before .pre))
 
 pub target-in-spec : {M : Type 1} → statement M
 target-in-spec = tie.close (tie.spec (λ c. search needs) (λ c. search needs) (λ c. search needs) returns)

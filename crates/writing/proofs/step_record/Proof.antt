@@ -6,6 +6,7 @@ use borrow.Author.Needs.{needs}
 use Rattle.finite.proofs.Bools.{test}
 use Rattle.table.specs.Table.{Table, places, inUse, ownBit, linkBit}
 use Rattle.table.specs.Sound.{Sound}
+use Rattle.table.proofs.Places.{own-exit}
 use Rattle.table.proofs.Sound.{test-sound}
 use Rattle.words.specs.Words.{tableOf}
 use Rattle.image.specs.Image.{bitsOf, stepAdds, stepFieldsOf}
@@ -16,7 +17,9 @@ use Rattle.writing.proofs.step_record.Tie as tie
 -- of a step in use, and of a free one
 module _ {t : Table} (s : Sound t) (i : ℕ) (l : i < places) where
   bit-low : (e : ℕ) → e < 4 → linkBit t i e < 2
-  bit-low e h = ⊎-elim (λ u. s .bits i e u h) (λ u. let z = s .free i l u .bits e h in omega arith) (test (inUse t i))
+  bit-low e h =
+      let o = own-exit i e h in
+      ⊎-elim (λ u. s .bits i e u o) (λ u. let z = s .free i l u .bits e o in omega arith) (test (inUse t i))
 
   own-low : ownBit t i < 2
   own-low = ⊎-elim (λ u. s .own i u) (λ u. let z = s .free i l u .own in omega arith) (test (inUse t i))
