@@ -3,4 +3,5 @@ pub mod Laws
 pub mod Refusals
 pub mod Formed
 pub mod Becomes
+mod Cut
 pub mod Fields
