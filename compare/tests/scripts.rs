@@ -5,7 +5,7 @@ use compare::process::{output, root, says_one_line, text};
 use std::fs::{self, File, Permissions};
 use std::io::{BufRead, BufReader};
 use std::os::unix::fs::{symlink, PermissionsExt};
-use std::path::{Path, PathBuf};
+use std::path::PathBuf;
 use std::process::{Command, Output, Stdio};
 use std::time::{Duration, SystemTime};
 
@@ -19,13 +19,19 @@ const USUAL: [&str; 18] = [
     "sed", "sh", "sort", "tac", "tail", "tee", "touch",
 ];
 
-/// A copy of the scripts, with a folder bin of the usual tools and no others.
+/// A copy of the scripts, with a folder bin of the usual tools and no others. It stands outside the repository, where rt would take its sources for lost
+/// ones, and goes with this value.
 struct Copy(PathBuf);
+
+impl Drop for Copy {
+    fn drop(&mut self) {
+        let _ = fs::remove_dir_all(&self.0);
+    }
+}
 
 impl Copy {
     fn new(name: &str) -> Copy {
-        let folder = Path::new(env!("CARGO_TARGET_TMPDIR")).join(name);
-        let _ = fs::remove_dir_all(&folder);
+        let folder = std::env::temp_dir().join(format!("scripts-{}-{name}", std::process::id()));
         for made in ["bench", "bin", "crates/table/src", "docs", "rust/plan/help", "scripts"] {
             fs::create_dir_all(folder.join(made)).unwrap();
         }
