@@ -866,7 +866,11 @@ fn print_numbers() {
     let size = size_of::<Table>();
     let clear = stack(&freed, |t| raw::clear(t, 0, 0)).max(stack(held, |t| raw::clear(t, 0, 0)));
     let line = stack(held, |t| raw::key_line(t, b"H*30000A"));
-    println!("\nStack of (a) in bytes, with the caller's table of {size}: a clearing {}, by key line {}", clear + size, line + size);
+    println!(
+        "\nStack of (a) in bytes, with the caller's table of {size}: a clearing {}, by key line {}",
+        clear + size,
+        line + size
+    );
 }
 
 #[cfg(test)]

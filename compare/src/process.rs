@@ -12,20 +12,36 @@ const LIMIT: Duration = Duration::from_secs(40);
 
 /// The program `keys`, as the gate built it.
 pub fn keys_program() -> PathBuf {
-    let program = Path::new(env!("CARGO_MANIFEST_DIR")).join("../target/bin/keys");
+    let program = root().join("target/bin/keys");
     assert!(program.exists(), "no {}: run `rt check keys` first", program.display());
     program
+}
+
+/// The repository.
+pub fn root() -> PathBuf {
+    Path::new(env!("CARGO_MANIFEST_DIR")).join("..").canonicalize().unwrap()
 }
 
 /// The script that runs it.
 pub fn keys_script() -> PathBuf {
     keys_program();
-    Path::new(env!("CARGO_MANIFEST_DIR")).join("../keys")
+    root().join("keys")
 }
 
 /// The script that runs the tool `plan`.
 pub fn plan_script() -> PathBuf {
-    Path::new(env!("CARGO_MANIFEST_DIR")).join("../plan")
+    root().join("plan")
+}
+
+pub fn text(bytes: &[u8]) -> String {
+    String::from_utf8_lossy(bytes).to_string()
+}
+
+/// Whether standard error has one line, which starts with the name of the program, as it was called or alone.
+pub fn says_one_line(program: &str, output: &Output) -> bool {
+    let said = text(&output.stderr);
+    let name = said.split(':').next().map(Path::new).and_then(Path::file_name);
+    said.ends_with('\n') && said.lines().count() == 1 && name.is_some_and(|name| name == program)
 }
 
 /// Runs a command to its end. Its input is a pipe that is given these bytes, but where the command has an input of its own.

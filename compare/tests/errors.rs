@@ -1,9 +1,8 @@
 //! Input that cannot be read and answers that cannot be written. The program `keys` says so on standard error; the script `keys`, which runs it, also
-//! ends with status 1. Where nothing fails, neither says anything, and the status is 0. The script `plan`, and what the scripts say where a proof fails.
+//! ends with status 1. Where nothing fails, neither says anything, and the status is 0. The script `plan` too.
 
-use compare::process::{keys_program, keys_script, output, plan_script};
-use std::os::unix::fs::PermissionsExt;
-use std::path::{Path, PathBuf};
+use compare::process::{keys_program, keys_script, output, plan_script, says_one_line, text};
+use std::path::Path;
 use std::process::{Command, Output};
 
 /// The case of document 01 and its answers.
@@ -21,21 +20,6 @@ fn redirected(program: &Path, redirections: &str, input: &[u8]) -> Output {
     output(&mut command, Some(input))
 }
 
-fn text(bytes: &[u8]) -> String {
-    String::from_utf8_lossy(bytes).to_string()
-}
-
-/// Whether standard error has one line, which starts with the name of the program, as it was called or alone.
-fn says_one_line(output: &Output) -> bool {
-    one_line_of("keys", output)
-}
-
-fn one_line_of(program: &str, output: &Output) -> bool {
-    let said = text(&output.stderr);
-    let name = said.split(':').next().map(Path::new).and_then(Path::file_name);
-    said.ends_with('\n') && said.lines().count() == 1 && name.is_some_and(|name| name == program)
-}
-
 /// Inputs that end before the first answer is written, soon after, and long after.
 fn inputs() -> [Vec<u8>; 3] {
     [b"H*4A".to_vec(), CASE.to_vec(), CASE.repeat(20_000)]
@@ -46,7 +30,7 @@ fn the_script_fails_where_the_input_cannot_be_read() {
     for redirection in BAD_INPUT {
         let given = redirected(&keys_script(), redirection, CASE);
         assert_eq!(given.status.code(), Some(1), "{redirection}");
-        assert!(says_one_line(&given), "{redirection}: {}", text(&given.stderr));
+        assert!(says_one_line("keys", &given), "{redirection}: {}", text(&given.stderr));
         assert_eq!(text(&given.stdout), "");
     }
 }
@@ -57,7 +41,7 @@ fn the_script_fails_where_answers_cannot_be_written() {
         for input in inputs() {
             let given = redirected(&keys_script(), redirection, &input);
             assert_eq!(given.status.code(), Some(1), "{redirection}");
-            assert!(says_one_line(&given), "{redirection}: {}", text(&given.stderr));
+            assert!(says_one_line("keys", &given), "{redirection}: {}", text(&given.stderr));
         }
     }
 }
@@ -114,21 +98,11 @@ fn the_script_where_nothing_fails() {
     }
 }
 
-/// Words after its name are none of its lines.
-#[test]
-fn the_script_takes_no_words() {
-    for words in ["--help", "H*4A", "''"] {
-        let given = redirected(&keys_script(), words, CASE);
-        assert_eq!((given.status.code(), text(&given.stdout)), (Some(1), String::new()), "{words}");
-        assert!(says_one_line(&given), "{words}: {}", text(&given.stderr));
-    }
-}
-
 /// From another folder, by its whole path and by a short one.
 #[test]
 fn the_script_from_another_folder() {
     let folder = Path::new(env!("CARGO_TARGET_TMPDIR"));
-    let whole = keys_script().canonicalize().unwrap();
+    let whole = keys_script();
     let given = output(Command::new(&whole).current_dir(folder), Some(CASE));
     assert_eq!((given.status.code(), text(&given.stdout)), (Some(0), ANSWERS.to_string()));
     let given = output(Command::new("./keys").current_dir(whole.parent().unwrap()), Some(CASE));
@@ -140,14 +114,14 @@ fn the_script_from_another_folder() {
 fn the_program_says_what_fails() {
     for redirection in BAD_INPUT {
         let given = redirected(&keys_program(), redirection, CASE);
-        assert!(says_one_line(&given), "{redirection}: {}", text(&given.stderr));
+        assert!(says_one_line("keys", &given), "{redirection}: {}", text(&given.stderr));
         assert!(text(&given.stderr).starts_with("keys: the input could not be read"));
         assert_eq!((given.status.code(), text(&given.stdout)), (Some(0), String::new()));
     }
     for redirection in BAD_OUTPUT {
         for input in inputs() {
             let given = redirected(&keys_program(), redirection, &input);
-            assert!(says_one_line(&given), "{redirection}: {}", text(&given.stderr));
+            assert!(says_one_line("keys", &given), "{redirection}: {}", text(&given.stderr));
             assert!(text(&given.stderr).starts_with("keys: the answers could not be written"));
             assert_eq!(given.status.code(), Some(0));
         }
@@ -163,7 +137,7 @@ fn the_script_plan() {
     let folder = Path::new(env!("CARGO_TARGET_TMPDIR"));
     let link = folder.join("link_to_plan");
     let _ = std::fs::remove_file(&link);
-    std::os::unix::fs::symlink(plan_script().canonicalize().unwrap(), &link).unwrap();
+    std::os::unix::fs::symlink(plan_script(), &link).unwrap();
     let image = folder.join("plan.img");
     let stored = format!("fresh 4 -o '{}'", image.display());
     let made = redirected(&link, &stored, b"");
@@ -172,7 +146,11 @@ fn the_script_plan() {
     for redirection in BAD_OUTPUT {
         for words in [format!("show '{image}'"), format!("draw '{image}'"), "--help".to_string()] {
             let given = redirected(&plan_script(), &format!("{words} {redirection}"), b"");
-            assert!(one_line_of("plan", &given), "{words} {redirection}: {}", text(&given.stderr));
+            assert!(
+                says_one_line("plan", &given),
+                "{words} {redirection}: {}",
+                text(&given.stderr)
+            );
             assert_eq!(given.status.code(), Some(2), "{words} {redirection}");
         }
     }
@@ -183,47 +161,8 @@ fn the_script_plan() {
             (Some(2), String::new()),
             "{redirection}"
         );
-        assert!(one_line_of("plan", &given), "{redirection}: {}", text(&given.stderr));
+        assert!(says_one_line("plan", &given), "{redirection}: {}", text(&given.stderr));
         let given = redirected(&plan_script(), &format!("show '{image}' {redirection}"), b"");
         assert_eq!(given.status.code(), Some(0), "{redirection}");
-    }
-}
-
-/// A copy of the scripts with a toolchain that says what `rt` is told to say and ends with that status.
-fn with_toolchain(name: &str, rt: &str) -> PathBuf {
-    let root = plan_script().canonicalize().unwrap().parent().unwrap().to_path_buf();
-    let folder = Path::new(env!("CARGO_TARGET_TMPDIR")).join(name);
-    let _ = std::fs::remove_dir_all(&folder);
-    for made in ["crates", "scripts", "docs", "bin"] {
-        std::fs::create_dir_all(folder.join(made)).unwrap();
-    }
-    for file in ["visit", "plan", "keys", "scripts/proved.sh", "crates.txt", "docs/visit.txt"] {
-        std::fs::copy(root.join(file), folder.join(file)).unwrap();
-    }
-    let program = folder.join("bin/rt");
-    std::fs::write(&program, format!("#!/bin/sh\n{rt}\n")).unwrap();
-    std::fs::set_permissions(&program, std::fs::Permissions::from_mode(0o755)).unwrap();
-    folder
-}
-
-/// While they prove, the scripts say which crate is proved; where a proof fails, they say so, run nothing and end with another status than 0.
-#[test]
-fn the_scripts_where_a_proof_fails() {
-    let rt = "echo 'rt: finite proved (1 s)'; echo 'rt: table proved (4 s)'; echo 'error: a fact fails' >&2; exit 1";
-    let folder = with_toolchain("failing_proof", rt);
-    let path = format!("{}:{}", folder.join("bin").display(), std::env::var("PATH").unwrap());
-    for script in ["visit", "plan", "keys"] {
-        let mut command = Command::new(folder.join(script));
-        let given = output(command.env("PATH", &path), Some(b""));
-        assert_eq!(
-            (given.status.code(), text(&given.stdout)),
-            (Some(2), String::new()),
-            "{script}"
-        );
-        let said = text(&given.stderr);
-        let lines: Vec<&str> = said.lines().collect();
-        assert!(lines[0].starts_with("proving ") && lines[0].contains(" crates"), "{said}");
-        assert_eq!(lines[1..3], ["   1  finite proved (1 s)", "   2  table proved (4 s)"]);
-        assert!(said.contains("error: a fact fails") && said.contains("not proved: rt "), "{said}");
     }
 }

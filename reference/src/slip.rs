@@ -179,7 +179,7 @@ fn asked_about(table: &Table, fault: Fault) -> Table {
 /// Puts a fault into a table rebuilt from a slip.
 fn spoil_rebuilt(before: &mut Table, table: &Table, slip: &[u8], fault: Fault) {
     let steps: Vec<usize> = listed(slip).into_iter().map(usize::from).collect();
-    let back = steps.iter().copied().filter(|&step| table.used[step] == 0);
+    let mut back = steps.iter().copied().filter(|&step| table.used[step] == 0);
     match fault {
         Fault::CountersKept => before.counts = table.counts,
         Fault::CountersOfListed => {
@@ -189,7 +189,9 @@ fn spoil_rebuilt(before: &mut Table, table: &Table, slip: &[u8], fault: Fault) {
                 before.counts[at] = counted[at];
             }
         }
-        Fault::LastIsBack => before.last = back.last().map_or(table.last, |step| step as u16),
+        Fault::LastIsBack => {
+            before.last = back.next_back().map_or(table.last, |step| step as u16);
+        }
         Fault::BitsNotBack => {
             for step in steps {
                 before.own[step] = 0;

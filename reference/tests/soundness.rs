@@ -23,7 +23,7 @@ fn ring() -> Table {
 
 #[test]
 fn the_layout_is_3876_bytes() {
-    assert_eq!(std::mem::size_of::<Table>(), 3876);
+    assert_eq!(size_of::<Table>(), 3876);
 }
 
 #[test]

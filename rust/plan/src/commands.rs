@@ -496,7 +496,7 @@ fn why_not_taken_back(table: &Table, slip: &[u8]) -> String {
 fn trial(request: &Request) -> Result<u8, Failure> {
     let (table, view) = viewed(&request.words[0])?;
     let results = results(request.words.get(1).map_or(OsStr::new(""), |word| word))?;
-    let steps = u16::try_from(telephone::PLACES).unwrap_or(u16::MAX);
+    let steps = u16::try_from(PLACES).unwrap_or(u16::MAX);
     let enough =
         u16::try_from(results.len()).unwrap_or(u16::MAX).saturating_add(1).saturating_mul(steps);
     let limit = request.limit.unwrap_or(enough);

@@ -44,17 +44,11 @@ fn run(words: &[OsString]) -> Result<u8, Failure> {
     let Some((name, rest)) = words.split_first() else {
         return Err("no command is given; plan --help names them".to_string());
     };
-    if is_help(name) {
-        files::print(&overview())?;
+    if let Some(text) = page(name, rest)? {
+        files::print(&text)?;
         return Ok(0);
     }
-    let Some(command) = COMMANDS.iter().find(|command| name == command.name) else {
-        return Err(format!("no command {}; plan --help names them", files::shown(name)));
-    };
-    if rest.iter().take_while(|word| *word != "--").any(|word| is_help(word)) {
-        files::print(&format!("usage: plan {}\n\n{}", command.usage(), command.help))?;
-        return Ok(0);
-    }
+    let command = command(name)?;
     let request = request(command, rest)?;
     if !command.takes(request.words.len()) {
         return Err(format!("usage: plan {}", command.usage()));
@@ -63,9 +57,43 @@ fn run(words: &[OsString]) -> Result<u8, Failure> {
     (command.run)(&request)
 }
 
+/// The command of that name.
+fn command(name: &OsStr) -> Result<&'static Command, Failure> {
+    let found = COMMANDS.iter().find(|command| name == command.name);
+    found.ok_or_else(|| format!("no command {}; plan --help names them", files::shown(name)))
+}
+
+/// The page that a command line asks for: the version, what commands there are, or one of them at length. The script `plan` goes by the same rule, and
+/// prints the pages of help as they are stored, so that it needs no tool for them.
+fn page(name: &OsStr, rest: &[OsString]) -> Result<Option<String>, Failure> {
+    if name == "--version" {
+        return Ok(Some(format!("plan {}\n", env!("CARGO_PKG_VERSION"))));
+    }
+    let asked = match rest.first() {
+        Some(about) if name == "help" => about,
+        _ if name == "help" || is_help(name) => OsStr::new("--help"),
+        _ if rest.iter().take_while(|word| *word != "--").any(|word| is_help(word)) => name,
+        _ => return Ok(None),
+    };
+    if asked == "help" || is_help(asked) {
+        return Ok(Some(overview()));
+    }
+    let command = command(asked)?;
+    Ok(Some(format!("usage: plan {}\n\n{}", command.usage(), command.help)))
+}
+
 fn is_help(word: &OsStr) -> bool {
     word == "--help" || word == "-h"
 }
+
+const MORE: &str = "\
+plan COMMAND --help says more, and plan --version which version this is. IMAGE
+is a file that holds an image.
+
+Status 0: done. 1: the answer is no (check, diff). 2: bad input, or something
+is missing, is not proved, or could not be read or written; then nothing is
+stored, and standard error says what.
+";
 
 fn overview() -> String {
     // a command line that is longer has its gist below it
@@ -75,8 +103,7 @@ fn overview() -> String {
         (usage, gist) => format!("  {usage}\n  {:<WIDTH$} {gist}\n", ""),
     };
     let lines: String = COMMANDS.iter().map(line).collect();
-    let more = "plan COMMAND --help says more. IMAGE is a file that holds an image.";
-    format!("usage:\n{lines}\n{more}\n")
+    format!("usage:\n{lines}\n{MORE}")
 }
 
 /// Takes options and words apart. An option that the command does not have is an error.

@@ -11,16 +11,7 @@ use telephone::{Exit, Table, IMAGE_MAX};
 /// Each command line, by the name of its output. The images stand in tests/images; those with a file .keys beside them were keyed. They are of edition 1
 /// but for ring-2, which is ring in edition 2, and those of several cabins. The slips are those of clearing exit 0 of step 0 in ring and in cabins;
 /// cleared and cabins-cleared are the images after it.
-const CASES: [(&str, &str); 106] = [
-    ("help", "--help"),
-    ("help-key", "key --help"),
-    ("help-add", "add --help"),
-    ("help-fresh", "fresh --help"),
-    ("help-trial", "trial ring.img --help"),
-    ("help-convert", "convert --help"),
-    ("help-preview", "preview --help"),
-    ("help-clear", "clear --help"),
-    ("help-take-back", "take-back --help"),
+const CASES: [(&str, &str); 97] = [
     ("no-command", ""),
     ("wrong-command", "shew ring.img"),
     ("wrong-option", "show --dot ring.img"),
@@ -179,7 +170,11 @@ fn readable(bytes: &[u8]) -> String {
 
 /// Holds a text to the stored one.
 fn stored(name: &str, given: &str) {
-    let path = folder("outputs").join(name);
+    stored_in(&folder("outputs"), name, given);
+}
+
+fn stored_in(folder: &Path, name: &str, given: &str) {
+    let path = folder.join(name);
     if std::env::var_os("STORE_OUTPUTS").is_some() {
         fs::write(&path, given).unwrap();
     }
@@ -211,6 +206,46 @@ fn outputs_as_stored() {
     let outputs = fs::read_dir(folder("outputs")).unwrap().count();
     let others = CHECKED.len() + KEYED.len() + 2 * DRAWN.len();
     assert_eq!(outputs, CASES.len() + others, "outputs that no test writes");
+}
+
+/// The pages of help are those that the script `plan` prints: one of all commands, and one for each.
+#[test]
+fn pages_of_help() {
+    let pages = folder("../help");
+    let hold = |name: &str, lines: &[&[&str]]| {
+        let mut texts = lines.iter().map(|line| {
+            let given = output(&mut plan(line));
+            let said = (given.status.code(), text(&given.stderr));
+            assert_eq!(said, (Some(0), String::new()), "{line:?}");
+            text(&given.stdout)
+        });
+        let first = texts.next().unwrap();
+        stored_in(&pages, &format!("{name}.txt"), &first);
+        assert!(texts.all(|text| text == first), "{name}");
+        first
+    };
+    let all: [&[&str]; 5] =
+        [&["--help"], &["-h", "show"], &["help"], &["help", "help"], &["help", "--help"]];
+    let overview = hold("help", &all);
+    let commands: Vec<&str> = overview
+        .lines()
+        .filter_map(|line| line.strip_prefix("  ")?.split(' ').next())
+        .filter(|name| !name.is_empty())
+        .collect();
+    for name in &commands {
+        hold(name, &[&[name, "--help"], &["help", name], &[name, "x", "-h", "--"]]);
+    }
+    assert_eq!(fs::read_dir(pages).unwrap().count(), commands.len() + 1, "pages of no command");
+    for line in [&["help", "shew"][..], &["shew", "--help"], &["show", "--", "--help"]] {
+        assert!(is_failure(&output(&mut plan(line))), "{line:?}");
+    }
+}
+
+#[test]
+fn version() {
+    let given = output(&mut plan(&["--version"]));
+    assert_eq!(text(&given.stdout), format!("plan {}\n", env!("CARGO_PKG_VERSION")));
+    assert_eq!((given.status.code(), text(&given.stderr)), (Some(0), String::new()));
 }
 
 #[test]

@@ -616,7 +616,7 @@ fn images() {
     let mut table = fresh(4);
     assert_eq!(table.image_length(), Ok(64));
     table.add(0, Exit::LineFault, Kind::Wait(1), 0).unwrap();
-    let mut image = [0; telephone::IMAGE_MAX];
+    let mut image = [0; IMAGE_MAX];
     assert_eq!((table.image_length(), table.write_image(&mut image)), (Ok(86), Ok(86)));
     assert_eq!(Table::load(&image[..86]), Ok(table.clone()));
     assert_eq!(Table::load(&image), Err(Refusal::NotAccepted));
@@ -625,7 +625,7 @@ fn images() {
     assert_eq!(other.reload(&image), Err(Refusal::NotAccepted));
     assert_eq!((&other, other.quotas()), (&fresh(1), Quotas::default()));
     let full = full();
-    assert_eq!(full.write_image(&mut image), Ok(telephone::IMAGE_MAX));
+    assert_eq!(full.write_image(&mut image), Ok(IMAGE_MAX));
 }
 
 #[test]
