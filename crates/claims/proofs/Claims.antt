@@ -46,8 +46,12 @@ use Rattle.history.proofs.Preview
 use Rattle.table.proofs.Trials
 use Rattle.history.proofs.Demand3 as Histories
 use Rattle.history.proofs.Accounts
-use Rattle.examples.specs.Examples.{Run, Entry, Shown, tableLeft, examples, refusals, tableF4, firstStrong, secondStrong, Twins, keyLines, Decodes, unsound, failAsSaid}
-use Rattle.examples.proofs.Examples as Cases
+use Rattle.cases.specs.Cases.{Run, Entry, Shown, tableLeft, tableF4}
+use Rattle.cases.proofs.Laws as Cases
+use Rattle.examples.specs.Examples.{examples, refusals, keyLines, Decodes, unsound, failAsSaid}
+use Rattle.examples.proofs.Examples as Examples
+use Rattle.samples.specs.Samples.{samples, firstStrong, secondStrong, Twins}
+use Rattle.samples.proofs.Samples as Samples
 use Rattle.words.specs.Words.{words, tableOf, wordsOf}
 use Rattle.words.proofs.Laws as Memory
 use Rattle.session.specs.Session.{blocksOutput, firstState, keysOutput}
@@ -270,19 +274,19 @@ pub trial-longer : (t : Table) (limit more : ℕ) (results trace room : List ℕ
 trial-longer = Trials.trial-longer
 
 -- The examples: every entry says what it states, of the table that the entries before it in its run leave.
-pub examples-shown : (r : Run) → List·Memᴰ r (examples ++ refusals) → (before : List Entry) (x : Entry) (after : List Entry) →
+pub examples-shown : (r : Run) → List·Memᴰ r (examples ++ refusals ++ samples) → (before : List Entry) (x : Entry) (after : List Entry) →
     r .entries ≡ before ++ (x ∷ after) → Shown (tableLeft (r .table) before) x
-examples-shown = Cases.examples-shown
+examples-shown = Cases.runs-shown (examples ++ refusals ++ samples) (Cases.runs-append (examples ++ refusals) samples Examples.examples-hold Samples.samples-hold)
 
 -- W1: two tables with one plan and other strengths have different images
 pub twins : Twins (tableLeft tableF4 firstStrong) (tableLeft tableF4 secondStrong)
-twins = Cases.twins
+twins = Samples.twins
 
 pub lines-decoded : Decodes keyLines
-lines-decoded = Cases.lines-decoded
+lines-decoded = Examples.lines-decoded
 
 pub unsound-fail : failAsSaid unsound ≡ true
-unsound-fail = Cases.unsound-fail
+unsound-fail = Examples.unsound-fail
 
 -- The program `keys`: for every input it prints what the plan draws for its lines, in whatever blocks the input comes.
 pub keys-demand : (bs : List ℕ) → KeysDemand bs

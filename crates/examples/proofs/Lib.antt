@@ -1,3 +1,2 @@
--- What the tests of the examples mean, and that the examples pass them.
-pub mod Laws
+-- The examples of calls hold.
 pub mod Examples

@@ -1,203 +1,29 @@
--- The examples in one table: P1 to P10 of document 01 ("Edits on F4"), what they do not show, W1's to W3's, W5's to W8's, then each call refused
--- for each of its reasons ("Reasons for no") and the calls that P1 to P10 do not make. The entries of a run are made one after the other, each on the
--- table that the one before left. Assumes nothing.
---   taken              the steps that a repair takes back, in their order
---   Look, seen         what can be looked at after an act, and the numbers that it shows
---   Fact               l is ns: the look l shows the numbers ns
---   Entry              an act that is accepted, with its facts, or refused, with its number
---   Run, tableLeft     entries on a table to begin with, and the table that entries leave
---   Shown              what an entry says of the table that it is made on
---   passed, walk       the test of an entry and of entries in a row, which compute; `run-shown` of the proofs joins test and statement
+-- Examples of calls: P1 to P9 of document 01 ("Edits on F4"), what they do not show, W2's, W3's, W5's and W8's, then each call refused for each of its
+-- reasons ("Reasons for no") and the calls that P1 to P9 do not make. The entries of a run are made one after the other, each on the table that the one
+-- before left. Assumes nothing.
 --   examples, refusals   the table
---   Twins              two tables with one plan and different images
 --   keyLines, Decodes  key lines byte by byte, and what they are decoded to
 --   unsound, failAsSaid   a table made unsound for each clause of soundness, and the clauses that it fails
 use mathlib.Core.Path.{_≡_}
-use mathlib.Core.Bool.{Bool, true, false, _&&_, cond}
-use mathlib.Core.List.{List, [], _∷_, _++_, List·Memᴰ}
-use Prim.Native.Nat.{ℕ, zero, suc, _+_, _/_, _%_, _^_}
+use mathlib.Core.Bool.{Bool, true, false, _&&_}
+use mathlib.Core.List.{List, [], _∷_, _++_}
+use Prim.Native.Nat.{ℕ, suc, _+_}
 use lib.ListN.{set, take, replicate}
-use lib.Dec.{eqb, ltb}
-use Rattle.finite.specs.Below.{lowest, tabulate, those, passes, same}
-use Rattle.table.specs.Table.{Table, cabinCount, inUse, kindOf, contentOf, ownBit, cabinOf, targetOf, counterOf, holds, strong, sameTable, withNumbers, withLinks, withSteps}
-use Rattle.table.specs.Cabins.{soleQuotas, charge}
+use Rattle.finite.specs.Below.{same}
+use Rattle.table.specs.Table.{Table, holds, strong, withNumbers, withLinks, withSteps}
+use Rattle.table.specs.Cabins.{soleQuotas}
 use Rattle.table.specs.Sound.{soundTests}
-use Rattle.table.specs.Calls.{refusedTable, addCall}
-use Rattle.table.specs.Clear.{Repair, stops, emptied, doubtful, wanted, restored}
-use Rattle.table.specs.Plan.{planOf}
-use Rattle.image.specs.Image.{edition1, edition2, writtenEdition, image}
+use Rattle.table.specs.Calls.{addCall}
+use Rattle.table.specs.Clear.{doubtful}
+use Rattle.image.specs.Image.{image}
 use Rattle.keyline.specs.declared.Command.the-variants.{Add, Link, Clear, Count}
 use Rattle.keyline.specs.declared.Decoded.{Decoded}
 use Rattle.keyline.specs.declared.Decoded.the-variants.{Line, Nothing}
 use Rattle.keyline.specs.Keys.{decode}
-use Rattle.history.specs.History.{fresh, load, add, link, clear, read, trial, write, keyLine, squeeze, clearSlip, takeBack, preview, Done, firstTable}
-use Rattle.history.specs.Acts.{Act, begin, call, convert, doneBy, refusedBy}
-
--- one round of rule 3 of clearing: step k is taken back and counted no longer doubtful
-unfoldable pub takeOne : Repair → ℕ → Repair
-takeOne r k = record { table = restored (r .table) k; doubt = set (r .doubt) k false }
-
--- the rounds of `repair`, by the step that each of them takes; `taken-repair` of the proofs says that it takes these
-unfoldable pub taken : ℕ → Repair → List ℕ
-taken zero r = []
-taken (suc f) r =
-    let k = lowest (r .table .capacity) (wanted r) in
-    elim (ltb k (r .table .capacity)) [ false ↦ [] | true ↦ k ∷ taken f (takeOne r k) ]
-
-unfoldable pub takeAll : Repair → List ℕ → Repair
-takeAll r [] = r
-takeAll r (k ∷ ks) = takeAll (takeOne r k) ks
-
--- those that clearing exit e of step i takes back
-unfoldable pub takenBy : Table → ℕ → ℕ → List ℕ
-takenBy t i e =
-    let u = emptied t i e in
-    cond (stops t i e) [] (taken (u .capacity) (record { table = u; doubt = doubtful u }))
-
-pub data Look : Type 0 where
-  -- the numbers of the answer, and the lent bytes as the act leaves them
-  answer bytes : Look
-  -- the steps that clearing this exit takes back in the table before the act, in their order
-  order : ℕ → ℕ → Look
-  -- the capacity and the number last given; the steps in use, in ascending order
-  sizes steps : Look
-  -- a step's kind and content; the bit of its own; its two counters
-  what own counts : ℕ → Look
-  -- what an exit holds, and its target
-  exit : ℕ → ℕ → Look
-  -- W5: the cabin that added a step; the guarantee and the limit of each cabin; what each is charged
-  cabin : ℕ → Look
-  quotas charges : Look
-
-abbrev pub nothing : ℕ
-nothing = 0
-
-abbrev pub weakLink : ℕ
-weakLink = 1
-
-abbrev pub strongLink : ℕ
-strongLink = 2
-
-unfoldable pub strength : Table → ℕ → ℕ → ℕ
-strength t i e = cond (holds t i e) (cond (strong t i e) strongLink weakLink) nothing
-
--- what is seen after an act, made on the table t
-unfoldable pub seen : Table → Done → Look → List ℕ
-seen t d answer = d .numbers
-seen t d bytes = d .lent
-seen t d (order i e) = takenBy t i e
-seen t d sizes = d .table .capacity ∷ d .table .last ∷ []
-seen t d steps = those (d .table .capacity) (inUse (d .table))
-seen t d (what i) = kindOf (d .table) i ∷ contentOf (d .table) i ∷ []
-seen t d (own i) = ownBit (d .table) i ∷ []
-seen t d (counts i) = counterOf (d .table) i 0 ∷ counterOf (d .table) i 1 ∷ []
-seen t d (exit i e) = strength (d .table) i e ∷ targetOf (d .table) i e ∷ []
-seen t d (cabin i) = cabinOf (d .table) i ∷ []
-seen t d quotas = d .table .quotas
-seen t d charges = tabulate cabinCount (charge (d .table))
-
-infix 70 _is_
-pub data Fact : Type 0 where
-  _is_ : Look → List ℕ → Fact
-
-pub data Entry : Type 0 where
-  accepts : Act → List Fact → Entry
-  refuses : Act → ℕ → Entry
-
-abbrev pub actOf : Entry → Act
-actOf (accepts a fs) = a
-actOf (refuses a n) = a
-
-pub record Run : Type 0 where
-  pub table : Table
-  pub entries : List Entry
-
-unfoldable pub tableLeft : Table → List Entry → Table
-tableLeft t [] = t
-tableLeft t (x ∷ xs) = tableLeft (doneBy t (actOf x) .table) xs
-
-abbrev pub Holds : Table → Done → Fact → Type 0
-Holds t d (l is ns) = seen t d l ≡ ns
-
-pub record Accepted (t : Table) (d : Done) (fs : List Fact) : Type 0 where
-  pub refusal : d .refusal ≡ 0
-  pub facts : (f : Fact) → List·Memᴰ f fs → Holds t d f
-
-abbrev pub Shown : Table → Entry → Type 0
-Shown t (accepts a fs) = Accepted t (doneBy t a) fs
-Shown t (refuses a n) = doneBy t a ≡ refusedBy n t a
-
--- the tests: two acts done are the same
-unfoldable pub doneTests : Done → Done → List Bool
-doneTests d r =
-    eqb (d .refusal) (r .refusal) ∷
-    same (d .numbers) (r .numbers) ∷
-    same (d .lent) (r .lent) ∷
-    sameTable (d .table) (r .table) ∷
-    []
-
-unfoldable pub factsHold : Table → Done → List Fact → Bool
-factsHold t d [] = true
-factsHold t d ((l is ns) ∷ fs) = same (seen t d l) ns && factsHold t d fs
-
-unfoldable pub passed : Table → Done → Entry → Bool
-passed t d (accepts a fs) = eqb (d .refusal) 0 && factsHold t d fs
-passed t d (refuses a n) = passes (doneTests d (refusedBy n t a))
-
--- after a refusal the walk goes on with the table that the test has found unchanged, so that its soundness is computed once
-unfoldable pub walk : Table → List Entry → Bool
-walk t [] = true
-walk t (accepts a fs ∷ xs) = let d = doneBy t a in passed t d (accepts a fs) && walk (d .table) xs
-walk t (refuses (begin f) n ∷ xs) = passed t (doneBy t (begin f)) (refuses (begin f) n) && walk refusedTable xs
-walk t (refuses (call c) n ∷ xs) = passed t (doneBy t (call c)) (refuses (call c) n) && walk t xs
-walk t (refuses (convert v bs buffer) n ∷ xs) = passed t (doneBy t (convert v bs buffer)) (refuses (convert v bs buffer) n) && walk t xs
-
-unfoldable pub everyRun : List Run → Bool
-everyRun [] = true
-everyRun (r ∷ rs) = walk (r .table) (r .entries) && everyRun rs
-
--- the key line H (72), star (42), the w digits of n (48 to 57), A (65)
-unfoldable pub digits : ℕ → ℕ → List ℕ
-digits zero n = []
-digits (suc w) n = (48 + n / 10 ^ w % 10) ∷ digits w n
-
-unfoldable pub line : ℕ → ℕ → List ℕ
-line w n = 72 ∷ 42 ∷ (digits w n ++ (65 ∷ []))
-
--- "F4 is a fresh table of capacity 4." W5: "`keys`, F4 .. have those same guarantees": all of it is cabin 0's.
-unfoldable pub tableF4 : Table
-tableF4 = firstTable (fresh 4 (soleQuotas 4))
-
--- the table that P5 leaves, as an image of edition 2. Header: length 42, kind 3, capacity 4, last number 2, 3 steps, then the guarantee and the limit of
--- each cabin, 3 and 3 for cabin 0; then the records of steps 0, 1, 2: length 22, kind 4, number, kind, content, bits, four targets, cabin. The bits are 2
--- (exit 1 of step 0), 16 (step 1), 4 + 16 (exit 2 of step 2, and step 2).
-unfoldable pub headerP5 : List ℕ
-headerP5 = 0x2A ∷ 0 ∷ 3 ∷ 0 ∷ 4 ∷ 0 ∷ 2 ∷ 0 ∷ 3 ∷ 0 ∷ 3 ∷ 0 ∷ 3 ∷ 0 ∷ replicate 28 0
-
-unfoldable pub step0P5 : List ℕ
-step0P5 = 0x16 ∷ 0 ∷ 4 ∷ 0 ∷ 0 ∷ 0 ∷ 0 ∷ 0 ∷ 0 ∷ 0 ∷ 2 ∷ 0 ∷ 0 ∷ 0 ∷ 2 ∷ 0 ∷ 0 ∷ 0 ∷ 0 ∷ 0 ∷ 0 ∷ 0 ∷ []
-
-unfoldable pub step1P5 : List ℕ
-step1P5 = 0x16 ∷ 0 ∷ 4 ∷ 0 ∷ 1 ∷ 0 ∷ 1 ∷ 0 ∷ 0 ∷ 0 ∷ 0x10 ∷ 0 ∷ 0 ∷ 0 ∷ 0 ∷ 0 ∷ 2 ∷ 0 ∷ 0 ∷ 0 ∷ 0 ∷ 0 ∷ []
-
-unfoldable pub step2P5 : List ℕ
-step2P5 = 0x16 ∷ 0 ∷ 4 ∷ 0 ∷ 2 ∷ 0 ∷ 1 ∷ 0 ∷ 1 ∷ 0 ∷ 0x14 ∷ 0 ∷ 0 ∷ 0 ∷ 0 ∷ 0 ∷ 1 ∷ 0 ∷ 0 ∷ 0 ∷ 0 ∷ 0 ∷ []
-
-unfoldable pub imageP5 : List ℕ
-imageP5 = headerP5 ++ step0P5 ++ step1P5 ++ step2P5
-
--- the same in edition 1. Header: length 10, kind 1, capacity 4, last number 2, 3 steps; records of length 20, kind 2, the bits 2, 16 and 4 + 16.
-unfoldable pub oldHeaderP5 : List ℕ
-oldHeaderP5 = 0x0A ∷ 0 ∷ 1 ∷ 0 ∷ 4 ∷ 0 ∷ 2 ∷ 0 ∷ 3 ∷ 0 ∷ []
-
-unfoldable pub oldStep0P5 : List ℕ
-oldStep0P5 = 0x14 ∷ 0 ∷ 2 ∷ 0 ∷ 0 ∷ 0 ∷ 0 ∷ 0 ∷ 0 ∷ 0 ∷ 2 ∷ 0 ∷ 0 ∷ 0 ∷ 2 ∷ 0 ∷ 0 ∷ 0 ∷ 0 ∷ 0 ∷ []
-
-unfoldable pub oldStep1P5 : List ℕ
-oldStep1P5 = 0x14 ∷ 0 ∷ 2 ∷ 0 ∷ 1 ∷ 0 ∷ 1 ∷ 0 ∷ 0 ∷ 0 ∷ 0x10 ∷ 0 ∷ 0 ∷ 0 ∷ 0 ∷ 0 ∷ 2 ∷ 0 ∷ 0 ∷ 0 ∷ []
-
-unfoldable pub oldStep2P5 : List ℕ
-oldStep2P5 = 0x14 ∷ 0 ∷ 2 ∷ 0 ∷ 2 ∷ 0 ∷ 1 ∷ 0 ∷ 1 ∷ 0 ∷ 0x14 ∷ 0 ∷ 0 ∷ 0 ∷ 0 ∷ 0 ∷ 1 ∷ 0 ∷ 0 ∷ 0 ∷ []
+use Rattle.history.specs.History.{fresh, load, add, link, clear, read, trial, write, keyLine, squeeze, clearSlip, takeBack, preview}
+use Rattle.history.specs.Acts.{begin, call}
+use Rattle.cases.specs.Cases.{taken, nothing, weakLink, strongLink, Entry, Run, line, tableF4, _is_, accepts, refuses, answer, bytes, order, sizes, steps, what, own, counts, exit, cabin, quotas, charges}
+use Rattle.cases.specs.Bytes.{imageP5}
 
 -- "P1 to P7 run on from each other."
 unfoldable pub p1ToP7 : List Entry
@@ -265,27 +91,6 @@ p9 =
     accepts (call (link 0 0 0 1)) (exit 0 1 is (weakLink ∷ 1 ∷ []) ∷ []) ∷
     accepts (call (clear 0 0))
     (answer is (1 ∷ 0 ∷ []) ∷ order 0 0 is (1 ∷ []) ∷ exit 0 1 is (strongLink ∷ 1 ∷ []) ∷ steps is (0 ∷ 1 ∷ []) ∷ []) ∷
-    []
-
--- P10 "F4 as an image, hex: 0A 00 01 00 04 00 00 00 01 00 14 00 02 00, then sixteen 00."
-unfoldable pub imageF4 : List ℕ
-imageF4 =
-    0x0A ∷ 0x00 ∷ 0x01 ∷ 0x00 ∷ 0x04 ∷ 0x00 ∷ 0x00 ∷ 0x00 ∷ 0x01 ∷ 0x00 ∷ 0x14 ∷ 0x00 ∷ 0x02 ∷ 0x00 ∷ replicate 16 0x00
-
--- W5: "The writer writes edition 2, .. and P10 belongs to W6." F4 is written with a header of 42 bytes, which has cabin 0's 3 and 3, and a record of 22
--- bytes; converted down it is P10's image, and that converted up is what was written. Both load as F4.
-unfoldable pub newImageF4 : List ℕ
-newImageF4 = 0x2A ∷ 0 ∷ 3 ∷ 0 ∷ 4 ∷ 0 ∷ 0 ∷ 0 ∷ 1 ∷ 0 ∷ 3 ∷ 0 ∷ 3 ∷ 0 ∷ (replicate 28 0 ++ (0x16 ∷ 0 ∷ 4 ∷ 0 ∷ replicate 18 0))
-
-unfoldable pub p10 : List Entry
-p10 =
-    accepts (call (write (replicate 66 0xFF))) (answer is (64 ∷ 0 ∷ []) ∷ bytes is (newImageF4 ++ replicate 2 0xFF) ∷ []) ∷
-    accepts (convert edition1 newImageF4 (replicate 32 0xFF)) (answer is (30 ∷ 0 ∷ []) ∷ bytes is (imageF4 ++ replicate 2 0xFF) ∷ []) ∷
-    accepts (convert edition2 imageF4 (replicate 64 0xFF)) (answer is (64 ∷ 0 ∷ []) ∷ bytes is newImageF4 ∷ []) ∷
-    accepts (begin (load imageF4))
-    (answer is (0 ∷ 0 ∷ []) ∷ sizes is (4 ∷ 0 ∷ []) ∷ steps is (0 ∷ []) ∷ what 0 is (0 ∷ 0 ∷ []) ∷ quotas is (3 ∷ 3 ∷ replicate 14 0) ∷ []) ∷
-    accepts (call (write (replicate 66 0xFF))) (bytes is (newImageF4 ++ replicate 2 0xFF) ∷ []) ∷
-    accepts (begin (load newImageF4)) (sizes is (4 ∷ 0 ∷ []) ∷ steps is (0 ∷ []) ∷ quotas is (3 ∷ 3 ∷ replicate 14 0) ∷ []) ∷
     []
 
 -- two steps that rule 3 could take at once: 2 and 3, each with a weak link from step 0 and from the other. The lower is taken first, so its link to the
@@ -415,68 +220,6 @@ ends =
     accepts (call (add 0 3 3 600 0)) (what 3 is (3 ∷ 600 ∷ []) ∷ []) ∷
     []
 
--- W1: the same records in two other orders load as the same table, and are written in ascending step number
-unfoldable pub sorted : List Entry
-sorted =
-    accepts (begin (load (headerP5 ++ step2P5 ++ step0P5 ++ step1P5))) (sizes is (4 ∷ 2 ∷ []) ∷ steps is (0 ∷ 1 ∷ 2 ∷ []) ∷ []) ∷
-    accepts (call (write (replicate 110 0xFF))) (answer is (108 ∷ 0 ∷ []) ∷ bytes is (imageP5 ++ (0xFF ∷ 0xFF ∷ [])) ∷ []) ∷
-    accepts (begin (load (headerP5 ++ step1P5 ++ step2P5 ++ step0P5))) (sizes is (4 ∷ 2 ∷ []) ∷ steps is (0 ∷ 1 ∷ 2 ∷ []) ∷ []) ∷
-    accepts (call (write (replicate 108 0xFF))) (answer is (108 ∷ 0 ∷ []) ∷ bytes is imageP5 ∷ []) ∷
-    []
-
--- W5: the records of edition 1 load in any order, with all steps charged to cabin 0 and its 3 and 3; what is written is of edition 2. An image that mixes
--- editions is not accepted, and neither is one of edition 1 whose capacity is 0.
-unfoldable pub editions : List Entry
-editions =
-    accepts (begin (load (oldHeaderP5 ++ oldStep2P5 ++ oldStep0P5 ++ oldStep1P5)))
-    (sizes is (4 ∷ 2 ∷ []) ∷ steps is (0 ∷ 1 ∷ 2 ∷ []) ∷ quotas is (3 ∷ 3 ∷ replicate 14 0) ∷ charges is (2 ∷ replicate 7 0) ∷ []) ∷
-    accepts (call (write (replicate 108 0xFF))) (answer is (108 ∷ 0 ∷ []) ∷ bytes is imageP5 ∷ []) ∷
-    refuses (begin (load (headerP5 ++ oldStep0P5 ++ oldStep1P5 ++ oldStep2P5))) 12 ∷
-    refuses (begin (load (oldHeaderP5 ++ step0P5 ++ step1P5 ++ step2P5))) 12 ∷
-    refuses (begin (load (headerP5 ++ step0P5 ++ step1P5 ++ oldStep2P5))) 12 ∷
-    refuses (begin (load (set imageP5 66 2))) 12 ∷
-    refuses (begin (load (set imageF4 4 0))) 12 ∷
-    -- in edition 2: a cabin of step 0, a cabin above 7, a guarantee above its limit, a limit below the charge
-    refuses (begin (load (set imageP5 62 1))) 12 ∷
-    refuses (begin (load (set imageP5 84 8))) 12 ∷
-    refuses (begin (load (set imageP5 12 2))) 12 ∷
-    refuses (begin (load (set (set imageP5 10 1) 12 1))) 12 ∷
-    []
-
--- W1: two tables with one plain plan, in which exits 0 and 1 of step 0 lead to step 1, and with other strengths: their images differ in the bits of
--- step 0, which are 2 where exit 0 is strong and 1 where exit 1 is
-unfoldable pub imageTwin : ℕ → List ℕ
-imageTwin bits =
-    0x2A ∷ 0 ∷ 3 ∷ 0 ∷ 4 ∷ 0 ∷ 1 ∷ 0 ∷ 2 ∷ 0 ∷ 3 ∷ 0 ∷ 3 ∷ 0 ∷
-    (replicate 28 0 ++
-    (0x16 ∷ 0 ∷ 4 ∷ 0 ∷ 0 ∷ 0 ∷ 0 ∷ 0 ∷ 0 ∷ 0 ∷ bits ∷ 0 ∷ 1 ∷ 0 ∷ 1 ∷ 0 ∷ 0 ∷ 0 ∷ 0 ∷ 0 ∷ 0 ∷ 0 ∷
-    0x16 ∷ 0 ∷ 4 ∷ 0 ∷ 1 ∷ 0 ∷ 1 ∷ 0 ∷ 0 ∷ 0 ∷ 0 ∷ 0 ∷ 0 ∷ 0 ∷ 0 ∷ 0 ∷ 0 ∷ 0 ∷ 0 ∷ 0 ∷ 0 ∷ 0 ∷ []))
-
--- W6: the records that P5 leaves, in other orders, up and down: bits and targets go along, and the records come out in ascending order. The lengths are
--- 42 + 3 * 22 and 10 + 3 * 20.
-unfoldable pub conversions : List Entry
-conversions =
-    accepts (convert edition2 (oldHeaderP5 ++ oldStep2P5 ++ oldStep0P5 ++ oldStep1P5) (replicate 110 0xFF))
-    (answer is (108 ∷ 0 ∷ []) ∷ bytes is (imageP5 ++ (0xFF ∷ 0xFF ∷ [])) ∷ []) ∷
-    accepts (convert edition1 (headerP5 ++ step1P5 ++ step2P5 ++ step0P5) (replicate 70 0xFF))
-    (answer is (70 ∷ 0 ∷ []) ∷ bytes is (oldHeaderP5 ++ oldStep0P5 ++ oldStep1P5 ++ oldStep2P5) ∷ []) ∷
-    -- up: 12 for no image and for one of edition 2, whatever the buffer; then 11
-    refuses (convert edition2 [] []) 12 ∷
-    refuses (convert edition2 newImageF4 []) 12 ∷
-    refuses (convert edition2 newImageF4 (replicate 64 7)) 12 ∷
-    refuses (convert edition2 imageF4 (replicate 63 7)) 11 ∷
-    -- down: 12 for an image of edition 1, and for a bad one that has another list too (byte 6: the last number given is the capacity)
-    refuses (convert edition1 imageF4 (replicate 64 7)) 12 ∷
-    refuses (convert edition1 (set (set newImageF4 40 1) 6 4) []) 12 ∷
-    -- 17: cabin 0's guarantee is 2, its limit is 4, cabin 7's limit is 1; the last with a buffer that is too short
-    refuses (convert edition1 (set newImageF4 10 2) (replicate 30 7)) 17 ∷
-    refuses (convert edition1 (set newImageF4 12 4) (replicate 30 7)) 17 ∷
-    refuses (convert edition1 (set newImageF4 40 1) (replicate 29 7)) 17 ∷
-    -- and a step of cabin 1, which may have it, as cabin 0 is guaranteed 2 only: bytes 10, 16 and 84
-    refuses (convert edition1 (set (set (set (imageTwin 2) 10 2) 16 1) 84 1) (replicate 50 7)) 17 ∷
-    refuses (convert edition1 newImageF4 (replicate 29 7)) 11 ∷
-    []
-
 -- W5: capacity 5, so 4 steps for the cabins. Cabin 0 is guaranteed 1 and may have 2, cabin 1 is guaranteed 2 and may have 2, cabin 2 is guaranteed none and
 -- may have 4, the others may have none.
 unfoldable pub shares5 : List ℕ
@@ -554,86 +297,6 @@ lists =
     accepts (begin (fresh 5 (replicate 8 1 ++ (0 ∷ 65535 ∷ 0 ∷ 65535 ∷ 0 ∷ 65535 ∷ 0 ∷ 65535 ∷ [])))) (charges is replicate 8 0 ∷ []) ∷
     []
 
-unfoldable pub firstStrong : List Entry
-firstStrong =
-    accepts (call (add 0 0 1 0 0)) [] ∷
-    accepts (call (link 0 0 0 1)) (exit 0 0 is (strongLink ∷ 1 ∷ []) ∷ exit 0 1 is (weakLink ∷ 1 ∷ []) ∷ []) ∷
-    accepts (call (write (replicate 86 0xFF))) (bytes is imageTwin 2 ∷ []) ∷
-    []
-
-unfoldable pub secondStrong : List Entry
-secondStrong =
-    accepts (call (add 0 1 1 0 0)) [] ∷
-    accepts (call (link 0 1 0 0)) (exit 0 0 is (weakLink ∷ 1 ∷ []) ∷ exit 0 1 is (strongLink ∷ 1 ∷ []) ∷ []) ∷
-    accepts (call (write (replicate 86 0xFF))) (bytes is imageTwin 1 ∷ []) ∷
-    []
-
-pub record Twins (t u : Table) : Type 0 where
-  pub plan : planOf t ≡ planOf u
-  pub images : image writtenEdition t ≡ image writtenEdition u → ⊥
-
--- W7: the slip of a clearing on F4 that frees contact 7, which was step 1: two changed steps. Step 0 had it in its first exit.
-unfoldable pub freedSlip : List ℕ
-freedSlip =
-    (0 ∷ 0 ∷ 0 ∷ 0 ∷ 2 ∷ 0 ∷ []) ++
-    ((22 ∷ 0 ∷ 4 ∷ 0 ∷ 0 ∷ 0 ∷ 0 ∷ 0 ∷ 0 ∷ 0 ∷ 0 ∷ 0 ∷ 1 ∷ 0 ∷ 0 ∷ 0 ∷ 0 ∷ 0 ∷ 0 ∷ 0 ∷ 0 ∷ 0 ∷ []) ++
-    ((22 ∷ 0 ∷ 4 ∷ 0 ∷ replicate 18 0) ++
-    ((22 ∷ 0 ∷ 4 ∷ 0 ∷ 1 ∷ 0 ∷ 1 ∷ 0 ∷ 7 ∷ 0 ∷ replicate 12 0) ++
-    (22 ∷ 0 ∷ 4 ∷ 0 ∷ 1 ∷ 0 ∷ replicate 16 0))))
-
--- the slip of a clearing that turns two bits: steps 1 and 2 hold each other, and step 0 holds both, step 2 by a weak link
-unfoldable pub turnedSlip : List ℕ
-turnedSlip =
-    (0 ∷ 0 ∷ 0 ∷ 0 ∷ 3 ∷ 0 ∷ []) ++
-    ((22 ∷ 0 ∷ 4 ∷ 0 ∷ 0 ∷ 0 ∷ 0 ∷ 0 ∷ 0 ∷ 0 ∷ 2 ∷ 0 ∷ 1 ∷ 0 ∷ 2 ∷ 0 ∷ 0 ∷ 0 ∷ 0 ∷ 0 ∷ 0 ∷ 0 ∷ []) ++
-    ((22 ∷ 0 ∷ 4 ∷ 0 ∷ 0 ∷ 0 ∷ 0 ∷ 0 ∷ 0 ∷ 0 ∷ 2 ∷ 0 ∷ 0 ∷ 0 ∷ 2 ∷ 0 ∷ 0 ∷ 0 ∷ 0 ∷ 0 ∷ 0 ∷ 0 ∷ []) ++
-    ((22 ∷ 0 ∷ 4 ∷ 0 ∷ 1 ∷ 0 ∷ 1 ∷ 0 ∷ 7 ∷ 0 ∷ 0 ∷ 0 ∷ 2 ∷ 0 ∷ replicate 8 0) ++
-    ((22 ∷ 0 ∷ 4 ∷ 0 ∷ 1 ∷ 0 ∷ 1 ∷ 0 ∷ 7 ∷ 0 ∷ 16 ∷ 0 ∷ 2 ∷ 0 ∷ replicate 8 0) ++
-    ((22 ∷ 0 ∷ 4 ∷ 0 ∷ 2 ∷ 0 ∷ 2 ∷ 0 ∷ 3 ∷ 0 ∷ 1 ∷ 0 ∷ 1 ∷ 0 ∷ replicate 8 0) ++
-    (22 ∷ 0 ∷ 4 ∷ 0 ∷ 2 ∷ 0 ∷ 2 ∷ 0 ∷ 3 ∷ 0 ∷ 17 ∷ 0 ∷ 1 ∷ 0 ∷ replicate 8 0))))))
-
-unfoldable pub regrets : List Entry
-regrets =
-    accepts (call (add 0 0 1 7 0)) (answer is (1 ∷ 0 ∷ []) ∷ []) ∷
-    -- the clearing's refusals, whatever the buffer, then 11: this slip has 94 bytes
-    refuses (call (clearSlip 2 4 [])) 3 ∷
-    refuses (call (clearSlip 0 4 [])) 4 ∷
-    refuses (call (clearSlip 0 1 [])) 6 ∷
-    refuses (call (clearSlip 0 0 (replicate 93 9))) 11 ∷
-    -- the slip, and the byte past it as it was; the last number given stays
-    accepts (call (clearSlip 0 0 (replicate 95 9)))
-    (answer is (1 ∷ 1 ∷ []) ∷ bytes is (freedSlip ++ (9 ∷ [])) ∷ steps is (0 ∷ []) ∷ sizes is (4 ∷ 1 ∷ []) ∷ []) ∷
-    -- 18: no bytes, a byte after the slip, a byte less, and the slip of another clearing
-    refuses (call (takeBack [])) 18 ∷
-    refuses (call (takeBack (freedSlip ++ (0 ∷ [])))) 18 ∷
-    refuses (call (takeBack (take 93 freedSlip))) 18 ∷
-    refuses (call (takeBack turnedSlip)) 18 ∷
-    -- taken back: one step is back, and the table is the one from before
-    accepts (call (takeBack freedSlip))
-    (answer is (1 ∷ 0 ∷ []) ∷ steps is (0 ∷ 1 ∷ []) ∷ what 1 is (1 ∷ 7 ∷ []) ∷ exit 0 0 is (strongLink ∷ 1 ∷ []) ∷ counts 1 is (1 ∷ 0 ∷ []) ∷
-    sizes is (4 ∷ 1 ∷ []) ∷ []) ∷
-    refuses (call (takeBack freedSlip)) 18 ∷
-    -- a clearing that frees none and turns two bits: its slip has them
-    accepts (call (add 1 0 2 3 0)) (answer is (2 ∷ 0 ∷ []) ∷ []) ∷
-    accepts (call (link 0 0 2 0)) [] ∷
-    accepts (call (link 1 0 0 1)) (exit 0 1 is (weakLink ∷ 2 ∷ []) ∷ []) ∷
-    accepts (call (clearSlip 0 0 (replicate 138 9)))
-    (answer is (2 ∷ 0 ∷ []) ∷ bytes is turnedSlip ∷ own 1 is (1 ∷ []) ∷ own 2 is (1 ∷ []) ∷ exit 0 1 is (strongLink ∷ 2 ∷ []) ∷
-    exit 2 0 is (strongLink ∷ 1 ∷ []) ∷ exit 1 0 is (weakLink ∷ 2 ∷ []) ∷ []) ∷
-    accepts (call (takeBack turnedSlip))
-    (answer is (0 ∷ 0 ∷ []) ∷ own 1 is (0 ∷ []) ∷ own 2 is (0 ∷ []) ∷ exit 0 0 is (strongLink ∷ 1 ∷ []) ∷ exit 0 1 is (weakLink ∷ 2 ∷ []) ∷
-    exit 2 0 is (weakLink ∷ 1 ∷ []) ∷ exit 1 0 is (strongLink ∷ 2 ∷ []) ∷ counts 1 is (1 ∷ 1 ∷ []) ∷ counts 2 is (1 ∷ 1 ∷ []) ∷ []) ∷
-    -- the weak link to step 2: of step 2 the counters alone change, so step 0 alone is in the slip
-    refuses (call (clearSlip 0 1 (replicate 49 9))) 11 ∷
-    accepts (call (clearSlip 0 1 (replicate 50 9)))
-    (answer is (0 ∷ 0 ∷ []) ∷
-    bytes is
-    ((0 ∷ 0 ∷ 1 ∷ 0 ∷ 1 ∷ 0 ∷ []) ++
-    ((22 ∷ 0 ∷ 4 ∷ 0 ∷ 0 ∷ 0 ∷ 0 ∷ 0 ∷ 0 ∷ 0 ∷ 2 ∷ 0 ∷ 1 ∷ 0 ∷ 2 ∷ 0 ∷ 0 ∷ 0 ∷ 0 ∷ 0 ∷ 0 ∷ 0 ∷ []) ++
-    (22 ∷ 0 ∷ 4 ∷ 0 ∷ 0 ∷ 0 ∷ 0 ∷ 0 ∷ 0 ∷ 0 ∷ 0 ∷ 0 ∷ 1 ∷ 0 ∷ replicate 8 0))) ∷
-    counts 2 is (1 ∷ 0 ∷ []) ∷ []) ∷
-    []
-
 -- W8: step 0 holds step 1, which holds steps 2 and 3 and is held by step 2 in a ring; a weak link of step 0 holds step 3 too
 unfoldable pub previews : List Entry
 previews =
@@ -677,19 +340,12 @@ examples =
     record { table = tableF4; entries = p1ToP7 } ∷
     record { table = tableF4; entries = p8 } ∷
     record { table = tableF4; entries = p9 } ∷
-    record { table = tableF4; entries = p10 } ∷
     record { table = tableF4; entries = twoCandidates ++ squeezes } ∷
     record { table = tableF4; entries = waits } ∷
     record { table = tableF4; entries = messages } ∷
     record { table = tableF4; entries = ends } ∷
-    record { table = tableF4; entries = sorted } ∷
-    record { table = tableF4; entries = editions } ∷
-    record { table = tableF4; entries = conversions } ∷
-    record { table = tableF4; entries = regrets } ∷
     record { table = tableF4; entries = previews } ∷
     record { table = tableF4; entries = shared ++ lists } ∷
-    record { table = tableF4; entries = firstStrong } ∷
-    record { table = tableF4; entries = secondStrong } ∷
     []
 
 -- "Fresh gives only 2, load only 12." W5 adds 16, in `lists`.
@@ -710,7 +366,6 @@ beginnings =
     []
 
 -- Where document 01 gives no example, most arguments below meet later conditions of the call's order too: such an entry shows which comes first.
-
 -- "F4 with step 0 out of use"
 unfoldable pub noAlarm : Table
 noAlarm = let t = tableF4 in withSteps t (t .last) (set (t .used) 0 0) (t .kinds) (t .contents) (t .own) (t .cabins)

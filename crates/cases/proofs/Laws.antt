@@ -2,7 +2,7 @@
 -- examples are those of the definitions: `doneBy` is `run`, `tableLeft` is `tableAfter`, `taken` is what `repair` takes. Assumes nothing.
 --   done-same                          what passes a test of sameness is the same
 --   facts-hold, entry-shown            an entry that passes is shown
---   run-shown, run-at                  so is each entry of a run, and each run of a list of runs
+--   runs-shown, runs-append            so is each entry of each run of a list; two such lists
 --   taken-repair                       `repair` takes the steps of `taken`, in that order
 --   done-run, done-refusal, done-first, left-after   an act and a history agree
 use mathlib.Core.Path.{_≡_, refl, sym, _∙_, ap, subst}
@@ -11,7 +11,7 @@ use mathlib.Core.List.{List, [], _∷_, _++_, map, List·Memᴰ, List·Memᴰ·h
 use Prim.Native.Nat.{ℕ, zero, suc}
 use lib.Dec.{eqb, ltb}
 use borrow.Author.Tests.{eqb-true}
-use Rattle.finite.proofs.Bools.{and-left, and-right, passes-at}
+use Rattle.finite.proofs.Bools.{and-intro, and-left, and-right, passes-at}
 use Rattle.finite.proofs.Select.{same-true}
 use Rattle.finite.specs.Below.{lowest, passes, same}
 use Rattle.table.specs.Table.{Table}
@@ -20,7 +20,7 @@ use Rattle.table.specs.Clear.{Repair, wanted, repair}
 use Rattle.table.proofs.Same.{table-same}
 use Rattle.history.specs.History.{First, Call, Done, run, tableAfter, firstTable}
 use Rattle.history.specs.Acts.{Act, begin, call, convert, actRow, doneBy, tableKept, refusedBy}
-use Rattle.examples.specs.Examples.{takeOne, taken, takeAll, Fact, _is_, seen, Entry, accepts, refuses, actOf, Run, tableLeft, Holds, Shown, doneTests, factsHold, passed, walk, everyRun}
+use Rattle.cases.specs.Cases.{takeOne, taken, takeAll, Fact, _is_, seen, Entry, accepts, refuses, actOf, Run, tableLeft, Holds, Shown, doneTests, factsHold, passed, walk, everyRun}
 
 done-same : (d r : Done) → passes (doneTests d r) ≡ true → d ≡ r
 unfolding doneTests
@@ -41,7 +41,7 @@ facts-hold t d ((l is ns) ∷ fs) p f (List·Memᴰ·head e) =
 facts-hold t d ((l is ns) ∷ fs) p f (List·Memᴰ·tail m) =
     facts-hold t d fs (and-right (same (seen t d l) ns) (factsHold t d fs) p) f m
 
-pub entry-shown : (t : Table) (x : Entry) → passed t (doneBy t (actOf x)) x ≡ true → Shown t x
+entry-shown : (t : Table) (x : Entry) → passed t (doneBy t (actOf x)) x ≡ true → Shown t x
 unfolding passed
 entry-shown t (accepts a fs) p =
     let d = doneBy t a in
@@ -76,19 +76,32 @@ walk-tail t (refuses (convert v bs buffer) n) xs p =
     subst (λ (d : Done). walk (d .table) xs ≡ true) (sym e)
     (and-right (passed t (doneBy t (convert v bs buffer)) (refuses (convert v bs buffer) n)) (walk t xs) p)
 
-pub run-shown : (t : Table) (before : List Entry) (x : Entry) (after : List Entry) → walk t (before ++ (x ∷ after)) ≡ true →
+run-shown : (t : Table) (before : List Entry) (x : Entry) (after : List Entry) → walk t (before ++ (x ∷ after)) ≡ true →
     Shown (tableLeft t before) x
 unfolding tableLeft
 run-shown t [] x after p = entry-shown t x (walk-head t x after p)
 run-shown t (y ∷ before) x after p =
     run-shown (doneBy t (actOf y) .table) before x after (walk-tail t y (before ++ (x ∷ after)) p)
 
-pub run-at : (rs : List Run) → everyRun rs ≡ true → (r : Run) → List·Memᴰ r rs → walk (r .table) (r .entries) ≡ true
+run-at : (rs : List Run) → everyRun rs ≡ true → (r : Run) → List·Memᴰ r rs → walk (r .table) (r .entries) ≡ true
 unfolding everyRun
 run-at (s ∷ rs) p r (List·Memᴰ·head e) =
     subst (λ (q : Run). walk (q .table) (q .entries) ≡ true) (sym e)
     (and-left (walk (s .table) (s .entries)) (everyRun rs) p)
 run-at (s ∷ rs) p r (List·Memᴰ·tail m) = run-at rs (and-right (walk (s .table) (s .entries)) (everyRun rs) p) r m
+
+-- each entry of each run of a list says what it states
+pub runs-shown : (rs : List Run) → everyRun rs ≡ true → (r : Run) → List·Memᴰ r rs → (before : List Entry) (x : Entry) (after : List Entry) →
+    r .entries ≡ before ++ (x ∷ after) → Shown (tableLeft (r .table) before) x
+runs-shown rs p r m before x after e =
+    run-shown (r .table) before x after (subst (λ (xs : List Entry). walk (r .table) xs ≡ true) e (run-at rs p r m))
+
+pub runs-append : (rs ss : List Run) → everyRun rs ≡ true → everyRun ss ≡ true → everyRun (rs ++ ss) ≡ true
+unfolding everyRun
+runs-append [] ss p q = q
+runs-append (r ∷ rs) ss p q =
+    and-intro (and-left (walk (r .table) (r .entries)) (everyRun rs) p)
+    (runs-append rs ss (and-right (walk (r .table) (r .entries)) (everyRun rs) p) q)
 
 pub taken-repair : (f : ℕ) (r : Repair) → takeAll r (taken f r) ≡ repair f r
 unfolding taken takeAll takeOne repair

@@ -1,0 +1,1 @@
+// What an example is, the test that it passes, and no code.

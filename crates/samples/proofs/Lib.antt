@@ -1,0 +1,2 @@
+-- The examples of images and slips hold.
+pub mod Samples

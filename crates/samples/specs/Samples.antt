@@ -1,0 +1,192 @@
+-- Examples of images and slips, byte by byte: P10 of document 01 ("Edits on F4"), sorted records (document 02, W1), editions (W5), conversions (W6) and
+-- slips (W7); and two tables with one plan and different images (W1). The entries of a run are made one after the other, each on the table that the
+-- one before left. Assumes nothing.
+--   samples            the table
+--   Twins              two tables with one plan and different images
+use mathlib.Core.Path.{_≡_}
+use mathlib.Core.List.{List, [], _∷_, _++_}
+use Prim.Native.Nat.{ℕ, _+_}
+use lib.ListN.{set, take, replicate}
+use Rattle.finite.specs.Below.{same}
+use Rattle.table.specs.Table.{Table, holds, strong}
+use Rattle.table.specs.Cabins.{charge}
+use Rattle.table.specs.Plan.{planOf}
+use Rattle.image.specs.Image.{edition1, edition2, writtenEdition, image}
+use Rattle.history.specs.History.{load, add, link, write, clearSlip, takeBack}
+use Rattle.history.specs.Acts.{begin, call, convert}
+use Rattle.cases.specs.Cases.{taken, weakLink, strongLink, Entry, Run, tableF4, _is_, accepts, refuses, answer, bytes, order, sizes, steps, what, own, counts, exit, cabin, quotas, charges}
+use Rattle.cases.specs.Bytes.{headerP5, step0P5, step1P5, step2P5, imageP5, oldHeaderP5, oldStep0P5, oldStep1P5, oldStep2P5}
+
+-- P10 "F4 as an image, hex: 0A 00 01 00 04 00 00 00 01 00 14 00 02 00, then sixteen 00."
+unfoldable pub imageF4 : List ℕ
+imageF4 =
+    0x0A ∷ 0x00 ∷ 0x01 ∷ 0x00 ∷ 0x04 ∷ 0x00 ∷ 0x00 ∷ 0x00 ∷ 0x01 ∷ 0x00 ∷ 0x14 ∷ 0x00 ∷ 0x02 ∷ 0x00 ∷ replicate 16 0x00
+
+-- W5: "The writer writes edition 2, .. and P10 belongs to W6." F4 is written with a header of 42 bytes, which has cabin 0's 3 and 3, and a record of 22
+-- bytes; converted down it is P10's image, and that converted up is what was written. Both load as F4.
+unfoldable pub newImageF4 : List ℕ
+newImageF4 = 0x2A ∷ 0 ∷ 3 ∷ 0 ∷ 4 ∷ 0 ∷ 0 ∷ 0 ∷ 1 ∷ 0 ∷ 3 ∷ 0 ∷ 3 ∷ 0 ∷ (replicate 28 0 ++ (0x16 ∷ 0 ∷ 4 ∷ 0 ∷ replicate 18 0))
+
+unfoldable pub p10 : List Entry
+p10 =
+    accepts (call (write (replicate 66 0xFF))) (answer is (64 ∷ 0 ∷ []) ∷ bytes is (newImageF4 ++ replicate 2 0xFF) ∷ []) ∷
+    accepts (convert edition1 newImageF4 (replicate 32 0xFF)) (answer is (30 ∷ 0 ∷ []) ∷ bytes is (imageF4 ++ replicate 2 0xFF) ∷ []) ∷
+    accepts (convert edition2 imageF4 (replicate 64 0xFF)) (answer is (64 ∷ 0 ∷ []) ∷ bytes is newImageF4 ∷ []) ∷
+    accepts (begin (load imageF4))
+    (answer is (0 ∷ 0 ∷ []) ∷ sizes is (4 ∷ 0 ∷ []) ∷ steps is (0 ∷ []) ∷ what 0 is (0 ∷ 0 ∷ []) ∷ quotas is (3 ∷ 3 ∷ replicate 14 0) ∷ []) ∷
+    accepts (call (write (replicate 66 0xFF))) (bytes is (newImageF4 ++ replicate 2 0xFF) ∷ []) ∷
+    accepts (begin (load newImageF4)) (sizes is (4 ∷ 0 ∷ []) ∷ steps is (0 ∷ []) ∷ quotas is (3 ∷ 3 ∷ replicate 14 0) ∷ []) ∷
+    []
+
+-- W1: the same records in two other orders load as the same table, and are written in ascending step number
+unfoldable pub sorted : List Entry
+sorted =
+    accepts (begin (load (headerP5 ++ step2P5 ++ step0P5 ++ step1P5))) (sizes is (4 ∷ 2 ∷ []) ∷ steps is (0 ∷ 1 ∷ 2 ∷ []) ∷ []) ∷
+    accepts (call (write (replicate 110 0xFF))) (answer is (108 ∷ 0 ∷ []) ∷ bytes is (imageP5 ++ (0xFF ∷ 0xFF ∷ [])) ∷ []) ∷
+    accepts (begin (load (headerP5 ++ step1P5 ++ step2P5 ++ step0P5))) (sizes is (4 ∷ 2 ∷ []) ∷ steps is (0 ∷ 1 ∷ 2 ∷ []) ∷ []) ∷
+    accepts (call (write (replicate 108 0xFF))) (answer is (108 ∷ 0 ∷ []) ∷ bytes is imageP5 ∷ []) ∷
+    []
+
+-- W5: the records of edition 1 load in any order, with all steps charged to cabin 0 and its 3 and 3; what is written is of edition 2. An image that mixes
+-- editions is not accepted, and neither is one of edition 1 whose capacity is 0.
+unfoldable pub editions : List Entry
+editions =
+    accepts (begin (load (oldHeaderP5 ++ oldStep2P5 ++ oldStep0P5 ++ oldStep1P5)))
+    (sizes is (4 ∷ 2 ∷ []) ∷ steps is (0 ∷ 1 ∷ 2 ∷ []) ∷ quotas is (3 ∷ 3 ∷ replicate 14 0) ∷ charges is (2 ∷ replicate 7 0) ∷ []) ∷
+    accepts (call (write (replicate 108 0xFF))) (answer is (108 ∷ 0 ∷ []) ∷ bytes is imageP5 ∷ []) ∷
+    refuses (begin (load (headerP5 ++ oldStep0P5 ++ oldStep1P5 ++ oldStep2P5))) 12 ∷
+    refuses (begin (load (oldHeaderP5 ++ step0P5 ++ step1P5 ++ step2P5))) 12 ∷
+    refuses (begin (load (headerP5 ++ step0P5 ++ step1P5 ++ oldStep2P5))) 12 ∷
+    refuses (begin (load (set imageP5 66 2))) 12 ∷
+    refuses (begin (load (set imageF4 4 0))) 12 ∷
+    -- in edition 2: a cabin of step 0, a cabin above 7, a guarantee above its limit, a limit below the charge
+    refuses (begin (load (set imageP5 62 1))) 12 ∷
+    refuses (begin (load (set imageP5 84 8))) 12 ∷
+    refuses (begin (load (set imageP5 12 2))) 12 ∷
+    refuses (begin (load (set (set imageP5 10 1) 12 1))) 12 ∷
+    []
+
+-- W1: two tables with one plain plan, in which exits 0 and 1 of step 0 lead to step 1, and with other strengths: their images differ in the bits of
+-- step 0, which are 2 where exit 0 is strong and 1 where exit 1 is
+unfoldable pub imageTwin : ℕ → List ℕ
+imageTwin bits =
+    0x2A ∷ 0 ∷ 3 ∷ 0 ∷ 4 ∷ 0 ∷ 1 ∷ 0 ∷ 2 ∷ 0 ∷ 3 ∷ 0 ∷ 3 ∷ 0 ∷
+    (replicate 28 0 ++
+    (0x16 ∷ 0 ∷ 4 ∷ 0 ∷ 0 ∷ 0 ∷ 0 ∷ 0 ∷ 0 ∷ 0 ∷ bits ∷ 0 ∷ 1 ∷ 0 ∷ 1 ∷ 0 ∷ 0 ∷ 0 ∷ 0 ∷ 0 ∷ 0 ∷ 0 ∷
+    0x16 ∷ 0 ∷ 4 ∷ 0 ∷ 1 ∷ 0 ∷ 1 ∷ 0 ∷ 0 ∷ 0 ∷ 0 ∷ 0 ∷ 0 ∷ 0 ∷ 0 ∷ 0 ∷ 0 ∷ 0 ∷ 0 ∷ 0 ∷ 0 ∷ 0 ∷ []))
+
+-- W6: the records that P5 leaves, in other orders, up and down: bits and targets go along, and the records come out in ascending order. The lengths are
+-- 42 + 3 * 22 and 10 + 3 * 20.
+unfoldable pub conversions : List Entry
+conversions =
+    accepts (convert edition2 (oldHeaderP5 ++ oldStep2P5 ++ oldStep0P5 ++ oldStep1P5) (replicate 110 0xFF))
+    (answer is (108 ∷ 0 ∷ []) ∷ bytes is (imageP5 ++ (0xFF ∷ 0xFF ∷ [])) ∷ []) ∷
+    accepts (convert edition1 (headerP5 ++ step1P5 ++ step2P5 ++ step0P5) (replicate 70 0xFF))
+    (answer is (70 ∷ 0 ∷ []) ∷ bytes is (oldHeaderP5 ++ oldStep0P5 ++ oldStep1P5 ++ oldStep2P5) ∷ []) ∷
+    -- up: 12 for no image and for one of edition 2, whatever the buffer; then 11
+    refuses (convert edition2 [] []) 12 ∷
+    refuses (convert edition2 newImageF4 []) 12 ∷
+    refuses (convert edition2 newImageF4 (replicate 64 7)) 12 ∷
+    refuses (convert edition2 imageF4 (replicate 63 7)) 11 ∷
+    -- down: 12 for an image of edition 1, and for a bad one that has another list too (byte 6: the last number given is the capacity)
+    refuses (convert edition1 imageF4 (replicate 64 7)) 12 ∷
+    refuses (convert edition1 (set (set newImageF4 40 1) 6 4) []) 12 ∷
+    -- 17: cabin 0's guarantee is 2, its limit is 4, cabin 7's limit is 1; the last with a buffer that is too short
+    refuses (convert edition1 (set newImageF4 10 2) (replicate 30 7)) 17 ∷
+    refuses (convert edition1 (set newImageF4 12 4) (replicate 30 7)) 17 ∷
+    refuses (convert edition1 (set newImageF4 40 1) (replicate 29 7)) 17 ∷
+    -- and a step of cabin 1, which may have it, as cabin 0 is guaranteed 2 only: bytes 10, 16 and 84
+    refuses (convert edition1 (set (set (set (imageTwin 2) 10 2) 16 1) 84 1) (replicate 50 7)) 17 ∷
+    refuses (convert edition1 newImageF4 (replicate 29 7)) 11 ∷
+    []
+
+unfoldable pub firstStrong : List Entry
+firstStrong =
+    accepts (call (add 0 0 1 0 0)) [] ∷
+    accepts (call (link 0 0 0 1)) (exit 0 0 is (strongLink ∷ 1 ∷ []) ∷ exit 0 1 is (weakLink ∷ 1 ∷ []) ∷ []) ∷
+    accepts (call (write (replicate 86 0xFF))) (bytes is imageTwin 2 ∷ []) ∷
+    []
+
+unfoldable pub secondStrong : List Entry
+secondStrong =
+    accepts (call (add 0 1 1 0 0)) [] ∷
+    accepts (call (link 0 1 0 0)) (exit 0 0 is (weakLink ∷ 1 ∷ []) ∷ exit 0 1 is (strongLink ∷ 1 ∷ []) ∷ []) ∷
+    accepts (call (write (replicate 86 0xFF))) (bytes is imageTwin 1 ∷ []) ∷
+    []
+
+pub record Twins (t u : Table) : Type 0 where
+  pub plan : planOf t ≡ planOf u
+  pub images : image writtenEdition t ≡ image writtenEdition u → ⊥
+
+-- W7: the slip of a clearing on F4 that frees contact 7, which was step 1: two changed steps. Step 0 had it in its first exit.
+unfoldable pub freedSlip : List ℕ
+freedSlip =
+    (0 ∷ 0 ∷ 0 ∷ 0 ∷ 2 ∷ 0 ∷ []) ++
+    ((22 ∷ 0 ∷ 4 ∷ 0 ∷ 0 ∷ 0 ∷ 0 ∷ 0 ∷ 0 ∷ 0 ∷ 0 ∷ 0 ∷ 1 ∷ 0 ∷ 0 ∷ 0 ∷ 0 ∷ 0 ∷ 0 ∷ 0 ∷ 0 ∷ 0 ∷ []) ++
+    ((22 ∷ 0 ∷ 4 ∷ 0 ∷ replicate 18 0) ++
+    ((22 ∷ 0 ∷ 4 ∷ 0 ∷ 1 ∷ 0 ∷ 1 ∷ 0 ∷ 7 ∷ 0 ∷ replicate 12 0) ++
+    (22 ∷ 0 ∷ 4 ∷ 0 ∷ 1 ∷ 0 ∷ replicate 16 0))))
+
+-- the slip of a clearing that turns two bits: steps 1 and 2 hold each other, and step 0 holds both, step 2 by a weak link
+unfoldable pub turnedSlip : List ℕ
+turnedSlip =
+    (0 ∷ 0 ∷ 0 ∷ 0 ∷ 3 ∷ 0 ∷ []) ++
+    ((22 ∷ 0 ∷ 4 ∷ 0 ∷ 0 ∷ 0 ∷ 0 ∷ 0 ∷ 0 ∷ 0 ∷ 2 ∷ 0 ∷ 1 ∷ 0 ∷ 2 ∷ 0 ∷ 0 ∷ 0 ∷ 0 ∷ 0 ∷ 0 ∷ 0 ∷ []) ++
+    ((22 ∷ 0 ∷ 4 ∷ 0 ∷ 0 ∷ 0 ∷ 0 ∷ 0 ∷ 0 ∷ 0 ∷ 2 ∷ 0 ∷ 0 ∷ 0 ∷ 2 ∷ 0 ∷ 0 ∷ 0 ∷ 0 ∷ 0 ∷ 0 ∷ 0 ∷ []) ++
+    ((22 ∷ 0 ∷ 4 ∷ 0 ∷ 1 ∷ 0 ∷ 1 ∷ 0 ∷ 7 ∷ 0 ∷ 0 ∷ 0 ∷ 2 ∷ 0 ∷ replicate 8 0) ++
+    ((22 ∷ 0 ∷ 4 ∷ 0 ∷ 1 ∷ 0 ∷ 1 ∷ 0 ∷ 7 ∷ 0 ∷ 16 ∷ 0 ∷ 2 ∷ 0 ∷ replicate 8 0) ++
+    ((22 ∷ 0 ∷ 4 ∷ 0 ∷ 2 ∷ 0 ∷ 2 ∷ 0 ∷ 3 ∷ 0 ∷ 1 ∷ 0 ∷ 1 ∷ 0 ∷ replicate 8 0) ++
+    (22 ∷ 0 ∷ 4 ∷ 0 ∷ 2 ∷ 0 ∷ 2 ∷ 0 ∷ 3 ∷ 0 ∷ 17 ∷ 0 ∷ 1 ∷ 0 ∷ replicate 8 0))))))
+
+unfoldable pub regrets : List Entry
+regrets =
+    accepts (call (add 0 0 1 7 0)) (answer is (1 ∷ 0 ∷ []) ∷ []) ∷
+    -- the clearing's refusals, whatever the buffer, then 11: this slip has 94 bytes
+    refuses (call (clearSlip 2 4 [])) 3 ∷
+    refuses (call (clearSlip 0 4 [])) 4 ∷
+    refuses (call (clearSlip 0 1 [])) 6 ∷
+    refuses (call (clearSlip 0 0 (replicate 93 9))) 11 ∷
+    -- the slip, and the byte past it as it was; the last number given stays
+    accepts (call (clearSlip 0 0 (replicate 95 9)))
+    (answer is (1 ∷ 1 ∷ []) ∷ bytes is (freedSlip ++ (9 ∷ [])) ∷ steps is (0 ∷ []) ∷ sizes is (4 ∷ 1 ∷ []) ∷ []) ∷
+    -- 18: no bytes, a byte after the slip, a byte less, and the slip of another clearing
+    refuses (call (takeBack [])) 18 ∷
+    refuses (call (takeBack (freedSlip ++ (0 ∷ [])))) 18 ∷
+    refuses (call (takeBack (take 93 freedSlip))) 18 ∷
+    refuses (call (takeBack turnedSlip)) 18 ∷
+    -- taken back: one step is back, and the table is the one from before
+    accepts (call (takeBack freedSlip))
+    (answer is (1 ∷ 0 ∷ []) ∷ steps is (0 ∷ 1 ∷ []) ∷ what 1 is (1 ∷ 7 ∷ []) ∷ exit 0 0 is (strongLink ∷ 1 ∷ []) ∷ counts 1 is (1 ∷ 0 ∷ []) ∷
+    sizes is (4 ∷ 1 ∷ []) ∷ []) ∷
+    refuses (call (takeBack freedSlip)) 18 ∷
+    -- a clearing that frees none and turns two bits: its slip has them
+    accepts (call (add 1 0 2 3 0)) (answer is (2 ∷ 0 ∷ []) ∷ []) ∷
+    accepts (call (link 0 0 2 0)) [] ∷
+    accepts (call (link 1 0 0 1)) (exit 0 1 is (weakLink ∷ 2 ∷ []) ∷ []) ∷
+    accepts (call (clearSlip 0 0 (replicate 138 9)))
+    (answer is (2 ∷ 0 ∷ []) ∷ bytes is turnedSlip ∷ own 1 is (1 ∷ []) ∷ own 2 is (1 ∷ []) ∷ exit 0 1 is (strongLink ∷ 2 ∷ []) ∷
+    exit 2 0 is (strongLink ∷ 1 ∷ []) ∷ exit 1 0 is (weakLink ∷ 2 ∷ []) ∷ []) ∷
+    accepts (call (takeBack turnedSlip))
+    (answer is (0 ∷ 0 ∷ []) ∷ own 1 is (0 ∷ []) ∷ own 2 is (0 ∷ []) ∷ exit 0 0 is (strongLink ∷ 1 ∷ []) ∷ exit 0 1 is (weakLink ∷ 2 ∷ []) ∷
+    exit 2 0 is (weakLink ∷ 1 ∷ []) ∷ exit 1 0 is (strongLink ∷ 2 ∷ []) ∷ counts 1 is (1 ∷ 1 ∷ []) ∷ counts 2 is (1 ∷ 1 ∷ []) ∷ []) ∷
+    -- the weak link to step 2: of step 2 the counters alone change, so step 0 alone is in the slip
+    refuses (call (clearSlip 0 1 (replicate 49 9))) 11 ∷
+    accepts (call (clearSlip 0 1 (replicate 50 9)))
+    (answer is (0 ∷ 0 ∷ []) ∷
+    bytes is
+    ((0 ∷ 0 ∷ 1 ∷ 0 ∷ 1 ∷ 0 ∷ []) ++
+    ((22 ∷ 0 ∷ 4 ∷ 0 ∷ 0 ∷ 0 ∷ 0 ∷ 0 ∷ 0 ∷ 0 ∷ 2 ∷ 0 ∷ 1 ∷ 0 ∷ 2 ∷ 0 ∷ 0 ∷ 0 ∷ 0 ∷ 0 ∷ 0 ∷ 0 ∷ []) ++
+    (22 ∷ 0 ∷ 4 ∷ 0 ∷ 0 ∷ 0 ∷ 0 ∷ 0 ∷ 0 ∷ 0 ∷ 0 ∷ 0 ∷ 1 ∷ 0 ∷ replicate 8 0))) ∷
+    counts 2 is (1 ∷ 0 ∷ []) ∷ []) ∷
+    []
+
+unfoldable pub samples : List Run
+samples =
+    record { table = tableF4; entries = p10 } ∷
+    record { table = tableF4; entries = sorted } ∷
+    record { table = tableF4; entries = editions } ∷
+    record { table = tableF4; entries = conversions } ∷
+    record { table = tableF4; entries = regrets } ∷
+    record { table = tableF4; entries = firstStrong } ∷
+    record { table = tableF4; entries = secondStrong } ∷
+    []

@@ -1,0 +1,1 @@
+// Examples of images and slips, byte by byte, and no code.
