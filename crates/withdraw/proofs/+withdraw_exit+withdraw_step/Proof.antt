@@ -1,13 +1,14 @@
 -- Withdrawing a step and withdrawing an exit, which call each other. The measures: with u steps not marked, an exit is 2u and a step 2u + 1.
 -- The loop's invariant: the exits below e are withdrawn. Assumes nothing.
-use Prim.Native.Nat.{ℕ, _+_, _-_, _≤_, _<_}
+use Prim.Native.Nat.{ℕ, _+_, _*_, _-_, _≤_, _<_}
 use mathlib.Core.Path.{_≡_, sym, _∙_}
 use native.Mathlib.Omega.{arith}
 use native.Mathlib.Numerals.{add-one}
 use borrow.Author.Needs.{needs}
 use borrow.Fn.Kinds.{In}
 use borrow.Fn.PlainCycle.{Measures, is, falls, and}
-use Rattle.table.specs.Table.{places, exitsOf, counterPlace, targetOf, linkBit}
+use lib.ListN.{getD}
+use Rattle.table.specs.Table.{places, counters, exitsOf, exitPlace, counterPlace, targetOf, linkBit}
 use Rattle.table.proofs.Places.{entries-most, exit-place-below}
 use Rattle.words.specs.Words.{tableOf}
 use Rattle.words.proofs.bit_at.Reads as bit-at-reads
@@ -68,170 +69,128 @@ withdraw-exit-target-at-requires t c κs = (c .pre .1 .0, c .pre .1 .1)
 withdraw-exit-wide-requires : (t : ℕ) → withdraw-exit-lts.Need-wide-requires (exit-claims t) (withdraw-exit-at t) withdraw-exit.Post
 withdraw-exit-wide-requires t c κs = search needs
 
+-- What the places behind the first `wide` know of the exit's target, and those behind the second one of its link.
+module _ (t : ℕ) where
+  abbrev Start : Type 0
+  Start = withdraw-exit-lts.Start (exit-claims t) (withdraw-exit-at t) withdraw-exit.Post
+
+  abbrev Aimed : Type 0
+  Aimed = withdraw-exit-lts.After-wide (exit-claims t) (withdraw-exit-at t) withdraw-exit.Post
+
+  abbrev Read : Type 0
+  Read = withdraw-exit-lts.After-wide2 (exit-claims t) (withdraw-exit-at t) withdraw-exit.Post
+
+  abbrev place : Start → ℕ
+  place s = exitPlace (s .args .i) (s .args .e)
+
+  aim : (c : Aimed) → c .wide .result ≡ getD (tableOf (c .before .before .args .t .now) .targets) (place (c .before .before)) 0
+  unfolding targetOf
+  aim c = c .wide .ensures ∙ c .before .target-at .ensures
+
+  aim-below : (c : Aimed) → c .wide .result < places
+  aim-below c = target-below _ (c .before .before .pre .1 .2) _ _ (aim c)
+
+  abbrev aimed : Read → Aimed
+  aimed c = c .before .before .before
+
+  abbrev start : Read → Start
+  start c = aimed c .before .before
+
+  some : (c : Read) → aimed c .wide .result ≡ 0 → ⊥
+  some c = c .before .before .if1 .left
+
+  bit : (c : Read) → c .wide2 .result ≡ getD (tableOf (start c .args .t .now) .bits) (place (start c)) 0
+  unfolding linkBit
+  bit c = c .wide2 .ensures ∙ c .before .bit-at .ensures
+
+  counter : (c : Read) → counterPlace (aimed c .wide .result) (c .wide2 .result) < places * counters
+  counter c = counter-below _ (start c .pre .1 .2) _ _ (aim (aimed c)) (some c) _ (bit c)
+
 withdraw-exit-returns : (t : ℕ) → withdraw-exit-lts.Need-returns (exit-claims t) (withdraw-exit-at t) withdraw-exit.Post
-unfolding targetOf linkBit counterPlace
-withdraw-exit-returns t c =
-    let s = c .before .before .before in
-    let ej = c .before .wide .ensures ∙ c .before .before .target-at .ensures in
-    withdrawn-skip _ (s .pre .1 .2) _ _ ej _ _ (c .if1 .taken)
+withdraw-exit-returns t c = withdrawn-skip _ (c .before .before .before .pre .1 .2) _ _ (aim t (c .before)) _ _ (c .if1 .taken)
 
 withdraw-exit-bit-at-requires : (t : ℕ) → withdraw-exit-lts.Need-bit-at-requires (exit-claims t) (withdraw-exit-at t) withdraw-exit.Post
 withdraw-exit-bit-at-requires t c κs = (c .before .before .before .pre .1 .0, c .before .before .before .pre .1 .1)
 
 withdraw-exit-mul-q : (t : ℕ) → withdraw-exit-lts.Need-mul-q (exit-claims t) (withdraw-exit-at t) withdraw-exit.Post
-unfolding targetOf linkBit counterPlace
-withdraw-exit-mul-q t c =
-    let s = c .before .before .before .before in
-    let ej = c .before .before .wide .ensures ∙ c .before .before .before .target-at .ensures in
-    let low = target-below _ (s .pre .1 .2) _ _ ej in
-    omega arith
+withdraw-exit-mul-q t c = omega (arith, aim-below t (c .before .before))
 
 withdraw-exit-wide-requires-2 : (t : ℕ) → withdraw-exit-lts.Need-wide-requires-2 (exit-claims t) (withdraw-exit-at t) withdraw-exit.Post
 withdraw-exit-wide-requires-2 t c κs = search needs
 
 withdraw-exit-add-q : (t : ℕ) → withdraw-exit-lts.Need-add-q (exit-claims t) (withdraw-exit-at t) withdraw-exit.Post
-unfolding targetOf linkBit counterPlace
-withdraw-exit-add-q t c =
-    let s = c .before .before .before .before .before in
-    let ej = c .before .before .before .wide .ensures ∙ c .before .before .before .before .target-at .ensures in
-    let some = c .before .before .if1 .left in
-    let eb = c .wide2 .ensures ∙ c .before .bit-at .ensures in
-    let low = counter-below _ (s .pre .1 .2) _ _ ej some _ eb in
-    omega arith
+unfolding counterPlace
+withdraw-exit-add-q t c = omega (arith, counter t c)
 
 withdraw-exit-mul-n : (t : ℕ) → withdraw-exit-lts.Need-mul-n (exit-claims t) (withdraw-exit-at t) withdraw-exit.Post
-unfolding targetOf linkBit counterPlace
-withdraw-exit-mul-n t c =
-    let s = c .before .before .before .before .before in
-    let ej = c .before .before .before .wide .ensures ∙ c .before .before .before .before .target-at .ensures in
-    let some = c .before .before .if1 .left in
-    let eb = c .wide2 .ensures ∙ c .before .bit-at .ensures in
-    let low = counter-below _ (s .pre .1 .2) _ _ ej some _ eb in
-    omega arith
+unfolding counterPlace
+withdraw-exit-mul-n t c = omega (arith, counter t c)
 
 withdraw-exit-element-copy-out-n : (t : ℕ) → withdraw-exit-lts.Need-element-copy-out-n (exit-claims t) (withdraw-exit-at t) withdraw-exit.Post
-unfolding targetOf linkBit counterPlace
-withdraw-exit-element-copy-out-n t c =
-    let s = c .before .before .before .before .before in
-    let ej = c .before .before .before .wide .ensures ∙ c .before .before .before .before .target-at .ensures in
-    let some = c .before .before .if1 .left in
-    let eb = c .wide2 .ensures ∙ c .before .bit-at .ensures in
-    let low = counter-below _ (s .pre .1 .2) _ _ ej some _ eb in
-    low
+unfolding counterPlace
+withdraw-exit-element-copy-out-n t c = counter t c
 
 withdraw-exit-element-write-left : (t : ℕ) → withdraw-exit-lts.Need-element-write-left (exit-claims t) (withdraw-exit-at t) withdraw-exit.Post
 withdraw-exit-element-write-left t c = search needs
 
 withdraw-exit-returns-2 : (t : ℕ) → withdraw-exit-lts.Need-returns-2 (exit-claims t) (withdraw-exit-at t) withdraw-exit.Post
-unfolding targetOf linkBit counterPlace
+unfolding counterPlace
 withdraw-exit-returns-2 t c =
     let w = c .before .before in
-    let s = w .before .before .before .before .before in
-    let ej = w .before .before .before .wide .ensures ∙ w .before .before .before .before .target-at .ensures in
-    let some = w .before .before .if1 .left in
-    let eb = w .wide2 .ensures ∙ w .before .bit-at .ensures in
-    withdrawn-over _ (s .pre .1 .2) _ _ ej some _ eb _ _ (c .if2 .taken)
+    withdrawn-over _ (start t w .pre .1 .2) _ _ (aim t (aimed t w)) (some t w) _ (bit t w) _ _ (c .if2 .taken)
 
 withdraw-exit-sub-left : (t : ℕ) → withdraw-exit-lts.Need-sub-left (exit-claims t) (withdraw-exit-at t) withdraw-exit.Post
 withdraw-exit-sub-left t c = let full = c .if2 .left in omega arith
 
 withdraw-exit-mul-left : (t : ℕ) → withdraw-exit-lts.Need-mul-left (exit-claims t) (withdraw-exit-at t) withdraw-exit.Post
-unfolding targetOf linkBit counterPlace
-withdraw-exit-mul-left t c =
-    let w = c .before .before in
-    let s = w .before .before .before .before .before in
-    let ej = w .before .before .before .wide .ensures ∙ w .before .before .before .before .target-at .ensures in
-    let some = w .before .before .if1 .left in
-    let eb = w .wide2 .ensures ∙ w .before .bit-at .ensures in
-    let low = counter-below _ (s .pre .1 .2) _ _ ej some _ eb in
-    omega arith
+unfolding counterPlace
+withdraw-exit-mul-left t c = omega (arith, counter t (c .before .before))
 
 withdraw-exit-element-write-left-2 : (t : ℕ) → withdraw-exit-lts.Need-element-write-left-2 (exit-claims t) (withdraw-exit-at t) withdraw-exit.Post
-unfolding targetOf linkBit counterPlace
-withdraw-exit-element-write-left-2 t c =
-    let w = c .before .before in
-    let s = w .before .before .before .before .before in
-    let ej = w .before .before .before .wide .ensures ∙ w .before .before .before .before .target-at .ensures in
-    let some = w .before .before .if1 .left in
-    let eb = w .wide2 .ensures ∙ w .before .bit-at .ensures in
-    let low = counter-below _ (s .pre .1 .2) _ _ ej some _ eb in
-    low
+unfolding counterPlace
+withdraw-exit-element-write-left-2 t c = counter t (c .before .before)
 
 withdraw-exit-own-at-requires : (t : ℕ) → withdraw-exit-lts.Need-own-at-requires (exit-claims t) (withdraw-exit-at t) withdraw-exit.Post
-unfolding targetOf linkBit counterPlace
-withdraw-exit-own-at-requires t c κs =
-    let w = c .before .before .before in
-    let s = w .before .before .before .before .before in
-    let ej = w .before .before .before .wide .ensures ∙ w .before .before .before .before .target-at .ensures in
-    target-below _ (s .pre .1 .2) _ _ ej
+withdraw-exit-own-at-requires t c κs = aim-below t (aimed t (c .before .before .before))
 
 withdraw-exit-mul-marks : (t : ℕ) → withdraw-exit-lts.Need-mul-marks (exit-claims t) (withdraw-exit-at t) withdraw-exit.Post
-unfolding targetOf linkBit counterPlace
-withdraw-exit-mul-marks t c =
-    let w = c .before .before .before .before .before in
-    let s = w .before .before .before .before .before in
-    let ej = w .before .before .before .wide .ensures ∙ w .before .before .before .before .target-at .ensures in
-    let low = target-below _ (s .pre .1 .2) _ _ ej in
-    omega arith
+withdraw-exit-mul-marks t c = omega (arith, aim-below t (aimed t (c .before .before .before .before .before)))
 
 withdraw-exit-element-write-marks : (t : ℕ) → withdraw-exit-lts.Need-element-write-marks (exit-claims t) (withdraw-exit-at t) withdraw-exit.Post
-unfolding targetOf linkBit counterPlace
-withdraw-exit-element-write-marks t c =
-    let w = c .before .before .before .before .before in
-    let s = w .before .before .before .before .before in
-    let ej = w .before .before .before .wide .ensures ∙ w .before .before .before .before .target-at .ensures in
-    target-below _ (s .pre .1 .2) _ _ ej
+withdraw-exit-element-write-marks t c = aim-below t (aimed t (c .before .before .before .before .before))
 
 withdraw-exit-withdraw-step-requires : (t : ℕ) → withdraw-exit-lts.Need-withdraw-step-requires (exit-claims t) (withdraw-exit-at t) withdraw-exit.Post
-unfolding targetOf linkBit counterPlace
+unfolding counterPlace
 withdraw-exit-withdraw-step-requires t c κs =
     let w = c .before .before .before .before .before .before .before in
-    let s = w .before .before .before .before .before in
-    let ej = w .before .before .before .wide .ensures ∙ w .before .before .before .before .target-at .ensures in
-    let some = w .before .before .if1 .left in
-    let eb = w .wide2 .ensures ∙ w .before .bit-at .ensures in
     let own = w .wide2 .ensures ∙ c .before .before .if4 .taken ∙ c .before .before .before .own-at .ensures in
     let last = c .before .before .before .before .if3 .taken in
-    let falls = marked-falls _ (s .pre .1 .2) _ _ ej some _ eb _ _ last own (s .pre .1 .3) in
+    let s = start t w in
+    let falls = marked-falls _ (start t w .pre .1 .2) _ _ (aim t (aimed t w)) (some t w) _ (bit t w) _ _ last own (s .pre .1 .3) in
     let size = s .pre .0 in
-    let low = target-below _ (s .pre .1 .2) _ _ ej in
-    (omega arith, (low, s .pre .1 .2, marked-pending _ (s .pre .1 .2) _ _ ej some _ eb _ _ last own (s .pre .1 .3)))
+    (omega arith, (aim-below t (aimed t w), s .pre .1 .2, marked-pending _ (start t w .pre .1 .2) _ _ (aim t (aimed t w)) (some t w) _ (bit t w) _ _ last own (s .pre .1 .3)))
 
 withdraw-exit-returns-3 : (t : ℕ) → withdraw-exit-lts.Need-returns-3 (exit-claims t) (withdraw-exit-at t) withdraw-exit.Post
-unfolding targetOf linkBit counterPlace
+unfolding counterPlace
 withdraw-exit-returns-3 t c =
     let w = c .before .before .before .before .before .before .before .before in
-    let s = w .before .before .before .before .before in
-    let ej = w .before .before .before .wide .ensures ∙ w .before .before .before .before .target-at .ensures in
-    let some = w .before .before .if1 .left in
-    let eb = w .wide2 .ensures ∙ w .before .bit-at .ensures in
     let own = w .wide2 .ensures ∙ c .before .before .before .if4 .taken ∙ c .before .before .before .before .own-at .ensures in
     let last = c .before .before .before .before .before .if3 .taken in
-    withdrawn-mark _ (s .pre .1 .2) _ _ ej some _ eb _ _ last own
-    (exit-place-below _ _ places (s .pre .1 .1) (s .pre .1 .0)) (s .pre .1 .3) _ _ (c .withdraw-step .ensures)
+    let s = start t w in
+    withdrawn-mark _ (start t w .pre .1 .2) _ _ (aim t (aimed t w)) (some t w) _ (bit t w) _ _ last own (exit-place-below _ _ places (s .pre .1 .1) (s .pre .1 .0)) (s .pre .1 .3) _ _ (c .withdraw-step .ensures)
 
 withdraw-exit-returns-4 : (t : ℕ) → withdraw-exit-lts.Need-returns-4 (exit-claims t) (withdraw-exit-at t) withdraw-exit.Post
-unfolding targetOf linkBit counterPlace
+unfolding counterPlace
 withdraw-exit-returns-4 t c =
     let w = c .before .before .before .before .before in
-    let s = w .before .before .before .before .before in
-    let ej = w .before .before .before .wide .ensures ∙ w .before .before .before .before .target-at .ensures in
-    let some = w .before .before .if1 .left in
-    let eb = w .wide2 .ensures ∙ w .before .bit-at .ensures in
-    let full = c .before .before .before .if2 .left in
-    withdrawn-lower _ (s .pre .1 .2) _ _ ej some _ eb _ _ full
+    withdrawn-lower _ (start t w .pre .1 .2) _ _ (aim t (aimed t w)) (some t w) _ (bit t w) _ _ (c .before .before .before .if2 .left)
     (λ z e. c .if4 .left (sym (w .wide2 .ensures) ∙ e ∙ sym (c .before .own-at .ensures)))
 
 withdraw-exit-returns-5 : (t : ℕ) → withdraw-exit-lts.Need-returns-5 (exit-claims t) (withdraw-exit-at t) withdraw-exit.Post
-unfolding targetOf linkBit counterPlace
+unfolding counterPlace
 withdraw-exit-returns-5 t c =
     let w = c .before .before .before in
-    let s = w .before .before .before .before .before in
-    let ej = w .before .before .before .wide .ensures ∙ w .before .before .before .before .target-at .ensures in
-    let some = w .before .before .if1 .left in
-    let eb = w .wide2 .ensures ∙ w .before .bit-at .ensures in
-    let full = c .before .if2 .left in
-    withdrawn-lower _ (s .pre .1 .2) _ _ ej some _ eb _ _ full (λ z e. c .if3 .left z)
+    withdrawn-lower _ (start t w .pre .1 .2) _ _ (aim t (aimed t w)) (some t w) _ (bit t w) _ _ (c .before .if2 .left) (λ z e. c .if3 .left z)
 
 abbrev withdraw-step-Inv-loop : withdraw-step-lts.InvT-loop
 withdraw-step-Inv-loop t left₀ marks₀ i n e₀ left marks e = (n ≡ exitsOf i) × (e ≤ n) × Upto (tableOf t) i left₀ marks₀ e left marks
