@@ -53,94 +53,43 @@ unfolding faults fieldsAt
 fault-next t i n used kind content own cabin x e a b c d f g =
     ap₂ _+_ e (g ∙ rw (a, b, c, d, f)) ∙ sym (count-next i (λ k. not (fieldsAt t k)))
 
-cabin-next : (t : Table) (c i n used cabin x : ℕ) → Counted t c i n → used ≡ getD (t .used) i 0 → cabin ≡ cabinOf t i →
-    x ≡ one (eqb used 1 && eqb cabin c) → Counted t c (i + 1) (n + x)
+-- one step more of cabin k, and no count passes the number of steps: c is where the step's fields have been read
+cabin-next : (c : tie.After-cabin-at Inv-loop μ-loop) (k n x : ℕ) →
+    let l = c .before .before .before .before .before .before in
+    Counted (tableOf (l .before .args .t .now)) k (l .loop .i) n →
+    x ≡ one (eqb (c .before .before .before .before .used-at .result) 1 && eqb (c .cabin-at .result) k) →
+    Counted (tableOf (l .before .args .t .now)) k (l .loop .i + 1) (n + x) × (n + x ≤ places)
 unfolding hasCabin inUse
-cabin-next t c i n used cabin x e a b g = ap₂ _+_ e (g ∙ rw (a, b)) ∙ sym (count-next i (hasCabin t c))
-
--- no count passes the number of steps
-counted-most : (t : Table) (c i n x : ℕ) → Counted t c (i + 1) (n + x) → n + x ≤ i + 1
-counted-most t c i n x e = rw e (count-le (i + 1) (hasCabin t c))
-
-next-0 : (c : tie.After-step-of-cabin Inv-loop μ-loop) →
-    let l = c .before .before .before .before .before .before .before .before in
-    Counted (tableOf (l .before .args .t .now)) 0 (l .loop .i + 1) (l .loop .c0 + c .step-of-cabin .result)
-next-0 c =
-    let l = c .before .before .before .before .before .before .before .before in
-    cabin-next _ 0 _ _ _ _ _ (l .loop .inv .2) (c .before .before .before .before .before .before .used-at .ensures) (c .before .before .cabin-at .ensures) (c .step-of-cabin .ensures)
+cabin-next c k n x e g =
+    let l = c .before .before .before .before .before .before in
+    let t = tableOf (l .before .args .t .now) in
+    let next : Counted t k (l .loop .i + 1) (n + x) =
+    ap₂ _+_ e (g ∙ rw (c .before .before .before .before .used-at .ensures, c .cabin-at .ensures)) ∙ sym (count-next (l .loop .i) (hasCabin t k)) in
+    (next, rw next (omega (arith, count-le (l .loop .i + 1) (hasCabin t k), c .before .before .before .before .before .loop-test .taken)))
 
 add-0 : tie.Need-add-c0 Inv-loop μ-loop
-add-0 c = let l = c .before .before .before .before .before .before .before in omega (arith, counted-most _ 0 _ _ _ (next-0 c), l .loop-test .taken)
-
-next-1 : (c : tie.After-step-of-cabin2 Inv-loop μ-loop) →
-    let l = c .before .before .before .before .before .before .before .before .before in
-    Counted (tableOf (l .before .args .t .now)) 1 (l .loop .i + 1) (l .loop .c1 + c .step-of-cabin2 .result)
-next-1 c =
-    let l = c .before .before .before .before .before .before .before .before .before in
-    cabin-next _ 1 _ _ _ _ _ (l .loop .inv .3) (c .before .before .before .before .before .before .before .used-at .ensures) (c .before .before .before .cabin-at .ensures) (c .step-of-cabin2 .ensures)
+add-0 c = omega (arith, cabin-next (c .before .before) 0 _ _ (c .before .before .before .before .before .before .before .before .loop .inv .2) (c .step-of-cabin .ensures) .1)
 
 add-1 : tie.Need-add-c1 Inv-loop μ-loop
-add-1 c = let l = c .before .before .before .before .before .before .before .before in omega (arith, counted-most _ 1 _ _ _ (next-1 c), l .loop-test .taken)
-
-next-2 : (c : tie.After-step-of-cabin3 Inv-loop μ-loop) →
-    let l = c .before .before .before .before .before .before .before .before .before .before in
-    Counted (tableOf (l .before .args .t .now)) 2 (l .loop .i + 1) (l .loop .c2 + c .step-of-cabin3 .result)
-next-2 c =
-    let l = c .before .before .before .before .before .before .before .before .before .before in
-    cabin-next _ 2 _ _ _ _ _ (l .loop .inv .4) (c .before .before .before .before .before .before .before .before .used-at .ensures) (c .before .before .before .before .cabin-at .ensures) (c .step-of-cabin3 .ensures)
+add-1 c = omega (arith, cabin-next (c .before .before .before) 1 _ _ (c .before .before .before .before .before .before .before .before .before .loop .inv .3) (c .step-of-cabin2 .ensures) .1)
 
 add-2 : tie.Need-add-c2 Inv-loop μ-loop
-add-2 c = let l = c .before .before .before .before .before .before .before .before .before in omega (arith, counted-most _ 2 _ _ _ (next-2 c), l .loop-test .taken)
-
-next-3 : (c : tie.After-step-of-cabin4 Inv-loop μ-loop) →
-    let l = c .before .before .before .before .before .before .before .before .before .before .before in
-    Counted (tableOf (l .before .args .t .now)) 3 (l .loop .i + 1) (l .loop .c3 + c .step-of-cabin4 .result)
-next-3 c =
-    let l = c .before .before .before .before .before .before .before .before .before .before .before in
-    cabin-next _ 3 _ _ _ _ _ (l .loop .inv .5) (c .before .before .before .before .before .before .before .before .before .used-at .ensures) (c .before .before .before .before .before .cabin-at .ensures) (c .step-of-cabin4 .ensures)
+add-2 c = omega (arith, cabin-next (c .before .before .before .before) 2 _ _ (c .before .before .before .before .before .before .before .before .before .before .loop .inv .4) (c .step-of-cabin3 .ensures) .1)
 
 add-3 : tie.Need-add-c3 Inv-loop μ-loop
-add-3 c = let l = c .before .before .before .before .before .before .before .before .before .before in omega (arith, counted-most _ 3 _ _ _ (next-3 c), l .loop-test .taken)
-
-next-4 : (c : tie.After-step-of-cabin5 Inv-loop μ-loop) →
-    let l = c .before .before .before .before .before .before .before .before .before .before .before .before in
-    Counted (tableOf (l .before .args .t .now)) 4 (l .loop .i + 1) (l .loop .c4 + c .step-of-cabin5 .result)
-next-4 c =
-    let l = c .before .before .before .before .before .before .before .before .before .before .before .before in
-    cabin-next _ 4 _ _ _ _ _ (l .loop .inv .6) (c .before .before .before .before .before .before .before .before .before .before .used-at .ensures) (c .before .before .before .before .before .before .cabin-at .ensures) (c .step-of-cabin5 .ensures)
+add-3 c = omega (arith, cabin-next (c .before .before .before .before .before) 3 _ _ (c .before .before .before .before .before .before .before .before .before .before .before .loop .inv .5) (c .step-of-cabin4 .ensures) .1)
 
 add-4 : tie.Need-add-c4 Inv-loop μ-loop
-add-4 c = let l = c .before .before .before .before .before .before .before .before .before .before .before in omega (arith, counted-most _ 4 _ _ _ (next-4 c), l .loop-test .taken)
-
-next-5 : (c : tie.After-step-of-cabin6 Inv-loop μ-loop) →
-    let l = c .before .before .before .before .before .before .before .before .before .before .before .before .before in
-    Counted (tableOf (l .before .args .t .now)) 5 (l .loop .i + 1) (l .loop .c5 + c .step-of-cabin6 .result)
-next-5 c =
-    let l = c .before .before .before .before .before .before .before .before .before .before .before .before .before in
-    cabin-next _ 5 _ _ _ _ _ (l .loop .inv .7) (c .before .before .before .before .before .before .before .before .before .before .before .used-at .ensures) (c .before .before .before .before .before .before .before .cabin-at .ensures) (c .step-of-cabin6 .ensures)
+add-4 c = omega (arith, cabin-next (c .before .before .before .before .before .before) 4 _ _ (c .before .before .before .before .before .before .before .before .before .before .before .before .loop .inv .6) (c .step-of-cabin5 .ensures) .1)
 
 add-5 : tie.Need-add-c5 Inv-loop μ-loop
-add-5 c = let l = c .before .before .before .before .before .before .before .before .before .before .before .before in omega (arith, counted-most _ 5 _ _ _ (next-5 c), l .loop-test .taken)
-
-next-6 : (c : tie.After-step-of-cabin7 Inv-loop μ-loop) →
-    let l = c .before .before .before .before .before .before .before .before .before .before .before .before .before .before in
-    Counted (tableOf (l .before .args .t .now)) 6 (l .loop .i + 1) (l .loop .c6 + c .step-of-cabin7 .result)
-next-6 c =
-    let l = c .before .before .before .before .before .before .before .before .before .before .before .before .before .before in
-    cabin-next _ 6 _ _ _ _ _ (l .loop .inv .8) (c .before .before .before .before .before .before .before .before .before .before .before .before .used-at .ensures) (c .before .before .before .before .before .before .before .before .cabin-at .ensures) (c .step-of-cabin7 .ensures)
+add-5 c = omega (arith, cabin-next (c .before .before .before .before .before .before .before) 5 _ _ (c .before .before .before .before .before .before .before .before .before .before .before .before .before .loop .inv .7) (c .step-of-cabin6 .ensures) .1)
 
 add-6 : tie.Need-add-c6 Inv-loop μ-loop
-add-6 c = let l = c .before .before .before .before .before .before .before .before .before .before .before .before .before in omega (arith, counted-most _ 6 _ _ _ (next-6 c), l .loop-test .taken)
-
-next-7 : (c : tie.After-step-of-cabin8 Inv-loop μ-loop) →
-    let l = c .before .before .before .before .before .before .before .before .before .before .before .before .before .before .before in
-    Counted (tableOf (l .before .args .t .now)) 7 (l .loop .i + 1) (l .loop .c7 + c .step-of-cabin8 .result)
-next-7 c =
-    let l = c .before .before .before .before .before .before .before .before .before .before .before .before .before .before .before in
-    cabin-next _ 7 _ _ _ _ _ (l .loop .inv .9) (c .before .before .before .before .before .before .before .before .before .before .before .before .before .used-at .ensures) (c .before .before .before .before .before .before .before .before .before .cabin-at .ensures) (c .step-of-cabin8 .ensures)
+add-6 c = omega (arith, cabin-next (c .before .before .before .before .before .before .before .before) 6 _ _ (c .before .before .before .before .before .before .before .before .before .before .before .before .before .before .loop .inv .8) (c .step-of-cabin7 .ensures) .1)
 
 add-7 : tie.Need-add-c7 Inv-loop μ-loop
-add-7 c = let l = c .before .before .before .before .before .before .before .before .before .before .before .before .before .before in omega (arith, counted-most _ 7 _ _ _ (next-7 c), l .loop-test .taken)
+add-7 c = omega (arith, cabin-next (c .before .before .before .before .before .before .before .before .before) 7 _ _ (c .before .before .before .before .before .before .before .before .before .before .before .before .before .before .before .loop .inv .9) (c .step-of-cabin8 .ensures) .1)
 
 next-fault : (c : tie.After-step-fault Inv-loop μ-loop) →
     let l = c .before .before .before .before .before .before .before in
@@ -159,18 +108,20 @@ add-n c =
     omega (arith, l .loop-test .taken)
 
 loop-again : tie.Need-loop-again Inv-loop μ-loop
-loop-again c = (
-  omega arith,
-  next-fault (c .before .before .before .before .before .before .before .before),
-  next-0 (c .before .before .before .before .before .before .before),
-  next-1 (c .before .before .before .before .before .before),
-  next-2 (c .before .before .before .before .before),
-  next-3 (c .before .before .before .before),
-  next-4 (c .before .before .before),
-  next-5 (c .before .before),
-  next-6 (c .before),
-  next-7 c,
-)
+loop-again c =
+    let read = c .before .before .before .before .before .before .before .before .before in
+    let inv = read .before .before .before .before .before .before .loop .inv in (
+      omega arith,
+      next-fault (c .before .before .before .before .before .before .before .before),
+      cabin-next read 0 _ _ (inv .2) (c .before .before .before .before .before .before .before .step-of-cabin .ensures) .0,
+      cabin-next read 1 _ _ (inv .3) (c .before .before .before .before .before .before .step-of-cabin2 .ensures) .0,
+      cabin-next read 2 _ _ (inv .4) (c .before .before .before .before .before .step-of-cabin3 .ensures) .0,
+      cabin-next read 3 _ _ (inv .5) (c .before .before .before .before .step-of-cabin4 .ensures) .0,
+      cabin-next read 4 _ _ (inv .6) (c .before .before .before .step-of-cabin5 .ensures) .0,
+      cabin-next read 5 _ _ (inv .7) (c .before .before .step-of-cabin6 .ensures) .0,
+      cabin-next read 6 _ _ (inv .8) (c .before .step-of-cabin7 .ensures) .0,
+      cabin-next read 7 _ _ (inv .9) (c .step-of-cabin8 .ensures) .0,
+    )
 
 returns : tie.Need-returns Inv-loop μ-loop
 unfolding tabulate tabulateFrom cabinSteps
