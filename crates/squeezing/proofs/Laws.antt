@@ -43,7 +43,8 @@ pub record Staged (t u : Table) (i : ℕ) : Type 0 where
   pub left : (k : ℕ) → newNumber t i ≤ k → k < i → stepAt u k ≡ stepFree
   pub rest : (k : ℕ) → i ≤ k → k < places → stepAt u k ≡ stepAt t k
 
--- Each record holds the four exits of its step, and a table has no other exit as long as it has no entry (document 02, W12): with the records all is moved.
+-- A record holds the four exits of its step. A table has no other as long as it has no entry (document 02, W12), so that all exits move with the
+-- records.
 no-entry : (p : ℕ) → p < entries → ⊥
 no-entry p l = omega arith
 

@@ -197,7 +197,7 @@ module _ {t u : Table} (w : Wired t) (alarm : inUse t 0 ≡ true) (f : Follows t
         let k = counts-holder v (newNumber t j) b p h in
         let a = ltb-true (holderAt p) (stepsInUse t) (sym (f .used (holderAt p)) ∙ k) in
         omega arith))
-        ∙ count-moved (t .capacity) (inUse t) (countsAt t j b) (countsAt u (newNumber t j) b) (omega (arith, used-below w 0 alarm)) alarm
+        ∙ count-moved (t .capacity) (inUse t) (countsAt t j b) (countsAt u (newNumber t j) b) alarm
         (λ i e l x. follow-counts j b i e y x l)
         (λ i e l x.
         refute (countsAt t j b (exitPlace i e)) (λ h. clash (rw (exit-place-step i e l) at (counts-holder w j b (exitPlace i e) h)) x))

@@ -3,8 +3,7 @@
 --   own-exit            the four exits of a step are among its exits
 --   entries-alarm entries-none entries-most   how many more a step has
 --   place-own place-entry place-cases   the place of an exit: one of the four, one of an entry, whichever it is
---   exit-place-same exit-place-below exit-place-outside exit-place-apart   places of two exits, of the exits of steps below n, of the others, of
---                       those of steps other than i
+--   exit-place-same exit-place-below exit-place-outside exit-place-apart   places of two exits, of exits of steps below n, not below n, other than i
 --   exit-place-step exit-place-exit   the exit at a place, from the place of an exit
 --   exit-at-below exit-place-split holder-at-below own-split   every place is that of an exit
 --   tabulate-exits count-exits count-moved   lists and counts over places, by the exits
@@ -194,10 +193,10 @@ count-exits (suc n) k q l =
     (eq-or-ne k n)
 
 -- a count over the exits of the steps that pass u, taken together in their order; step 0 passes, and keeps the exits of the entries
-pub count-moved : (m : ℕ) (u p q : ℕ → Bool) → 0 < m → u 0 ≡ true →
+pub count-moved : (m : ℕ) (u p q : ℕ → Bool) → u 0 ≡ true →
     ((i e : ℕ) → e < exitsOf i → u i ≡ true → q (exitPlace (count i u) e) ≡ p (exitPlace i e)) →
     ((i e : ℕ) → e < exitsOf i → u i ≡ false → p (exitPlace i e) ≡ false) → count (exitPlaces (count m u)) q ≡ count (exitPlaces m) p
-count-moved m u p q z alarm stays none =
+count-moved m u p q alarm stays none =
     count-add entries (count m u * exits) q
     ∙ ap₂ _+_
     (count-ext entries _ _

@@ -207,7 +207,7 @@ pub fn exits_of(i: usize) -> usize
     if i == 0 { EXITS + ENTRIES } else { EXITS }
 }
 
-// The places of the exits of the entries, which stand first, and of all exits of the steps below n, four for each step.
+// How many places the exits of the steps below n have: those of the entries, which stand first, and four for each step.
 pub fn exit_places(n: usize) -> usize
     requires { ⌜ n ≤ places ⌝ }
     ensures { λ r. ⌜ r ≡ exitPlaces n ⌝ }
