@@ -62,7 +62,9 @@ shares-charges capacity steps quotas g n = both (withinLimits quotas g)
     fits =
         let sum = shares-total quotas g in
         same-test _ _
-        (λ h. let l = ltb-true (total cabinCount (share quotas g)) capacity h in and-intro (le-leb steps capacity (omega arith)) (le-leb (total cabinCount (unmet quotas g)) (capacity - steps) (omega arith)))
+        (λ h.
+        let l = ltb-true (total cabinCount (share quotas g)) capacity h in
+        and-intro (le-leb steps capacity (omega arith)) (le-leb (total cabinCount (unmet quotas g)) (capacity - steps) (omega arith)))
         (λ h.
         let a = leb-true steps capacity (and-left (leb steps capacity) _ h) in
         let b = leb-true (total cabinCount (unmet quotas g)) (capacity - steps) (and-right (leb steps capacity) _ h) in

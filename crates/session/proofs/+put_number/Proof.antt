@@ -89,8 +89,10 @@ put-number-returns-2 : (t : ℕ) → put-number-lts.Need-returns-2 (
 put-number-returns-2 t c =
     let k = c .before .before .before .before .before .before in
     let b = k .before .before .before .before .args in
+    let tens = k .put-number .ensures in
+    let ones = c .before .before .put-digit2 .ensures in
     rw (spelled-more _ (k .before .before .if1 .left))
-    (stored-more (b .out .now) (b .at) (spelled (b .n / 10)) (digit (b .n % 10) ∷ []) (k .put-number .ensures .1) (k .put-number .ensures .0) (c .before .before .put-digit2 .ensures .1) (c .before .before .put-digit2 .ensures .0))
+    (stored-more (b .out .now) (b .at) (spelled (b .n / 10)) (digit (b .n % 10) ∷ []) (tens .1) (tens .0) (ones .1) (ones .0))
 
 pub +put-number-spec : {M : Type 1} → statement M
 +put-number-spec = close μ-put-number λ t. put-number-lts.spec (

@@ -68,35 +68,54 @@ cabin-next c k n x e g =
     (next, rw next (omega (arith, count-le (l .loop .i + 1) (hasCabin t k), c .before .before .before .before .before .loop-test .taken)))
 
 add-0 : tie.Need-add-c0 Inv-loop μ-loop
-add-0 c = omega (arith, cabin-next (c .before .before) 0 _ _ (c .before .before .before .before .before .before .before .before .loop .inv .2) (c .step-of-cabin .ensures) .1)
+add-0 c =
+    let read = c .before .before in
+    omega (arith, cabin-next read 0 _ _ (read .before .before .before .before .before .before .loop .inv .2) (c .step-of-cabin .ensures) .1)
 
 add-1 : tie.Need-add-c1 Inv-loop μ-loop
-add-1 c = omega (arith, cabin-next (c .before .before .before) 1 _ _ (c .before .before .before .before .before .before .before .before .before .loop .inv .3) (c .step-of-cabin2 .ensures) .1)
+add-1 c =
+    let read = c .before .before .before in
+    omega (arith, cabin-next read 1 _ _ (read .before .before .before .before .before .before .loop .inv .3) (c .step-of-cabin2 .ensures) .1)
 
 add-2 : tie.Need-add-c2 Inv-loop μ-loop
-add-2 c = omega (arith, cabin-next (c .before .before .before .before) 2 _ _ (c .before .before .before .before .before .before .before .before .before .before .loop .inv .4) (c .step-of-cabin3 .ensures) .1)
+add-2 c =
+    let read = c .before .before .before .before in
+    omega (arith, cabin-next read 2 _ _ (read .before .before .before .before .before .before .loop .inv .4) (c .step-of-cabin3 .ensures) .1)
 
 add-3 : tie.Need-add-c3 Inv-loop μ-loop
-add-3 c = omega (arith, cabin-next (c .before .before .before .before .before) 3 _ _ (c .before .before .before .before .before .before .before .before .before .before .before .loop .inv .5) (c .step-of-cabin4 .ensures) .1)
+add-3 c =
+    let read = c .before .before .before .before .before in
+    omega (arith, cabin-next read 3 _ _ (read .before .before .before .before .before .before .loop .inv .5) (c .step-of-cabin4 .ensures) .1)
 
 add-4 : tie.Need-add-c4 Inv-loop μ-loop
-add-4 c = omega (arith, cabin-next (c .before .before .before .before .before .before) 4 _ _ (c .before .before .before .before .before .before .before .before .before .before .before .before .loop .inv .6) (c .step-of-cabin5 .ensures) .1)
+add-4 c =
+    let read = c .before .before .before .before .before .before in
+    omega (arith, cabin-next read 4 _ _ (read .before .before .before .before .before .before .loop .inv .6) (c .step-of-cabin5 .ensures) .1)
 
 add-5 : tie.Need-add-c5 Inv-loop μ-loop
-add-5 c = omega (arith, cabin-next (c .before .before .before .before .before .before .before) 5 _ _ (c .before .before .before .before .before .before .before .before .before .before .before .before .before .loop .inv .7) (c .step-of-cabin6 .ensures) .1)
+add-5 c =
+    let read = c .before .before .before .before .before .before .before in
+    omega (arith, cabin-next read 5 _ _ (read .before .before .before .before .before .before .loop .inv .7) (c .step-of-cabin6 .ensures) .1)
 
 add-6 : tie.Need-add-c6 Inv-loop μ-loop
-add-6 c = omega (arith, cabin-next (c .before .before .before .before .before .before .before .before) 6 _ _ (c .before .before .before .before .before .before .before .before .before .before .before .before .before .before .loop .inv .8) (c .step-of-cabin7 .ensures) .1)
+add-6 c =
+    let read = c .before .before .before .before .before .before .before .before in
+    omega (arith, cabin-next read 6 _ _ (read .before .before .before .before .before .before .loop .inv .8) (c .step-of-cabin7 .ensures) .1)
 
 add-7 : tie.Need-add-c7 Inv-loop μ-loop
-add-7 c = omega (arith, cabin-next (c .before .before .before .before .before .before .before .before .before) 7 _ _ (c .before .before .before .before .before .before .before .before .before .before .before .before .before .before .before .loop .inv .9) (c .step-of-cabin8 .ensures) .1)
+add-7 c =
+    let read = c .before .before .before .before .before .before .before .before .before in
+    omega (arith, cabin-next read 7 _ _ (read .before .before .before .before .before .before .loop .inv .9) (c .step-of-cabin8 .ensures) .1)
 
 next-fault : (c : tie.After-step-fault Inv-loop μ-loop) →
     let l = c .before .before .before .before .before .before .before in
     l .loop .n + c .step-fault .result ≡ faults (l .loop .i + 1) (fieldsAt (tableOf (l .before .args .t .now)))
 next-fault c =
     let l = c .before .before .before .before .before .before .before in
-    fault-next _ _ _ _ _ _ _ _ _ (l .loop .inv .1) (c .before .before .before .before .before .used-at .ensures) (c .before .before .before .before .kind-at .ensures) (c .before .before .before .content-at .ensures)
+    fault-next _ _ _ _ _ _ _ _ _ (l .loop .inv .1)
+    (c .before .before .before .before .before .used-at .ensures)
+    (c .before .before .before .before .kind-at .ensures)
+    (c .before .before .before .content-at .ensures)
     (c .before .before .own-at .ensures)
     (c .before .cabin-at .ensures)
     (c .step-fault .ensures)

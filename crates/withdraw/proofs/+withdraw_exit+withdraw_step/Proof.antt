@@ -177,7 +177,8 @@ withdraw-exit-returns-3 t c =
     let own = w .wide2 .ensures ∙ c .before .before .before .if4 .taken ∙ c .before .before .before .before .own-at .ensures in
     let last = c .before .before .before .before .before .if3 .taken in
     let s = start t w in
-    withdrawn-mark _ (start t w .pre .1 .2) _ _ (aim t (aimed t w)) (some t w) _ (bit t w) _ _ last own (exit-place-below _ _ places (s .pre .1 .1) (s .pre .1 .0)) (s .pre .1 .3) _ _ (c .withdraw-step .ensures)
+    withdrawn-mark _ (start t w .pre .1 .2) _ _ (aim t (aimed t w)) (some t w) _ (bit t w) _ _ last own
+    (exit-place-below _ _ places (s .pre .1 .1) (s .pre .1 .0)) (s .pre .1 .3) _ _ (c .withdraw-step .ensures)
 
 withdraw-exit-returns-4 : (t : ℕ) → withdraw-exit-lts.Need-returns-4 (exit-claims t) (withdraw-exit-at t) withdraw-exit.Post
 unfolding counterPlace
