@@ -149,7 +149,7 @@ pub fn counts(t: &[u16; WORDS]) -> Answer
     if refusal != 0 {
         return Answer::Refused(refusal);
     }
-    let n = edits::count_used(t);
+    let n = steps::count_used(t);
     Answer::Given(n, words::capacity(t) - n)
 }
 

@@ -123,7 +123,7 @@ pub fn start(t: &mut [u16; WORDS])
     ensures { λ _. ⌜ ((line : List ℕ) → stateOf (now (t .exit)) line 0 ≡ firstState) ⌝ }
 {
     let quotas = cabins::sole_quotas(CAPACITY);
-    edits::fresh_table(t, CAPACITY, &quotas);
+    steps::fresh_table(t, CAPACITY, &quotas);
 }
 
 // A block of input, with `kept` bytes of the line begun: the lines ended in it are called on the table, and the lines that answer them put at the
