@@ -1,4 +1,4 @@
-// The calls fresh, read, add and link on a lent table (document 01, "Calls"; document 02, W5).
+// The calls fresh, read, add, link and counts on a lent table (document 01, "Calls", "Keys"; document 02, W5).
 ghost use mathlib.Core.Path.{_≡_};
 ghost use mathlib.Core.Bool.{not};
 ghost use Prim.Native.Nat.{_≤_, _<_};
@@ -6,6 +6,7 @@ ghost use Rattle.table.specs.Table.{places, inUse};
 ghost use Rattle.table.specs.Sound.{Sound};
 ghost use Rattle.table.specs.Calls.{freshCall, after, numberGiven, addRefusal, addCall, linkRefusal, linkCall, readRefusal, readCall};
 ghost use Rattle.words.specs.Words.{tableOf, wordsOf};
+ghost use Rattle.keyline.specs.Keys.{countsCall};
 ghost use Rattle.edits.specs.Refusals.{stepRefusal};
 use table::Answer;
 use table::Reading;
@@ -189,4 +190,16 @@ pub fn link(t: &mut [u16; WORDS], source: u16, from: u16, second: u16, into: u16
     let weak = 1 - own;
     words::relink(t, wide(second), wide(into), j, weak);
     Answer::Given(0, 0)
+}
+
+// The spoken counts: steps in use, and free ones. A table that is not sound gets refusal 1.
+pub fn counts(t: &[u16; WORDS]) -> Answer
+    ensures { λ r. ⌜ r ≡ countsCall (tableOf (now (t .entry))) .answer ⌝ }
+{
+    let refusal = soundness::table_refusal(t);
+    if refusal != 0 {
+        return Answer::Refused(refusal);
+    }
+    let n = steps::count_used(t);
+    Answer::Given(n, words::capacity(t) - n)
 }

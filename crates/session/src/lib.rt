@@ -95,7 +95,7 @@ fn end_line(t: &mut [u16; WORDS], line: &[u8], out: &mut [u8], at: usize) -> usi
     ensures room { λ r. ⌜ r ≤ at + 18 ⌝ }
 {
     words::sized(t);
-    let answer = keylines::key_line(t, line);
+    let answer = keying::key_line(t, line);
     put_answer(out, at, answer)
 }
 

@@ -1,12 +1,12 @@
--- `keylines::decimal` meets its contract. The loop's invariant: the first `i` digits spell the value. The measure is the number of digits left.
+-- `keying::decimal` meets its contract. The loop's invariant: the first `i` digits spell the value. The measure is the number of digits left.
 -- Assumes nothing.
 use mathlib.Core.Path.{_≡_, refl, _∙_, ap}
 use Prim.Native.Nat.{_-_, _≤_}
 use native.Mathlib.Omega.{arith}
 use Rattle.keyline.specs.Keys.{decimal as spells}
-use Rattle.keylines.proofs.Laws.{digit-low, decimal-more, decimal-fits}
-use Rattle.keylines.proofs.decimal.Statement.{statement}
-use Rattle.keylines.proofs.decimal.Tie as tie
+use Rattle.keying.proofs.Laws.{digit-low, decimal-more, decimal-fits}
+use Rattle.keying.proofs.decimal.Statement.{statement}
+use Rattle.keying.proofs.decimal.Tie as tie
 
 abbrev Inv-loop : tie.InvT-loop
 Inv-loop line from w value₀ i₀ value i = (i ≤ w) × (value ≡ spells line from i)

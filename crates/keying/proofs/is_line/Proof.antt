@@ -1,13 +1,13 @@
--- `keylines::is_line` meets its contract: the tests are those of the definition, in its order. Assumes nothing.
+-- `keying::is_line` meets its contract: the tests are those of the definition, in its order. Assumes nothing.
 use mathlib.Core.Path.{sym, _∙_}
 use Prim.Native.Nat.{_+_}
 use native.Mathlib.Omega.{arith}
 use lib.ListN.{length}
 use borrow.Author.Tests.{ne-eqb, not-true, not-false}
 use borrow.Author.Needs.{needs}
-use Rattle.keylines.proofs.Laws.{not-line, line-last}
-use Rattle.keylines.proofs.is_line.Statement.{statement}
-use Rattle.keylines.proofs.is_line.Tie as tie
+use Rattle.keying.proofs.Laws.{not-line, line-last}
+use Rattle.keying.proofs.is_line.Statement.{statement}
+use Rattle.keying.proofs.is_line.Tie as tie
 
 returns : tie.Need-returns
 returns c =

@@ -1,8 +1,8 @@
--- `keylines::is_digit` meets its contract. Assumes nothing.
+-- `keying::is_digit` meets its contract. Assumes nothing.
 use borrow.Author.Tests.{le-leb, lt-leb}
 use Rattle.keyline.specs.Keys.{isDigit}
-use Rattle.keylines.proofs.is_digit.Statement.{statement}
-use Rattle.keylines.proofs.is_digit.Tie as tie
+use Rattle.keying.proofs.is_digit.Statement.{statement}
+use Rattle.keying.proofs.is_digit.Tie as tie
 
 returns : tie.Need-returns
 unfolding isDigit

@@ -5,7 +5,7 @@ ghost use Prim.Native.Nat.{ℕ, _+_, _-_, _≤_, _<_};
 ghost use lib.ListN.{length, getD};
 ghost use Rattle.finite.specs.Below.{all};
 ghost use Rattle.words.specs.Words.{tableOf, wordsOf};
-ghost use Rattle.keyline.specs.Keys.{digit, isDigit, isLine, decimal, decode, countsCall, keyCall};
+ghost use Rattle.keyline.specs.Keys.{digit, isDigit, isLine, decimal, decode, keyCall};
 use keyline::Command;
 use keyline::Decoded;
 use table::Answer;
@@ -141,18 +141,6 @@ pub fn decode(line: &[u8]) -> Decoded
     Decoded::Nothing
 }
 
-// The spoken counts: steps in use, and free ones. A table that is not sound gets refusal 1.
-pub fn counts(t: &[u16; WORDS]) -> Answer
-    ensures { λ r. ⌜ r ≡ countsCall (tableOf (now (t .entry))) .answer ⌝ }
-{
-    let refusal = soundness::table_refusal(t);
-    if refusal != 0 {
-        return Answer::Refused(refusal);
-    }
-    let n = steps::count_used(t);
-    Answer::Given(n, words::capacity(t) - n)
-}
-
 // The call of a key line: the answer and the table of the call that it makes, or refusal 9. The line is decoded first; each call tests the table
 // itself, so that it is tested once.
 pub fn key_line(t: &mut [u16; WORDS], line: &[u8]) -> Answer
@@ -173,6 +161,6 @@ pub fn key_line(t: &mut [u16; WORDS], line: &[u8]) -> Answer
         }
         Command::Link(source, exit, second, other) => edits::link(t, source, exit, second, other),
         Command::Clear(step, exit) => clearing::clear(t, step, exit),
-        Command::Count => counts(t),
+        Command::Count => edits::counts(t),
     }
 }

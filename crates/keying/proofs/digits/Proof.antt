@@ -1,4 +1,4 @@
--- `keylines::digits` meets its contract. The loop's invariant: the `i` bytes from the place on are digits. The measure is the number of bytes
+-- `keying::digits` meets its contract. The loop's invariant: the `i` bytes from the place on are digits. The measure is the number of bytes
 -- left. Assumes nothing.
 use mathlib.Core.Path.{_≡_, sym, _∙_, ap}
 use mathlib.Core.Bool.{true}
@@ -8,9 +8,9 @@ use borrow.Author.Needs.{needs}
 use borrow.Author.Tests.{not-true, not-false}
 use Rattle.finite.specs.Below.{all}
 use Rattle.finite.proofs.Loops.{all-none, all-more, all-fails}
-use Rattle.keylines.proofs.Laws.{spelt}
-use Rattle.keylines.proofs.digits.Statement.{statement}
-use Rattle.keylines.proofs.digits.Tie as tie
+use Rattle.keying.proofs.Laws.{spelt}
+use Rattle.keying.proofs.digits.Statement.{statement}
+use Rattle.keying.proofs.digits.Tie as tie
 
 abbrev Inv-loop : tie.InvT-loop
 Inv-loop line from n i₀ i = (i ≤ n) × (all i (spelt line from) ≡ true)

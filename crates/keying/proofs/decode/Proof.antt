@@ -1,13 +1,13 @@
--- `keylines::decode` meets its contract: the forms are tried in the definition's order, and the digits of a form that fits spell its numbers.
+-- `keying::decode` meets its contract: the forms are tried in the definition's order, and the digits of a form that fits spell its numbers.
 -- Assumes nothing.
 use mathlib.Core.Path.{_≡_, sym, _∙_}
 use mathlib.Core.Bool.{true, false}
 use native.Mathlib.Omega.{arith}
 use borrow.Author.Needs.{needs}
 use Rattle.keyline.specs.Keys.{isLine}
-use Rattle.keylines.proofs.Laws.{line-spells, decode-add, decode-link, decode-clear, decode-count, decode-nothing}
-use Rattle.keylines.proofs.decode.Statement.{statement}
-use Rattle.keylines.proofs.decode.Tie as tie
+use Rattle.keying.proofs.Laws.{line-spells, decode-add, decode-link, decode-clear, decode-count, decode-nothing}
+use Rattle.keying.proofs.decode.Statement.{statement}
+use Rattle.keying.proofs.decode.Tie as tie
 
 -- where a branch begins: the form that fits, and the one that does not
 adds : (c : tie.Then1) → isLine (c .before .before .before .args .line .now) 1 8 ≡ true

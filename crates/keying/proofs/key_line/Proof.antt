@@ -1,4 +1,4 @@
--- `keylines::key_line` meets its contract: where the line is decoded to nothing, refusal 1 or 9; for a command the call that it names.
+-- `keying::key_line` meets its contract: where the line is decoded to nothing, refusal 1 or 9; for a command the call that it names.
 -- Assumes nothing.
 use mathlib.Core.Path.{_≡_, sym, _∙_, ap}
 use mathlib.Core.List.{List}
@@ -11,10 +11,10 @@ use Rattle.words.proofs.Laws.{words-table}
 use Rattle.keyline.specs.declared.Command.{Command}
 use Rattle.keyline.specs.declared.Decoded.the-variants.{Line}
 use Rattle.keyline.specs.Keys.{decode}
-use Rattle.keylines.proofs.Laws.{nothing-unsound, nothing-sound, nothing-table, key-add, key-link, key-clear, key-count, counts-table}
+use Rattle.keying.proofs.Laws.{nothing-unsound, nothing-sound, nothing-table, key-add, key-link, key-clear, key-count, counts-table}
 use borrow.Author.Needs.{needs}
-use Rattle.keylines.proofs.key_line.Statement.{statement}
-use Rattle.keylines.proofs.key_line.Tie as tie
+use Rattle.keying.proofs.key_line.Statement.{statement}
+use Rattle.keying.proofs.key_line.Tie as tie
 
 -- the answer and the words of a call are those of the same call by another name
 same : {a : Answer} {v : List ℕ} {o p : Outcome} → (a ≡ o .answer) × (v ≡ wordsOf (o .table)) → o ≡ p → (a ≡ p .answer) × (v ≡ wordsOf (p .table))

@@ -17,14 +17,14 @@ use borrow.Author.Tests.{leb-true, eqb-true, eq-eqb, ne-eqb}
 use Rattle.finite.specs.Below.{all}
 use Rattle.finite.proofs.Bools.{and-left, and-right, clash, refute, passes-at, test}
 use Rattle.finite.proofs.Below.{all-at}
-use Rattle.table.specs.declared.Answer.the-variants.{Refused, Given}
-use Rattle.table.specs.Table.{Table, stepsInUse}
+use Rattle.table.specs.declared.Answer.the-variants.{Refused}
+use Rattle.table.specs.Table.{Table}
 use Rattle.table.specs.Sound.{Shape, Sound, sound}
 use Rattle.table.specs.Answer.{Outcome, notSound, notKeyLine, first, unless}
 use Rattle.table.specs.Calls.{tableTests, addRefusal, addCall, linkRefusal, linkCall}
 use Rattle.table.specs.Clear.{clearRefusal, clearCall}
-use Rattle.table.proofs.Sound.{test-sound}
 use Rattle.table.proofs.Calls.{add-fits, link-fits, clear-fits, add-sound, link-sound, clear-cleared}
+use Rattle.words.proofs.Refusals.{table-passed}
 use Rattle.keyline.specs.declared.Command.the-variants.{Add, Link, Clear, Count}
 use Rattle.keyline.specs.declared.Decoded.{Decoded}
 use Rattle.keyline.specs.declared.Decoded.the-variants.{Line, Nothing}
@@ -201,22 +201,6 @@ pub counts-table : (t : Table) → countsCall t .table ≡ t
 unfolding countsCall spokenCounts
 counts-table t = table-kept (first (tableTests t)) t (spokenCounts t) refl
 
--- the counts of a table: 1, else the steps in use and the free ones
-module _ (t : Table) where
-  pub counts-unsound : (first (tableTests t) ≡ 0 → ⊥) → Refused (first (tableTests t)) ≡ countsCall t .answer
-  unfolding countsCall unless
-  counts-unsound d = rw (ne-eqb (first (tableTests t)) 0 d)
-
-  pub counts-sound : first (tableTests t) ≡ 0 → Given (stepsInUse t) (t .capacity - stepsInUse t) ≡ countsCall t .answer
-  unfolding countsCall spokenCounts unless
-  counts-sound z = rw (eq-eqb (first (tableTests t)) 0 z)
-
-  -- the steps in use of a table that passes the test are below its capacity, which is in range
-  pub passes-sound : first (tableTests t) ≡ 0 → sound t ≡ true
-  unfolding first
-  passes-sound z =
-      ⊎-elim (λ (h : sound t ≡ true). h) (λ (h : sound t ≡ false). absurd (omega (arith, rw h at z))) (test (sound t))
-
 -- the arrays of a table keep their lengths, whatever the line says
 shape-unless : (n : ℕ) (t : Table) (o : Outcome) → Shape t → (n ≡ 0 → Shape (o .table)) → Shape (unless n t o .table)
 unfolding unless
@@ -238,4 +222,4 @@ shape-performed t s (Line Count) = s .shape
 pub key-shape : (t : Table) (bs : List ℕ) → Shape t → Shape (keyCall t bs .table)
 unfolding keyCall
 key-shape t bs s =
-    shape-unless (first (tableTests t)) t _ s (λ z. shape-performed t (test-sound t (passes-sound t z)) (decode bs))
+    shape-unless (first (tableTests t)) t _ s (λ z. shape-performed t (table-passed t z) (decode bs))
