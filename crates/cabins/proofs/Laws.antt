@@ -23,7 +23,7 @@ use Rattle.table.specs.Sound.{Sound}
 use Rattle.table.specs.Answer.{cabinAtLimit, stepsReserved, first}
 use Rattle.table.proofs.Formed.{sound-formed}
 use Rattle.table.proofs.Cabins.{formed-charges}
-use Rattle.cabins.specs.Parts.{given, share, sharesFit, shareRefusal}
+use Rattle.cabins.specs.Shares.{given, share, sharesFit, shareRefusal}
 
 pub list-quotas : (capacity : ℕ) (quotas : List ℕ) → length quotas ≡ quotaNumbers → quotasFit capacity quotas ≡ listFits capacity quotas
 unfolding listFits

@@ -1,2 +1,2 @@
 -- Quotas and charges in code: what the functions give back.
-pub mod Parts
+pub mod Shares

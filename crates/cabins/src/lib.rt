@@ -5,7 +5,7 @@ ghost use Rattle.finite.specs.Below.{total};
 ghost use Rattle.table.specs.Table.{cabinCount};
 ghost use Rattle.table.specs.Cabins.{guaranteeOf, limitOf, quotasFit, soleQuotas, withinLimits};
 ghost use Rattle.words.specs.Words.{tableOf};
-ghost use Rattle.cabins.specs.Parts.{given, share, sharesFit, shareRefusal};
+ghost use Rattle.cabins.specs.Shares.{given, share, sharesFit, shareRefusal};
 use words::CABINS;
 use words::QUOTAS;
 use words::WORDS;

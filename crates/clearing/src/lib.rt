@@ -5,7 +5,7 @@ ghost use mathlib.Core.List.{_++_};
 ghost use Prim.Native.Nat.{_≤_};
 ghost use lib.ListN.{length, drop};
 ghost use Rattle.table.specs.Sound.{Sound};
-ghost use Rattle.table.specs.Clear.{stops, repaired, cleared, clearCall};
+ghost use Rattle.table.specs.Clear.{stops, repaired, cleared, clearRefusal, clearCall};
 ghost use Rattle.table.specs.Preview.{wouldGo, previewRoom, previewCall};
 ghost use Rattle.table.proofs.Calls.{ClearFits};
 ghost use Rattle.words.specs.Words.{tableOf, wordsOf, Becomes};
@@ -18,6 +18,7 @@ use words::WORDS;
 const PREVIEW_ROOM: usize = 127;
 
 // Rule 1: whether a clearing of exit e of step i, which holds a link, goes on: the link is strong, and its target has no other strong link.
+// This is the test of `DeletePtr` in source paper 001.
 fn goes_on(t: &[u16; WORDS], i: usize, e: usize) -> bool
     requires { ⌜ Sound (tableOf (now t)) × ClearFits (tableOf (now t)) i e ⌝ }
     ensures { λ r. ⌜ r ≡ not (stops (tableOf (now (t .entry))) i e) ⌝ }
@@ -88,6 +89,17 @@ fn preview_exit(t: &[u16; WORDS], i: usize, e: usize, buffer: &mut [u8]) -> Answ
     Answer::Given(doubts, freed)
 }
 
+// The refusal of a clearing, in its order, or 0.
+pub fn clear_refusal(t: &[u16; WORDS], step: u16, exit: u16) -> u16
+    ensures { λ r. ⌜ r ≡ clearRefusal (tableOf (now (t .entry))) step exit ⌝ }
+{
+    let unsound = soundness::table_refusal(t);
+    if unsound != 0 {
+        return unsound;
+    }
+    steps::hold_refusal(t, step, exit)
+}
+
 // Clears an exit: the link in it is taken out, and the steps that nothing leads to any more are freed. The answer counts the steps that were
 // doubtful and those that were freed. A refused one leaves the table as it was.
 pub fn clear(t: &mut [u16; WORDS], step: u16, exit: u16) -> Answer
@@ -95,7 +107,7 @@ pub fn clear(t: &mut [u16; WORDS], step: u16, exit: u16) -> Answer
     ensures table { λ r. ⌜ now (t .exit) ≡ wordsOf (clearCall (tableOf (now (t .entry))) step exit .table) ⌝ }
 {
     words::sized(t);
-    let refusal = edits::clear_refusal(t, step, exit);
+    let refusal = clear_refusal(t, step, exit);
     if refusal != 0 {
         return Answer::Refused(refusal);
     }
@@ -108,7 +120,7 @@ pub fn preview_clear(t: &[u16; WORDS], step: u16, exit: u16, buffer: &mut [u8]) 
     ensures answer { λ r. ⌜ r ≡ previewCall (tableOf (now (t .entry))) step exit (now (buffer .entry)) .answer ⌝ }
     ensures written { λ r. ⌜ now (buffer .exit) ≡ previewCall (tableOf (now (t .entry))) step exit (now (buffer .entry)) .buffer ⌝ }
 {
-    let stopped = edits::clear_refusal(t, step, exit);
+    let stopped = clear_refusal(t, step, exit);
     if stopped != 0 {
         return Answer::Refused(stopped);
     }

@@ -1,2 +1,2 @@
 -- Definitions.
-pub mod Parts
+pub mod Refusals

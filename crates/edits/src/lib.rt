@@ -1,49 +1,25 @@
-// The calls fresh, read, add and link on a lent table (document 01, "Calls"; document 02, W5), and what the other calls ask of a step and its exit.
+// The calls fresh, read, add, link and counts on a lent table (document 01, "Calls", "Keys"; document 02, W5).
 ghost use mathlib.Core.Path.{_≡_};
 ghost use mathlib.Core.Bool.{not};
 ghost use Prim.Native.Nat.{_≤_, _<_};
-ghost use Rattle.table.specs.Table.{places, inUse, stepsInUse};
+ghost use Rattle.table.specs.Table.{places, inUse};
 ghost use Rattle.table.specs.Sound.{Sound};
-ghost use Rattle.table.specs.Calls.{freshTable, refusedTable, freshCall, after, numberGiven, addRefusal, addCall, linkRefusal, linkCall, fieldsOf, noFields, readRefusal, readCall};
-ghost use Rattle.table.specs.Clear.{clearRefusal};
+ghost use Rattle.table.specs.Calls.{freshCall, after, numberGiven, addRefusal, addCall, linkRefusal, linkCall, readRefusal, readCall};
 ghost use Rattle.words.specs.Words.{tableOf, wordsOf};
-ghost use Rattle.edits.specs.Parts.{exitRefusal, stepRefusal};
+ghost use Rattle.keyline.specs.Keys.{countsCall};
+ghost use Rattle.edits.specs.Refusals.{stepRefusal};
 use table::Answer;
-use table::Fields;
 use table::Reading;
 use words::BAD_CABINS;
 use words::BAD_CAPACITY;
-use words::BAD_EXIT;
 use words::BAD_KIND;
 use words::CABINS;
-use words::COUNTERS;
-use words::EXIT_EMPTY;
-use words::EXIT_FILLED;
-use words::EXITS;
 use words::FULL;
 use words::NOT_IN_USE;
 use words::NOT_SOUND;
-use words::PLACES;
 use words::QUOTAS;
 use words::WORDS;
 use words::wide;
-
-// A table of that capacity with step 0 alone in use, all bits 0, last number 0 and these quotas.
-pub fn fresh_table(t: &mut [u16; WORDS], capacity: u16, quotas: &[u16; QUOTAS])
-    ensures { λ r. ⌜ now (t .exit) ≡ wordsOf (freshTable capacity (now (quotas .entry))) ⌝ }
-{
-    words::erase(t, capacity, 0);
-    words::put_quotas(t, quotas);
-    words::put_step(t, 0, 1, 0, 0, 0, 0);
-}
-
-// What a refused fresh or load leaves: a fresh table of capacity 1.
-pub fn refused_table(t: &mut [u16; WORDS])
-    ensures { λ r. ⌜ now (t .exit) ≡ wordsOf refusedTable ⌝ }
-{
-    let quotas = cabins::sole_quotas(1);
-    fresh_table(t, 1, &quotas);
-}
 
 // Fresh: a table of the capacity and with the quotas asked for, or refusal 2 or 16 and a table of capacity 1.
 pub fn fresh(t: &mut [u16; WORDS], capacity: u16, quotas: &[u16; QUOTAS]) -> Answer
@@ -52,106 +28,15 @@ pub fn fresh(t: &mut [u16; WORDS], capacity: u16, quotas: &[u16; QUOTAS]) -> Ans
 {
     words::listed(quotas);
     if !soundness::capacity_fits(capacity) {
-        refused_table(t);
+        steps::refused_table(t);
         return Answer::Refused(BAD_CAPACITY);
     }
     if !cabins::quotas_fit(capacity, quotas) {
-        refused_table(t);
+        steps::refused_table(t);
         return Answer::Refused(BAD_CABINS);
     }
-    fresh_table(t, capacity, quotas);
+    steps::fresh_table(t, capacity, quotas);
     Answer::Given(0, 0)
-}
-
-// Whether a step is in use; no number at or above 128 is one.
-fn in_use(t: &[u16; WORDS], step: u16) -> bool
-    ensures { λ r. ⌜ r ≡ inUse (tableOf (now (t .entry))) step ⌝ }
-{
-    words::sized(t);
-    let i = wide(step);
-    if PLACES <= i {
-        return false;
-    }
-    words::in_use(t, i)
-}
-
-// The refusal of a step that is not in use, then of an exit above 3, or 0: what add, link and clear ask of a step and its exit.
-pub fn exit_refusal(t: &[u16; WORDS], step: u16, exit: u16) -> u16
-    ensures { λ r. ⌜ r ≡ exitRefusal (tableOf (now (t .entry))) step exit ⌝ }
-{
-    if !in_use(t, step) {
-        return NOT_IN_USE;
-    }
-    if EXITS <= wide(exit) {
-        return BAD_EXIT;
-    }
-    0
-}
-
-// The refusal of a clearing, or 0; link asks the same of its source.
-pub fn clear_refusal(t: &[u16; WORDS], step: u16, exit: u16) -> u16
-    ensures { λ r. ⌜ r ≡ clearRefusal (tableOf (now (t .entry))) step exit ⌝ }
-{
-    let unsound = soundness::table_refusal(t);
-    if unsound != 0 {
-        return unsound;
-    }
-    let refusal = exit_refusal(t, step, exit);
-    if refusal != 0 {
-        return refusal;
-    }
-    if words::target_at(t, wide(step), wide(exit)) == 0 {
-        return EXIT_EMPTY;
-    }
-    0
-}
-
-// All fields of step i.
-pub fn fields_of(t: &[u16; WORDS], i: usize) -> Fields
-    requires { ⌜ i < places ⌝ }
-    ensures { λ r. ⌜ r ≡ fieldsOf (tableOf (now (t .entry))) i ⌝ }
-{
-    let kind = words::kind_at(t, i);
-    let content = words::content_at(t, i);
-    let own = words::own_at(t, i);
-    let targets = [
-        words::target_at(t, i, 0),
-        words::target_at(t, i, 1),
-        words::target_at(t, i, 2),
-        words::target_at(t, i, 3),
-    ];
-    let bits = [
-        words::bit_at(t, i, 0),
-        words::bit_at(t, i, 1),
-        words::bit_at(t, i, 2),
-        words::bit_at(t, i, 3),
-    ];
-    let counts = [words::counter_at(t, i, 0), words::counter_at(t, i, 1)];
-    let cabin = words::cabin_at(t, i);
-    Fields {
-        kind,
-        content,
-        own,
-        targets,
-        bits,
-        counts,
-        cabin,
-    }
-}
-
-// The fields of a free step: all zero or empty.
-pub fn no_fields() -> Fields
-    ensures { λ r. ⌜ r ≡ noFields ⌝ }
-{
-    Fields {
-        kind: 0,
-        content: 0,
-        own: 0,
-        targets: [0u16; EXITS],
-        bits: [0u16; EXITS],
-        counts: [0u16; COUNTERS],
-        cabin: 0,
-    }
 }
 
 // The refusal of read, in its order, or 0.
@@ -162,7 +47,7 @@ fn read_refusal(t: &[u16; WORDS], step: u16) -> u16
     if refusal != 0 {
         return refusal;
     }
-    if !in_use(t, step) {
+    if !steps::in_use(t, step) {
         return NOT_IN_USE;
     }
     0
@@ -176,29 +61,11 @@ pub fn read(t: &[u16; WORDS], step: u16) -> Reading
     if refusal != 0 {
         return Reading {
             refusal,
-            fields: no_fields(),
+            fields: steps::no_fields(),
         };
     }
-    let fields = fields_of(t, wide(step));
+    let fields = steps::fields_of(t, wide(step));
     Reading { refusal, fields }
-}
-
-// How many steps are in use.
-pub fn count_used(t: &[u16; WORDS]) -> u16
-    requires { ⌜ tableOf (now t) .capacity ≤ places ⌝ }
-    ensures { λ r. ⌜ r ≡ stepsInUse (tableOf (now (t .entry))) ⌝ }
-{
-    let n = wide(words::capacity(t));
-    let mut i: usize = 0;
-    let mut found: u16 = 0;
-    // found is the number in use of the steps below i.
-    while i < n {
-        if words::in_use(t, i) {
-            found += 1;
-        }
-        i += 1;
-    }
-    found
 }
 
 // The number after k on the circle of the numbers from 1 to the capacity less 1.
@@ -235,17 +102,14 @@ fn step_refusal(t: &[u16; WORDS], holder: u16, exit: u16, kind: u16, content: u1
     requires { ⌜ Sound (tableOf (now t)) ⌝ }
     ensures { λ r. ⌜ r ≡ stepRefusal (tableOf (now (t .entry))) holder exit kind content ⌝ }
 {
-    let refusal = exit_refusal(t, holder, exit);
+    let refusal = steps::fill_refusal(t, holder, exit);
     if refusal != 0 {
         return refusal;
-    }
-    if words::target_at(t, wide(holder), wide(exit)) != 0 {
-        return EXIT_FILLED;
     }
     if !soundness::content_fits(kind, content) {
         return BAD_KIND;
     }
-    if count_used(t) == words::capacity(t) {
+    if steps::count_used(t) == words::capacity(t) {
         return FULL;
     }
     0
@@ -299,21 +163,19 @@ pub fn add(
 fn link_refusal(t: &[u16; WORDS], source: u16, from: u16, second: u16, into: u16) -> u16
     ensures { λ r. ⌜ r ≡ linkRefusal (tableOf (now (t .entry))) source from second into ⌝ }
 {
-    let refusal = clear_refusal(t, source, from);
+    let unsound = soundness::table_refusal(t);
+    if unsound != 0 {
+        return unsound;
+    }
+    let refusal = steps::hold_refusal(t, source, from);
     if refusal != 0 {
         return refusal;
     }
-    let refusal = exit_refusal(t, second, into);
-    if refusal != 0 {
-        return refusal;
-    }
-    if words::target_at(t, wide(second), wide(into)) != 0 {
-        return EXIT_FILLED;
-    }
-    0
+    steps::fill_refusal(t, second, into)
 }
 
 // Link: the target in exit `from` of the source is copied into exit `into` of the second step, always weak: with the bit that its target has not.
+// `CopyPtr` of source paper 001 does the same.
 pub fn link(t: &mut [u16; WORDS], source: u16, from: u16, second: u16, into: u16) -> Answer
     ensures answer { λ r. ⌜ r ≡ linkCall (tableOf (now (t .entry))) source from second into .answer ⌝ }
     ensures table { λ r. ⌜ now (t .exit) ≡ wordsOf (linkCall (tableOf (now (t .entry))) source from second into .table) ⌝ }
@@ -328,4 +190,16 @@ pub fn link(t: &mut [u16; WORDS], source: u16, from: u16, second: u16, into: u16
     let weak = 1 - own;
     words::relink(t, wide(second), wide(into), j, weak);
     Answer::Given(0, 0)
+}
+
+// The spoken counts: steps in use, and free ones. A table that is not sound gets refusal 1.
+pub fn counts(t: &[u16; WORDS]) -> Answer
+    ensures { λ r. ⌜ r ≡ countsCall (tableOf (now (t .entry))) .answer ⌝ }
+{
+    let refusal = soundness::table_refusal(t);
+    if refusal != 0 {
+        return Answer::Refused(refusal);
+    }
+    let n = steps::count_used(t);
+    Answer::Given(n, words::capacity(t) - n)
 }

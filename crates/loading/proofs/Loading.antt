@@ -29,8 +29,8 @@ use Rattle.image.specs.Image.{Edition, edition1, edition2, headerFieldCount, st
 use Rattle.image.proofs.Words.{image-next}
 use Rattle.image.proofs.Loaded.{test-accepted, accepted-test, accepted-capacity, record-below, record-number, said-record, said-none, has-record-any}
 use Rattle.records.specs.declared.StepRecord.{StepRecord}
-use Rattle.records.specs.Parts.{editionOf, added, recordFields, cabinAt, stepRead}
-use Rattle.loading.proofs.Counting.{zeros}
+use Rattle.records.specs.Records.{editionOf, added, recordFields, cabinAt, stepRead}
+use Rattle.recording.proofs.Counting.{zeros}
 use Rattle.loading.proofs.Stored.{latest, exitsTo, latest-keeps, latest-none, latest-at, mark-none, mark-some, stored-one, stored-four}
 use Rattle.records.proofs.Reading.{HeaderFits, HeaderSays, StepFits, StepSays, header-room, header-edition}
 
@@ -101,11 +101,11 @@ module _ (bs : List ℕ) where
         quotas = quotasIn bs;
       }
 
-  pub filled-none : (second : Bool) (capacity last at : ℕ) (t : Table) →
-      t ≡ withNumbers (blankTable capacity last) capacity last (quotasBy (editionOf second) bs) → HeaderSays bs second capacity last →
-      at ≡ recordSize (headerFieldCount (editionOf second)) → Filled bs t at
+  pub filled-none : (newer : Bool) (capacity last at : ℕ) (t : Table) →
+      t ≡ withNumbers (blankTable capacity last) capacity last (quotasBy (editionOf newer) bs) → HeaderSays bs newer capacity last →
+      at ≡ recordSize (headerFieldCount (editionOf newer)) → Filled bs t at
   unfolding stepPlace quotasIn
-  filled-none second capacity last at t e s h =
+  filled-none newer capacity last at t e s h =
       let v = header-edition s in
       let z : at ≡ recordSize (headerFieldCount (editionIn bs)) = h ∙ ap (λ (v : Edition). recordSize (headerFieldCount v)) v in
       record {

@@ -19,7 +19,7 @@ use Rattle.table.specs.Table.{Table}
 use Rattle.image.specs.Image.{recordSize}
 use Rattle.image.specs.Slip.{recordIn, changed, pairsBelow, recordLength}
 use Rattle.image.proofs.Slips.{length-record-in, length-pairs, pairs-split}
-use Rattle.writing.proofs.Writing.{part-back}
+use Rattle.records.proofs.Laws.{part-back}
 
 module _ (t u : Table) where
   abbrev pair : ℕ → List ℕ

@@ -9,8 +9,8 @@ ghost use Rattle.table.specs.Table.{places};
 ghost use Rattle.image.specs.Image.{edition2};
 ghost use Rattle.image.specs.Slip.{recordLength, recordIn, changed, pairsBelow};
 ghost use Rattle.words.specs.Words.{tableOf};
-ghost use Rattle.records.specs.Parts.{recordFields};
-ghost use Rattle.pairs.specs.Parts.{SoundPair};
+ghost use Rattle.records.specs.Records.{recordFields};
+ghost use Rattle.pairs.specs.SoundPair.{SoundPair};
 use records::StepRecord;
 use words::WORDS;
 
@@ -39,8 +39,8 @@ fn differs(t: &[u16; WORDS], u: &[u16; WORDS], i: usize) -> bool
     requires { ⌜ (i < places) × SoundPair (tableOf (now t)) (tableOf (now u)) ⌝ }
     ensures { λ r. ⌜ r ≡ changed (tableOf (now (t .entry))) (tableOf (now (u .entry))) i ⌝ }
 {
-    let old = writing::step_record(t, i);
-    let new = writing::step_record(u, i);
+    let old = recording::step_record(t, i);
+    let new = recording::step_record(u, i);
     !same_record(old, new)
 }
 
@@ -68,9 +68,9 @@ fn put_pair(part: &mut [u8], t: &[u16; WORDS], u: &[u16; WORDS], i: usize)
     ensures { λ _. ⌜ now (part .exit) ≡
         (recordIn (tableOf (now (t .entry))) i ++ recordIn (tableOf (now (u .entry))) i) ++ drop (2 * recordLength) (now (part .entry)) ⌝ }
 {
-    let old = writing::step_record(t, i);
+    let old = recording::step_record(t, i);
     records::put_step(part, true, old);
-    let new = writing::step_record(u, i);
+    let new = recording::step_record(u, i);
     records::put_step(&mut part[RECORD..], true, new);
 }
 

@@ -1,19 +1,20 @@
 -- Numbers put into bytes. Assumes nothing.
 --   put-word put-more   a number put at a place, and numbers put behind others
 --   put-record          the numbers of a record put at the start: size, kind and fields are those that it has to have
+--   part-back           bytes lent from a place on come back behind those before it
 --   header-length step-length   how many fields the records of an edition have; header-most step-most, how long they are
 use mathlib.Core.Path.{_≡_, refl, _∙_, ap}
-use mathlib.Core.List.{List, [], _∷_, _++_}
-use Prim.Native.Nat.{ℕ, suc, _+_, _*_, _/_, _%_, _≤_}
+use mathlib.Core.List.{List, [], _∷_, _++_, append-assoc, append-nil}
+use Prim.Native.Nat.{ℕ, suc, _+_, _-_, _*_, _/_, _%_, _≤_}
 use native.Mathlib.Numerals.{add-one}
 use native.Mathlib.Omega.{arith}
-use lib.ListN.{length, set, drop}
-use lib.Seq.{sets, sets-eq}
+use lib.ListN.{length, set, take, drop, length-append}
+use lib.Seq.{sets, sets-eq, take-all, take-at, drop-at, drop-length}
 use Rattle.table.specs.Table.{quotaNumbers}
 use Rattle.image.specs.Image.{Edition, edition1, edition2, headerFieldCount, stepFieldCount, word, words, recordSize, recordBytes}
 use Rattle.image.proofs.Words.{length-words}
 use Rattle.records.specs.declared.StepRecord.{StepRecord}
-use Rattle.records.specs.Parts.{putWords, added, recordFields}
+use Rattle.records.specs.Records.{putWords, added, recordFields}
 
 -- numbers put at the start
 put-eq : (bs : List ℕ) (ns : List ℕ) → 2 * length ns ≤ length bs → putWords bs 0 ns ≡ words ns ++ drop (2 * length ns) bs
@@ -75,3 +76,17 @@ unfolding putWords
 put-more bs at behind ms ns h p q =
     let z : behind ≡ at + length (words ms) = omega (arith, length-words ms) in
     q ∙ rw (p, z) (sets-append bs at (words ms) (words ns) ∙ ap (sets bs at) (words-append ms ns))
+
+-- bytes lent from a place on come back behind those before it
+pub part-back : (bytes front back new : List ℕ) (at n : ℕ) → bytes ≡ front ++ back → length front ≡ at → n ≤ length back →
+    take at bytes ++ ((new ++ drop n (take (length bytes - at) (drop at bytes))) ++ drop (length bytes - at) (drop at bytes))
+    ≡ (front ++ new) ++ drop n back
+part-back bytes front back new at n e l h =
+    let len : length bytes ≡ at + length back = ap length e ∙ length-append front back ∙ ap (λ (k : ℕ). k + length back) l in
+    let k : length bytes - at ≡ length back = omega arith in
+    let a : take at bytes ≡ front = ap (take at) e ∙ take-at front back at l in
+    let b : drop at bytes ≡ back = ap (drop at) e ∙ drop-at front back at l in
+    let c : take (length back) back ≡ back = take-all (length back) back (omega arith) in
+    let d : drop (length back) back ≡ [] = drop-length back in
+    let g : (new ++ drop n back) ++ [] ≡ new ++ drop n back = append-nil (new ++ drop n back) in
+    rw (a, k, b, c, d, g, append-assoc front new (drop n back))

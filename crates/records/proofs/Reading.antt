@@ -19,11 +19,11 @@ use Rattle.image.proofs.Written.{old-header, old-fields}
 use Rattle.records.specs.declared.StepRecord.{StepRecord}
 use Rattle.records.specs.declared.Read.the-variants.{Step, Nothing}
 use Rattle.records.specs.declared.Header.the-variants.{Fits, Unfit}
-use Rattle.records.specs.Parts.{editionOf, secondIn, fitsAt, cabinAt, stepRead, readStep, readHeader}
+use Rattle.records.specs.Records.{editionOf, newerIn, fitsAt, cabinAt, stepRead, readStep, readHeader}
 
 -- an image says by its header's kind which edition it is of
-pub edition-said : (bs : List ℕ) → editionOf (secondIn bs) ≡ editionIn bs
-unfolding secondIn editionIn
+pub edition-said : (bs : List ℕ) → editionOf (newerIn bs) ≡ editionIn bs
+unfolding newerIn editionIn
 edition-said bs = refl
 
 -- the records of both editions are long enough for the old fields
@@ -59,7 +59,7 @@ module _ (bs : List ℕ) where
         capacity = leb-true _ _ (and-right (recordAt bs 0 (headerKindOf (editionIn bs)) (headerFieldCount (editionIn bs))) _ rest);
       }
 
-  pub header-found : HeaderFits bs → readHeader bs ≡ Fits (secondIn bs) (capacityIn bs) (lastIn bs)
+  pub header-found : HeaderFits bs → readHeader bs ≡ Fits (newerIn bs) (capacityIn bs) (lastIn bs)
   unfolding readHeader
   header-found f = rw (header-fits f)
 
@@ -72,9 +72,9 @@ module _ (bs : List ℕ) where
   unfolding stepPlace
   header-room f = omega (arith, f .size)
 
-  pub second-room : HeaderFits bs → secondIn bs ≡ true → 42 ≤ length bs
+  pub newer-room : HeaderFits bs → newerIn bs ≡ true → 42 ≤ length bs
   unfolding recordSize
-  second-room f s =
+  newer-room f s =
       let e : editionIn bs ≡ edition2 = sym (edition-said bs) ∙ ap editionOf s in
       rw e at (header-room f)
 
@@ -118,22 +118,22 @@ module _ (e : Edition) (bs : List ℕ) where
 -- what a header that was found says
 pub record HeaderSays (bs : List ℕ) (s : Bool) (c l : ℕ) : Type 0 where
   pub fits : HeaderFits bs
-  pub second : s ≡ secondIn bs
+  pub newer : s ≡ newerIn bs
   pub capacity : c ≡ capacityIn bs
   pub last : l ≡ lastIn bs
 
-pub header-edition : {bs : List ℕ} {second : Bool} {capacity last : ℕ} → HeaderSays bs second capacity last → editionOf second ≡ editionIn bs
-header-edition {bs = bs} s = ap editionOf (s .second) ∙ edition-said bs
+pub header-edition : {bs : List ℕ} {newer : Bool} {capacity last : ℕ} → HeaderSays bs newer capacity last → editionOf newer ≡ editionIn bs
+header-edition {bs = bs} s = ap editionOf (s .newer) ∙ edition-said bs
 
-pub header-known : (bs : List ℕ) (second : Bool) (capacity last : ℕ) → Fits second capacity last ≡ readHeader bs → HeaderSays bs second capacity last
+pub header-known : (bs : List ℕ) (newer : Bool) (capacity last : ℕ) → Fits newer capacity last ≡ readHeader bs → HeaderSays bs newer capacity last
 unfolding readHeader
-header-known bs second capacity last e =
+header-known bs newer capacity last e =
     ⊎-elim
     (λ (t : headerTests bs ≡ true).
-    let h : Fits second capacity last ≡ Fits (secondIn bs) (capacityIn bs) (lastIn bs) = rw t at e in
-    record { fits = fits-header bs t; second = cc; capacity = cc; last = cc })
+    let h : Fits newer capacity last ≡ Fits (newerIn bs) (capacityIn bs) (lastIn bs) = rw t at e in
+    record { fits = fits-header bs t; newer = cc; capacity = cc; last = cc })
     (λ (t : headerTests bs ≡ false).
-    let h : Fits second capacity last ≡ Unfit = rw t at e in
+    let h : Fits newer capacity last ≡ Unfit = rw t at e in
     absurd (let z : _≡_ {A = ℕ} 0 1 = cc in omega arith))
     (test (headerTests bs))
 

@@ -1,5 +1,5 @@
 // The records of an image, in bytes: a header and step records, of either edition, put and read (document 01, "Image"; document 02, W5). An edition is
-// a bool, true for edition 2. What is said of the functions is in specs/.
+// a bool, `newer`: true for edition 2. What is said of the functions is in specs/.
 ghost use mathlib.Core.Path.{_≡_};
 ghost use mathlib.Core.Bool.{true, _&&_};
 ghost use mathlib.Core.List.{[], _∷_, _++_};
@@ -7,7 +7,7 @@ ghost use Prim.Native.Nat.{_+_, _≤_};
 ghost use lib.ListN.{length, drop};
 ghost use lib.Dec.{eqb};
 ghost use Rattle.image.specs.Image.{edition2, recordBytes, recordSize, headerKindOf, headerFieldCount, stepKindOf, stepFieldCount, imageSize, wordAt, capacityIn, quotasBy};
-ghost use Rattle.records.specs.Parts.{editionOf, secondIn, putWords, added, recordFields, cabinAt, stepRead, readStep, readHeader};
+ghost use Rattle.records.specs.Records.{editionOf, newerIn, putWords, added, recordFields, cabinAt, stepRead, readStep, readHeader};
 use words::QUOTAS;
 
 // The fields of a step record, in their order; the four before the cabin are the targets. A record of edition 1 has no cabin, which is 0 then.
@@ -36,38 +36,38 @@ pub enum Header {
 }
 
 // The length in bytes of the header record of an edition.
-pub fn header_size(second: bool) -> usize
-    ensures { λ r. ⌜ r ≡ recordSize (headerFieldCount (editionOf second)) ⌝ }
+pub fn header_size(newer: bool) -> usize
+    ensures { λ r. ⌜ r ≡ recordSize (headerFieldCount (editionOf newer)) ⌝ }
 {
-    if second { 42 } else { 10 }
+    if newer { 42 } else { 10 }
 }
 
 // The length in bytes of a step record of an edition.
-pub fn step_size(second: bool) -> usize
-    ensures { λ r. ⌜ r ≡ recordSize (stepFieldCount (editionOf second)) ⌝ }
+pub fn step_size(newer: bool) -> usize
+    ensures { λ r. ⌜ r ≡ recordSize (stepFieldCount (editionOf newer)) ⌝ }
 {
-    if second { 22 } else { 20 }
+    if newer { 22 } else { 20 }
 }
 
 // The kind of the header record of an edition.
-fn header_kind(second: bool) -> u16
-    ensures { λ r. ⌜ r ≡ headerKindOf (editionOf second) ⌝ }
+fn header_kind(newer: bool) -> u16
+    ensures { λ r. ⌜ r ≡ headerKindOf (editionOf newer) ⌝ }
 {
-    if second { 3 } else { 1 }
+    if newer { 3 } else { 1 }
 }
 
 // The kind of the step records of an edition.
-fn step_kind(second: bool) -> u16
-    ensures { λ r. ⌜ r ≡ stepKindOf (editionOf second) ⌝ }
+fn step_kind(newer: bool) -> u16
+    ensures { λ r. ⌜ r ≡ stepKindOf (editionOf newer) ⌝ }
 {
-    if second { 4 } else { 2 }
+    if newer { 4 } else { 2 }
 }
 
 // The length in bytes of an image of an edition with so many step records.
-pub fn image_size(second: bool, steps: u16) -> usize
-    ensures { λ r. ⌜ r ≡ imageSize (editionOf second) steps ⌝ }
+pub fn image_size(newer: bool, steps: u16) -> usize
+    ensures { λ r. ⌜ r ≡ imageSize (editionOf newer) steps ⌝ }
 {
-    header_size(second) + step_size(second) * words::wide(steps)
+    header_size(newer) + step_size(newer) * words::wide(steps)
 }
 
 // Puts a number as two bytes at a place, little-endian.
@@ -107,44 +107,44 @@ fn put_quotas(part: &mut [u8], at: usize, quotas: &[u16; QUOTAS])
 // Puts the header record of an edition at the start of the part; that of edition 1 has no quotas.
 pub fn put_header(
     part: &mut [u8],
-    second: bool,
+    newer: bool,
     capacity: u16,
     last: u16,
     steps: u16,
     quotas: &[u16; QUOTAS],
 )
-    requires { ⌜ recordSize (headerFieldCount (editionOf second)) ≤ length (now part) ⌝ }
+    requires { ⌜ recordSize (headerFieldCount (editionOf newer)) ≤ length (now part) ⌝ }
     ensures { λ _. ⌜ now (part .exit) ≡
-        recordBytes (headerKindOf (editionOf second)) (capacity ∷ last ∷ steps ∷ added (editionOf second) (now (quotas .entry))) ++
-        drop (recordSize (headerFieldCount (editionOf second))) (now (part .entry)) ⌝ }
+        recordBytes (headerKindOf (editionOf newer)) (capacity ∷ last ∷ steps ∷ added (editionOf newer) (now (quotas .entry))) ++
+        drop (recordSize (headerFieldCount (editionOf newer))) (now (part .entry)) ⌝ }
 {
     words::listed(quotas);
     put_four(
         part,
         0,
-        header_size(second) as u16,
-        header_kind(second),
+        header_size(newer) as u16,
+        header_kind(newer),
         capacity,
         last,
     );
     put_word(part, 8, steps);
-    if second {
+    if newer {
         put_quotas(part, 10, quotas);
     }
 }
 
 // Puts a step record of an edition at the start of the part; that of edition 1 has no cabin.
-pub fn put_step(part: &mut [u8], second: bool, r: StepRecord)
-    requires { ⌜ recordSize (stepFieldCount (editionOf second)) ≤ length (now part) ⌝ }
+pub fn put_step(part: &mut [u8], newer: bool, r: StepRecord)
+    requires { ⌜ recordSize (stepFieldCount (editionOf newer)) ≤ length (now part) ⌝ }
     ensures { λ _. ⌜ now (part .exit) ≡
-        recordBytes (stepKindOf (editionOf second)) (recordFields (editionOf second) r) ++
-        drop (recordSize (stepFieldCount (editionOf second))) (now (part .entry)) ⌝ }
+        recordBytes (stepKindOf (editionOf newer)) (recordFields (editionOf newer) r) ++
+        drop (recordSize (stepFieldCount (editionOf newer))) (now (part .entry)) ⌝ }
 {
-    put_word(part, 0, step_size(second) as u16);
-    put_word(part, 2, step_kind(second));
+    put_word(part, 0, step_size(newer) as u16);
+    put_word(part, 2, step_kind(newer));
     put_four(part, 4, r.number, r.kind, r.content, r.bits);
     put_four(part, 12, r.first, r.second, r.third, r.fourth);
-    if second {
+    if newer {
         put_word(part, 20, r.cabin);
     }
 }
@@ -173,17 +173,17 @@ fn begins(part: &[u8], size: usize, kind: u16) -> bool
 }
 
 // Whether the kind of the header is that of an edition.
-pub fn is_of(bytes: &[u8], second: bool) -> bool
+pub fn is_of(bytes: &[u8], newer: bool) -> bool
     requires { ⌜ 4 ≤ length (now bytes) ⌝ }
-    ensures { λ r. ⌜ r ≡ eqb (wordAt (now (bytes .entry)) 2) (headerKindOf (editionOf second)) ⌝ }
+    ensures { λ r. ⌜ r ≡ eqb (wordAt (now (bytes .entry)) 2) (headerKindOf (editionOf newer)) ⌝ }
 {
-    word_at(bytes, 2) == header_kind(second)
+    word_at(bytes, 2) == header_kind(newer)
 }
 
 // Whether it is that of edition 2.
-fn second_in(bytes: &[u8]) -> bool
+fn newer_in(bytes: &[u8]) -> bool
     requires { ⌜ 4 ≤ length (now bytes) ⌝ }
-    ensures { λ r. ⌜ r ≡ secondIn (now (bytes .entry)) ⌝ }
+    ensures { λ r. ⌜ r ≡ newerIn (now (bytes .entry)) ⌝ }
 {
     is_of(bytes, true)
 }
@@ -195,18 +195,18 @@ pub fn read_header(bytes: &[u8]) -> Header
     if bytes.len() < 10 {
         return Header::Unfit;
     }
-    let second = second_in(bytes);
-    if bytes.len() != image_size(second, word_at(bytes, 8)) {
+    let newer = newer_in(bytes);
+    if bytes.len() != image_size(newer, word_at(bytes, 8)) {
         return Header::Unfit;
     }
-    if !begins(bytes, header_size(second), header_kind(second)) {
+    if !begins(bytes, header_size(newer), header_kind(newer)) {
         return Header::Unfit;
     }
     let capacity = word_at(bytes, 4);
     if 128 < capacity {
         return Header::Unfit;
     }
-    Header::Fits(second, capacity, word_at(bytes, 6))
+    Header::Fits(newer, capacity, word_at(bytes, 6))
 }
 
 // The quotas in a header of edition 2.
@@ -225,31 +225,31 @@ fn read_quotas(bytes: &[u8]) -> [u16; QUOTAS]
 }
 
 // The quotas that a header says: in edition 2 those in it, in edition 1 those that give all steps to cabin 0.
-pub fn quotas_in(bytes: &[u8], second: bool, capacity: u16) -> [u16; QUOTAS]
-    requires { ⌜ (capacity ≡ capacityIn (now bytes)) × (second ≡ true → 42 ≤ length (now bytes)) ⌝ }
-    ensures { λ r. ⌜ r ≡ quotasBy (editionOf second) (now (bytes .entry)) ⌝ }
+pub fn quotas_in(bytes: &[u8], newer: bool, capacity: u16) -> [u16; QUOTAS]
+    requires { ⌜ (capacity ≡ capacityIn (now bytes)) × (newer ≡ true → 42 ≤ length (now bytes)) ⌝ }
+    ensures { λ r. ⌜ r ≡ quotasBy (editionOf newer) (now (bytes .entry)) ⌝ }
 {
-    if second {
+    if newer {
         return read_quotas(bytes);
     }
     cabins::sole_quotas(capacity)
 }
 
 // The cabin of the step record that the part begins with; in edition 1 it is 0.
-fn cabin_in(part: &[u8], second: bool) -> u16
-    requires { ⌜ (second ≡ true → 22 ≤ length (now part)) ⌝ }
-    ensures { λ r. ⌜ r ≡ cabinAt (editionOf second) (now (part .entry)) 0 ⌝ }
+fn cabin_in(part: &[u8], newer: bool) -> u16
+    requires { ⌜ (newer ≡ true → 22 ≤ length (now part)) ⌝ }
+    ensures { λ r. ⌜ r ≡ cabinAt (editionOf newer) (now (part .entry)) 0 ⌝ }
 {
-    if second {
+    if newer {
         return word_at(part, 20);
     }
     0
 }
 
 // The fields of the step record that the part begins with.
-pub fn step_fields(part: &[u8], second: bool) -> StepRecord
-    requires { ⌜ (20 ≤ length (now part)) × (second ≡ true → 22 ≤ length (now part)) ⌝ }
-    ensures { λ r. ⌜ r ≡ stepRead (editionOf second) (now (part .entry)) 0 ⌝ }
+pub fn step_fields(part: &[u8], newer: bool) -> StepRecord
+    requires { ⌜ (20 ≤ length (now part)) × (newer ≡ true → 22 ≤ length (now part)) ⌝ }
+    ensures { λ r. ⌜ r ≡ stepRead (editionOf newer) (now (part .entry)) 0 ⌝ }
 {
     StepRecord {
         number: word_at(part, 4),
@@ -260,19 +260,19 @@ pub fn step_fields(part: &[u8], second: bool) -> StepRecord
         second: word_at(part, 14),
         third: word_at(part, 16),
         fourth: word_at(part, 18),
-        cabin: cabin_in(part, second),
+        cabin: cabin_in(part, newer),
     }
 }
 
 // The step record that the part begins with, where it is one of the edition, its step is one that a table has and its bits are at most 31.
-pub fn read_step(part: &[u8], second: bool) -> Read
-    ensures { λ r. ⌜ r ≡ readStep (editionOf second) (now (part .entry)) ⌝ }
+pub fn read_step(part: &[u8], newer: bool) -> Read
+    ensures { λ r. ⌜ r ≡ readStep (editionOf newer) (now (part .entry)) ⌝ }
 {
-    let size = step_size(second);
+    let size = step_size(newer);
     if part.len() < size {
         return Read::Nothing;
     }
-    if !begins(part, size, step_kind(second)) {
+    if !begins(part, size, step_kind(newer)) {
         return Read::Nothing;
     }
     if 128 <= word_at(part, 4) {
@@ -281,6 +281,6 @@ pub fn read_step(part: &[u8], second: bool) -> Read
     if 31 < word_at(part, 10) {
         return Read::Nothing;
     }
-    let r = step_fields(part, second);
+    let r = step_fields(part, newer);
     Read::Step(r)
 }

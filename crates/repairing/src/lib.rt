@@ -30,7 +30,7 @@ fn weaken_exit(t: &mut [u16; WORDS], k: usize, e: usize)
     words::relink(t, k, e, target, 1 - b);
 }
 
-// Rule 3: the bit of step k is flipped, and then every strong link out of it is made weak.
+// Rule 3: the bit of step k is flipped, as by `Swap` of source paper 001, and then every strong link out of it is made weak.
 fn restore_step(t: &mut [u16; WORDS], k: usize)
     requires { ⌜ Standing (tableOf (now t)) k ⌝ }
     ensures { λ _. ⌜ Becomes (now (t .entry)) (now (t .exit)) (restored (tableOf (now (t .entry))) k) ⌝ }
@@ -104,7 +104,8 @@ fn keep_step(
 }
 
 // Rule 3: while there is a candidate, the lowest is taken back, and the doubtful steps that it has a link to become candidates. `wanted` has the first
-// candidates. `doubt` is left with the steps still doubtful.
+// candidates. `doubt` is left with the steps still doubtful. Source paper 001 flips bits within its search, in the order in which it meets the nodes;
+// document 01 takes the lowest candidate first, and decides.
 pub fn repair_steps(
     t: &mut [u16; WORDS],
     n: usize,
@@ -178,7 +179,8 @@ fn unlink_steps(t: &mut [u16; WORDS], n: usize, doubt: &[u16; PLACES])
     }
 }
 
-// Rule 4: the steps still doubtful are freed. Their links leave the counters, and then their records become zero.
+// Rule 4: the steps still doubtful are freed. Their links leave the counters, and then their records become zero. Source paper 001 deletes the pointers of
+// a freed node one by one, and each can start a search again; document 01 frees all these steps together, without a search, and decides.
 pub fn free_steps(t: &mut [u16; WORDS], n: usize, doubt: &[u16; PLACES])
     requires { ⌜ Repairable (tableOf (now t)) n (now doubt) ⌝ }
     ensures { λ _. ⌜ Becomes (now (t .entry)) (now (t .exit)) (release (tableOf (now (t .entry))) (asMarks n (now (doubt .entry)))) ⌝ }

@@ -24,7 +24,7 @@ use Rattle.table.proofs.Edits.{sound-fresh}
 use Rattle.words.specs.Words.{words, tableOf, wordsOf}
 use Rattle.words.proofs.Laws.{table-words, shape-table}
 use Rattle.keyline.specs.Keys.{digit, keyCall}
-use Rattle.keylines.proofs.Laws.{key-shape}
+use Rattle.keying.proofs.Laws.{key-shape}
 use Rattle.session.specs.Session.{keysTable, lineEnd, keptMost, digits, spelled, printed, State, keep, push, lineOutput, pushOutput, feed, fedOutput, finishOutput, firstState, stateOf}
 use Rattle.session.proofs.Output.{feed-append, fed-output-append, push-end, push-end-output, push-other, push-other-output}
 

@@ -19,7 +19,7 @@ use Rattle.table.specs.Answer.{Outcome}
 use Rattle.table.specs.Table.{Table}
 use Rattle.keyline.specs.declared.Decoded.the-variants.{Nothing}
 use Rattle.keyline.specs.Keys.{isLine, decode, keyCall}
-use Rattle.keylines.proofs.Laws.{not-line, decode-nothing}
+use Rattle.keying.proofs.Laws.{not-line, decode-nothing}
 use Rattle.session.specs.Session.{keysTable, lineEnd, keptMost, State, linesFrom, linesOf, printed, answers, keysOutput, keep, push, lineOutput, pushOutput, feed, fedOutput, finishOutput, blocksOutput, firstState}
 
 -- a line of 13 bytes or more is no key line

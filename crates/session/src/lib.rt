@@ -95,7 +95,7 @@ fn end_line(t: &mut [u16; WORDS], line: &[u8], out: &mut [u8], at: usize) -> usi
     ensures room { λ r. ⌜ r ≤ at + 18 ⌝ }
 {
     words::sized(t);
-    let answer = keylines::key_line(t, line);
+    let answer = keying::key_line(t, line);
     put_answer(out, at, answer)
 }
 
@@ -123,7 +123,7 @@ pub fn start(t: &mut [u16; WORDS])
     ensures { λ _. ⌜ ((line : List ℕ) → stateOf (now (t .exit)) line 0 ≡ firstState) ⌝ }
 {
     let quotas = cabins::sole_quotas(CAPACITY);
-    edits::fresh_table(t, CAPACITY, &quotas);
+    steps::fresh_table(t, CAPACITY, &quotas);
 }
 
 // A block of input, with `kept` bytes of the line begun: the lines ended in it are called on the table, and the lines that answer them put at the

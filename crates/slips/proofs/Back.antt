@@ -21,8 +21,8 @@ use Rattle.table.specs.Sound.{Sound}
 use Rattle.table.proofs.Places.{exit-at-below, exit-place-split}
 use Rattle.image.specs.Image.{edition2, withRecord}
 use Rattle.image.specs.Slip.{slipSize, slipCount, oldPlace, fieldsAt}
-use Rattle.records.specs.Parts.{added, recordFields, cabinAt, stepRead}
-use Rattle.slips.specs.Parts.{framed, Framed}
+use Rattle.records.specs.Records.{added, recordFields, cabinAt, stepRead}
+use Rattle.slips.specs.Framed.{framed, Framed}
 
 pub record-read : (bs : List ℕ) (at : ℕ) → recordFields edition2 (stepRead edition2 bs at) ≡ fieldsAt bs at
 unfolding recordFields added stepRead cabinAt fieldsAt tabulate tabulateFrom

@@ -1,2 +1,2 @@
 -- What the functions of this crate say.
-pub mod Parts
+pub mod Framed

@@ -12,8 +12,8 @@ ghost use Rattle.table.specs.declared.Answer.the-variants.{Given};
 ghost use Rattle.image.specs.Image.{Bytes};
 ghost use Rattle.image.specs.Slip.{changed, slip, slipSize, clearSlipCall, rebuilt, takeBackCall};
 ghost use Rattle.words.specs.Words.{tableOf, wordsOf, Becomes};
-ghost use Rattle.pairs.specs.Parts.{SoundPair};
-ghost use Rattle.slips.specs.Parts.{framed, Framed};
+ghost use Rattle.pairs.specs.SoundPair.{SoundPair};
+ghost use Rattle.slips.specs.Framed.{framed, Framed};
 use pairs::PAIR;
 use table::Answer;
 use words::WORDS;
@@ -49,7 +49,7 @@ pub fn clear_with_slip(t: &mut [u16; WORDS], step: u16, exit: u16, buffer: &mut 
     ensures written { λ r. ⌜ now (buffer .exit) ≡ clearSlipCall (tableOf (now (t .entry))) step exit (now (buffer .entry)) .buffer ⌝ }
 {
     words::sized(t);
-    let refusal = edits::clear_refusal(t, step, exit);
+    let refusal = clearing::clear_refusal(t, step, exit);
     if refusal != 0 {
         return Answer::Refused(refusal);
     }
@@ -96,10 +96,10 @@ fn put_back(t: &mut [u16; WORDS], bytes: &[u8])
     // The old records before the place at are in place.
     while at < bytes.len() {
         let r = records::step_fields(&bytes[at..], true);
-        loading::put_record(t, r);
+        recording::put_record(t, r);
         at += PAIR;
     }
-    loading::recount(t);
+    recording::recount(t);
 }
 
 // Whether two tables are the same, word for word. All words are looked at, without a branch out of the loop, which is quicker where they are the same.
@@ -149,7 +149,7 @@ pub fn take_back(t: &mut [u16; WORDS], bytes: &[u8]) -> Answer
     let mut work = *t;
     put_back(&mut work, bytes);
     // The rebuilt table has to be sound, and the exit one that can be cleared.
-    if edits::clear_refusal(&work, step, exit) != 0 {
+    if clearing::clear_refusal(&work, step, exit) != 0 {
         return Answer::Refused(words::SLIP_NOT_ACCEPTED);
     }
     // The bytes have to be the slip of the rebuilt and the present table, so that each new record is the present one.

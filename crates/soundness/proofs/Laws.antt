@@ -28,13 +28,13 @@ use Rattle.table.proofs.Relink.{counter-place-below}
 use Rattle.table.proofs.Formed.{Formed, sound-formed, formed-wired, formed-place}
 use Rattle.table.proofs.Cabins.{Shares, sound-shares, charged-used, formed-charges, quotas-pairs, quotas-together, quotas-test, charges-limit, charges-reserve, charges-test}
 use Rattle.table.proofs.Spine.{Spine, sound-spine, spine-sound}
-use Rattle.cabins.specs.Parts.{sharesFit}
+use Rattle.cabins.specs.Shares.{sharesFit}
 use Rattle.cabins.proofs.Laws.{shares-charges}
 use Rattle.withdraw.specs.Search.{slotAt, lands, isMarked, landing, landingKept, Ranged, Exact, Spans}
 use Rattle.withdraw.proofs.Slots.{lands-intro, landing-zero, exit-here, slot-some, slot-zero, slot-below, lands-held, link-lands, own-slot-some, landing-some, landing-linked, landing-links, shape-ranged, source-used, formed-ranged, formed-exact}
 use Rattle.withdraw.proofs.Found.{up-marked, left-kept, kept-parent}
-use Rattle.soundness.specs.Parts.{numbersFit, alarmFits, fieldsAt, stepFits, exitFits, countersFit, freeAbove, arraysFit, emptyAt, faults, hasCabin, cabinSteps, quotasHold}
-use Rattle.soundness.proofs.Parts.{Alarm, alarm-fields, fields-alarm, fields-used, used-fields, fields-free, free-fields, link-fits, empty-fits, filled-fits, counts-free, used-counts, free-counts}
+use Rattle.soundness.specs.Tests.{numbersFit, alarmFits, fieldsAt, stepFits, exitFits, countersFit, freeAbove, arraysFit, emptyAt, faults, hasCabin, cabinSteps, quotasHold}
+use Rattle.soundness.proofs.Tests.{Alarm, alarm-fields, fields-alarm, fields-used, used-fields, fields-free, free-fields, link-fits, empty-fits, filled-fits, counts-free, used-counts, free-counts}
 use Rattle.finite.proofs.Totals.{total-same, total-ext}
 use Rattle.soundness.proofs.Totals.{total-landing}
 

@@ -1,4 +1,4 @@
 -- The laws that the proofs of the soundness test use.
 pub mod Totals
-pub mod Parts
+pub mod Tests
 pub mod Laws

@@ -16,7 +16,7 @@ use Rattle.finite.proofs.Loops.{count-zero, count-hit, count-miss, none-fail}
 use Rattle.finite.proofs.Totals.{total-none, total-one, total-count}
 use Rattle.withdraw.specs.Search.{lands}
 use Rattle.withdraw.proofs.Slots.{lands-target, lands-intro}
-use Rattle.soundness.specs.Parts.{faults}
+use Rattle.soundness.specs.Tests.{faults}
 
 -- no fault is a test of all
 pub no-faults : (n : ℕ) (p : ℕ → Bool) (x : ℕ) → x ≡ faults n p → eqb x 0 ≡ all n p

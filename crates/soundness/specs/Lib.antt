@@ -1,2 +1,2 @@
 -- The soundness test in code: what its parts say.
-pub mod Parts
+pub mod Tests

@@ -12,7 +12,7 @@ ghost use Rattle.table.specs.Sound.{capacityFits, contentFits, sound};
 ghost use Rattle.table.specs.Answer.{first};
 ghost use Rattle.table.specs.Calls.{tableTests};
 ghost use Rattle.words.specs.Words.{tableOf};
-ghost use Rattle.soundness.specs.Parts.{numbersFit, alarmFits, fieldsFit, linkFits, countsFit, fieldsAt, exitFits, countersFit, freeAbove, arraysFit, emptyAt, faults, cabinSteps, quotasHold};
+ghost use Rattle.soundness.specs.Tests.{numbersFit, alarmFits, fieldsFit, linkFits, countsFit, fieldsAt, exitFits, countersFit, freeAbove, arraysFit, emptyAt, faults, cabinSteps, quotasHold};
 use words::CABINS;
 use words::WORDS;
 

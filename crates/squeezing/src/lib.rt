@@ -48,7 +48,7 @@ fn moved_fields(t: &[u16; WORDS], i: usize, numbers: &[u16; PLACES]) -> Fields
     requires { ⌜ Movable (now numbers) (tableOf (now t)) i ⌝ }
     ensures { λ r. ⌜ r ≡ followed (λ j. getD (now (numbers .entry)) j 0) (fieldsOf (tableOf (now (t .entry))) i) ⌝ }
 {
-    let f = edits::fields_of(t, i);
+    let f = steps::fields_of(t, i);
     let old = f.targets;
     let targets = [
         number_at(numbers, old[0]),
@@ -76,7 +76,7 @@ fn move_step(t: &mut [u16; WORDS], i: usize, numbers: &[u16; PLACES])
 {
     let k = wide(numbers[i]);
     let f = moved_fields(t, i, numbers);
-    words::put_fields(t, i, 0, edits::no_fields());
+    words::put_fields(t, i, 0, steps::no_fields());
     words::put_fields(t, k, 1, f);
 }
 
@@ -131,7 +131,7 @@ pub fn squeeze(t: &mut [u16; WORDS], capacity: u16, quotas: &[u16; QUOTAS]) -> A
     if refusal != 0 {
         return Answer::Refused(refusal);
     }
-    let steps = edits::count_used(t);
+    let steps = steps::count_used(t);
     move_steps(t);
     words::put_numbers(t, capacity, steps - 1);
     words::put_quotas(t, quotas);

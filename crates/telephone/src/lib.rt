@@ -271,7 +271,7 @@ pub extern "C" fn plan_squeeze(t: &mut [u16; WORDS], capacity: u16, quotas: &[u1
 pub extern "C" fn plan_counts(t: &[u16; WORDS]) -> Reply
     ensures { λ r. ⌜ r ≡ replyOf (countsCall (tableOf (now (t .entry))) .answer) ⌝ }
 {
-    reply_of(keylines::counts(t))
+    reply_of(edits::counts(t))
 }
 
 // Read: all fields of a step. Refusals: 1, 3.
@@ -349,5 +349,5 @@ pub extern "C" fn plan_key_line(t: &mut [u16; WORDS], line: &[u8]) -> Reply
     ensures answer { λ r. ⌜ r ≡ replyOf (keyCall (tableOf (now (t .entry))) (now (line .entry)) .answer) ⌝ }
     ensures table { λ r. ⌜ now (t .exit) ≡ wordsOf (keyCall (tableOf (now (t .entry))) (now (line .entry)) .table) ⌝ }
 {
-    reply_of(keylines::key_line(t, line))
+    reply_of(keying::key_line(t, line))
 }

@@ -17,7 +17,8 @@ use words::COUNTS;
 use words::PLACES;
 use words::WORDS;
 
-// Withdraws the exits of step i, which is marked.
+// Withdraws the exits of step i, which is marked. Source paper 001 searches by nested calls too, but flips bits and makes links weak on its way;
+// document 01 decides, and only marks steps here: bits, links and stored counters stay.
 fn withdraw_step(t: &[u16; WORDS], left: &mut [u16; 256], marks: &mut [u16; 128], i: usize)
     requires { ⌜ (i < places) × Ranged (tableOf (now t)) ×
         ((counts : List ℕ) × Pending (tableOf (now t)) counts (now left) (now marks) (rest (slotAt (tableOf (now t))) i 0)) ⌝ }
@@ -34,7 +35,8 @@ fn withdraw_step(t: &[u16; WORDS], left: &mut [u16; 256], marks: &mut [u16; 128]
 }
 
 // Withdraws exit e of step i: its link counts no more, and a step that has no strong link left is marked in turn. A link too many is noted at
-// counter 0, in which no link counts.
+// counter 0, in which no link counts. Paper 001 goes along strong links alone; here a weak link is withdrawn too, so that the links left to a marked
+// step are those from steps that are not marked.
 fn withdraw_exit(
     t: &[u16; WORDS],
     left: &mut [u16; 256],

@@ -10,7 +10,7 @@ use Prim.Native.Nat.{ℕ, _+_, _-_, _≤_, _<_}
 use native.Mathlib.Numerals.{add-one}
 use native.Mathlib.Omega.{arith}
 use lib.ListN.{length, getD, take, drop, length-drop, length-append}
-use lib.Seq.{length-take-le, take-all, take-at, drop-at, drop-drop, drop-length}
+use lib.Seq.{length-take-le, take-at, drop-at, drop-drop}
 use Rattle.finite.specs.Below.{count}
 use Rattle.finite.proofs.Select.{count-grows, tabulate-entries}
 use Rattle.finite.proofs.Loops.{count-hit}
@@ -21,7 +21,8 @@ use Rattle.image.proofs.Words.{headerSize, stepSize, image-next, length-record}
 use Rattle.image.proofs.Laws.{image-most}
 use Rattle.image.proofs.Written.{length-header, length-fields, length-steps}
 use Rattle.records.specs.declared.StepRecord.{StepRecord}
-use Rattle.records.specs.Parts.{added, recordFields}
+use Rattle.records.specs.Records.{added, recordFields}
+use Rattle.records.proofs.Laws.{part-back}
 
 -- more records
 image-grows : (v : Edition) (m n : ℕ) → m ≤ n → imageSize v m ≤ imageSize v n
@@ -63,20 +64,6 @@ steps-hit v t i u = rw (add-one i, u)
 steps-miss : (v : Edition) (t : Table) (i : ℕ) → inUse t i ≡ false → stepsBelow v t (i + 1) ≡ stepsBelow v t i
 unfolding stepsBelow
 steps-miss v t i u = rw (add-one i, u) (append-nil (stepsBelow v t i))
-
--- bytes lent from a place on come back behind those before it
-pub part-back : (bytes front back new : List ℕ) (at n : ℕ) → bytes ≡ front ++ back → length front ≡ at → n ≤ length back →
-    take at bytes ++ ((new ++ drop n (take (length bytes - at) (drop at bytes))) ++ drop (length bytes - at) (drop at bytes))
-    ≡ (front ++ new) ++ drop n back
-part-back bytes front back new at n e l h =
-    let len : length bytes ≡ at + length back = ap length e ∙ length-append front back ∙ ap (λ (k : ℕ). k + length back) l in
-    let k : length bytes - at ≡ length back = omega arith in
-    let a : take at bytes ≡ front = ap (take at) e ∙ take-at front back at l in
-    let b : drop at bytes ≡ back = ap (drop at) e ∙ drop-at front back at l in
-    let c : take (length back) back ≡ back = take-all (length back) back (omega arith) in
-    let d : drop (length back) back ≡ [] = drop-length back in
-    let g : (new ++ drop n back) ++ [] ≡ new ++ drop n back = append-nil (new ++ drop n back) in
-    rw (a, k, b, c, d, g, append-assoc front new (drop n back))
 
 module _ (v : Edition) (t : Table) (start : List ℕ) where
   pub written-none : headerSize v ≤ length start → Written v t start start (headerSize v) 0

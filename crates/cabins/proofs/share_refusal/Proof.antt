@@ -9,7 +9,7 @@ use Rattle.finite.specs.Below.{total}
 use Rattle.table.specs.Table.{cabinCount}
 use Rattle.table.specs.Cabins.{guaranteeOf, limitOf, atLimit}
 use Rattle.table.specs.Answer.{first}
-use Rattle.cabins.specs.Parts.{given, share, shareRefusal}
+use Rattle.cabins.specs.Shares.{given, share, shareRefusal}
 use Rattle.cabins.proofs.share_refusal.Statement.{statement}
 use Rattle.cabins.proofs.share_refusal.Tie as tie
 

@@ -8,7 +8,7 @@ use Rattle.finite.specs.Below.{total}
 use Rattle.finite.proofs.Totals.{total-next}
 use Rattle.table.specs.Table.{cabinCount}
 use Rattle.table.specs.Cabins.{guaranteeOf, unmet}
-use Rattle.cabins.specs.Parts.{given, share}
+use Rattle.cabins.specs.Shares.{given, share}
 use Rattle.cabins.proofs.shared.Statement.{statement}
 use Rattle.cabins.proofs.shared.Tie as tie
 

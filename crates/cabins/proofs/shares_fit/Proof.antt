@@ -3,7 +3,7 @@ use mathlib.Core.Path.{sym, _∙_, ap}
 use Prim.Native.Nat.{ℕ}
 use lib.Dec.{ltb}
 use borrow.Author.Needs.{needs}
-use Rattle.cabins.specs.Parts.{sharesFit}
+use Rattle.cabins.specs.Shares.{sharesFit}
 use Rattle.cabins.proofs.shares_fit.Statement.{statement}
 use Rattle.cabins.proofs.shares_fit.Tie as tie
 

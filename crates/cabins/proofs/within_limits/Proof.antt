@@ -12,7 +12,7 @@ use Rattle.finite.specs.Below.{all}
 use Rattle.finite.proofs.Loops.{all-none, all-more, all-fails, all-done}
 use Rattle.table.specs.Table.{cabinCount}
 use Rattle.table.specs.Cabins.{limitOf, withinLimits}
-use Rattle.cabins.specs.Parts.{given}
+use Rattle.cabins.specs.Shares.{given}
 use Rattle.cabins.proofs.within_limits.Statement.{statement}
 use Rattle.cabins.proofs.within_limits.Tie as tie
 

@@ -21,7 +21,7 @@ use Rattle.image.proofs.Loaded.{test-accepted}
 use Rattle.image.proofs.Converted.{kind-edition, refusal-bad, refusal-same, refusal-unsaid, refusal-room}
 use Rattle.words.specs.Words.{tableOf}
 use Rattle.words.proofs.Laws.{table-words}
-use Rattle.records.specs.Parts.{editionOf}
+use Rattle.records.specs.Records.{editionOf}
 use Rattle.records.proofs.Reading.{header-least}
 use Rattle.converting.proofs.convert.Statement.{statement}
 use Rattle.converting.proofs.convert.Tie as tie
@@ -66,7 +66,7 @@ sure : (c : tie.Else1) → sound (tableOf (c .before .take-image .last .0)) ≡ 
 sure c = ap sound (table c) ∙ accepted-sound _ (taken c)
 
 -- past the test of the edition
-other : (c : tie.Else2) → editionIn (startOf (c .before .before) .args .bytes .now) ≡ editionOf (startOf (c .before .before) .args .second) → ⊥
+other : (c : tie.Else2) → editionIn (startOf (c .before .before) .args .bytes .now) ≡ editionOf (startOf (c .before .before) .args .newer) → ⊥
 other c e =
     let bs = startOf (c .before .before) .args .bytes .now in
     eqb-false _ _ (sym (c .before .is-of .ensures) ∙ c .if2 .left) (kind-said bs (taken (c .before .before)) ∙ ap headerKindOf e)
@@ -74,7 +74,7 @@ other c e =
 returns : tie.Need-returns
 returns c =
     let a = c .before .before .before .before .before .args in
-    let v = editionOf (a .second) in
+    let v = editionOf (a .newer) in
     let bs = a .bytes .now in
     let no : accepted bs ≡ false = sym (c .before .take-image .ensures .0) ∙ not-true-false _ (c .if1 .taken) in
     let w = refused v bs (a .buffer .now) notAccepted (λ z. omega arith) (refusal-bad v bs _ no) in
@@ -84,7 +84,7 @@ returns-2 : tie.Need-returns-2
 returns-2 c =
     let e = c .before .before in
     let a = startOf e .args in
-    let v = editionOf (a .second) in
+    let v = editionOf (a .newer) in
     let bs = a .bytes .now in
     let same : editionIn bs ≡ v = kind-edition _ _ (sym (kind-said bs (taken e)) ∙ eqb-true _ _ (sym (c .before .is-of .ensures) ∙ c .if2 .taken)) in
     let w = refused v bs (a .buffer .now) notAccepted (λ z. omega arith) (refusal-same v bs _ (taken e) same) in
@@ -95,7 +95,7 @@ returns-3 c =
     let f = c .before .before .before in
     let e = f .before .before in
     let a = startOf e .args in
-    let v = editionOf (a .second) in
+    let v = editionOf (a .newer) in
     let bs = a .bytes .now in
     let no : sayable v (imageTable bs) ≡ false = ap (sayable v) (sym (table e)) ∙ sym (c .before .is-sayable .ensures) ∙ not-true-false _ (c .if3 .taken) in
     let w = refused v bs (a .buffer .now) needsEdition2 (λ z. omega arith) (refusal-unsaid v bs _ (taken e) (other f) no) in
@@ -108,7 +108,7 @@ returns-4 c =
     let h = g .before .before .before in
     let e = h .before .before in
     let a = startOf e .args in
-    let v = editionOf (a .second) in
+    let v = editionOf (a .newer) in
     let bs = a .bytes .now in
     let buffer = a .buffer .now in
     let yes : sayable v (imageTable bs) ≡ true = ap (sayable v) (sym (table e)) ∙ sym (g .before .is-sayable .ensures) ∙ not-false-true _ (g .if3 .left) in

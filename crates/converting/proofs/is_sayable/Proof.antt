@@ -6,7 +6,7 @@ use Rattle.table.proofs.Sound.{test-sound}
 use Rattle.image.specs.Convert.{sayable}
 use Rattle.image.proofs.Converted.{sole-sayable}
 use Rattle.words.specs.Words.{tableOf}
-use Rattle.records.specs.Parts.{editionOf}
+use Rattle.records.specs.Records.{editionOf}
 use Rattle.converting.proofs.is_sayable.Statement.{statement}
 use Rattle.converting.proofs.is_sayable.Tie as tie
 

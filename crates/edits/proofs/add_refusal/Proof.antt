@@ -13,10 +13,10 @@ use Rattle.table.specs.Calls.{stepConditions, addRefusal}
 use Rattle.table.proofs.Sound.{test-sound, sound-test}
 use Rattle.table.proofs.Calls.{nonzero, past-sound, first-append}
 use Rattle.words.specs.Words.{tableOf}
-use Rattle.cabins.specs.Parts.{given, shareRefusal}
+use Rattle.cabins.specs.Shares.{given, shareRefusal}
 use Rattle.cabins.proofs.Laws.{Agree, tabulated, share-refusal}
-use Rattle.edits.specs.Parts.{stepRefusal}
-use Rattle.edits.proofs.Laws.{said-true, said-false}
+use Rattle.edits.specs.Refusals.{stepRefusal}
+use Rattle.steps.proofs.Laws.{said-true, said-false}
 use Rattle.edits.proofs.add_refusal.Statement.{statement}
 use Rattle.edits.proofs.add_refusal.Tie as tie
 

@@ -8,7 +8,7 @@ use Rattle.table.specs.Calls.{freshCall}
 use Rattle.table.proofs.Sound.{capacity-range}
 use Rattle.cabins.proofs.Laws.{list-quotas}
 use borrow.Author.Needs.{needs}
-use Rattle.edits.proofs.Laws.{said-true, said-false}
+use Rattle.steps.proofs.Laws.{said-true, said-false}
 use Rattle.edits.proofs.fresh.Statement.{statement}
 use Rattle.edits.proofs.fresh.Tie as tie
 

@@ -8,7 +8,7 @@ use Rattle.table.specs.Calls.{readRefusal}
 use Rattle.table.proofs.Sound.{sound-test}
 use Rattle.words.specs.Words.{tableOf}
 use Rattle.words.proofs.Refusals.{table-passed, table-stopped}
-use Rattle.edits.proofs.Laws.{said-true, said-false}
+use Rattle.steps.proofs.Laws.{said-true, said-false}
 use Rattle.edits.proofs.read_refusal.Statement.{statement}
 use Rattle.edits.proofs.read_refusal.Tie as tie
 

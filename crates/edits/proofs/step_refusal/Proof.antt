@@ -1,90 +1,66 @@
--- `edits::step_refusal` meets its contract: what each condition says once it is passed, and at each return the conditions that led there.
--- Assumes nothing.
-use mathlib.Core.Path.{_≡_, sym, _∙_}
-use mathlib.Core.Bool.{true, false}
-use Prim.Native.Nat.{_<_}
+-- `edits::step_refusal` meets its contract: the refusal of the holder's exit, then at each return the conditions that led there. Assumes nothing.
+use mathlib.Core.Path.{_≡_, refl, sym, _∙_}
+use mathlib.Core.Bool.{true, not, cond}
+use mathlib.Core.List.{[], _∷_}
+use Prim.Native.Nat.{ℕ}
+use lib.Dec.{eqb}
 use borrow.Author.Needs.{needs}
-use borrow.Author.Tests.{lt-leb, eq-eqb, ne-eqb}
-use Rattle.table.specs.Table.{exits, inUse, targetOf, holds}
+use borrow.Author.Tests.{eq-eqb, ne-eqb}
+use Rattle.table.specs.Table.{Table, stepsInUse}
 use Rattle.table.specs.Sound.{contentFits}
-use Rattle.table.specs.Answer.{first}
-use Rattle.table.proofs.Places.{own-exit}
-use Rattle.table.proofs.Links.{target-holds, target-empty, used-place}
+use Rattle.table.specs.Answer.{badKind, full, first}
+use Rattle.table.specs.Calls.{fillTests}
+use Rattle.table.proofs.Calls.{nonzero, first-append}
 use Rattle.words.specs.Words.{tableOf}
-use Rattle.edits.specs.Parts.{stepRefusal}
-use Rattle.edits.proofs.Laws.{said-true, said-false, exit-passed, exit-stopped}
+use Rattle.steps.specs.Refusals.{fillRefusal}
+use Rattle.steps.proofs.Laws.{said-true, said-false}
+use Rattle.edits.specs.Refusals.{stepRefusal}
 use Rattle.edits.proofs.step_refusal.Statement.{statement}
 use Rattle.edits.proofs.step_refusal.Tie as tie
 
+module _ (t : Table) (holder e kind content : ℕ) where
+  abbrev past : ℕ
+  past = first ((not (contentFits kind content), badKind) ∷ (eqb (stepsInUse t) (t .capacity), full) ∷ [])
+
+  order : stepRefusal t holder e kind content ≡ cond (eqb (fillRefusal t holder e) 0) past (fillRefusal t holder e)
+  unfolding stepRefusal fillRefusal
+  order = first-append (fillTests t holder e) _ (unfold nonzero in refl)
+
 -- what is passed at each else
 past-exit : (c : tie.Else1) →
-    let a = c .before .before .args in (inUse (tableOf (a .t .now)) (a .holder) ≡ true) × (a .exit < exits)
-past-exit c = exit-passed _ _ _ (sym (c .before .exit-refusal .ensures) ∙ c .if1 .left)
+    let a = c .before .before .args in
+    let t = tableOf (a .t .now) in
+    stepRefusal t (a .holder) (a .exit) (a .kind) (a .content) ≡ past t (a .holder) (a .exit) (a .kind) (a .content)
+past-exit c = order _ _ _ _ _ ∙ rw (eq-eqb _ 0 (sym (c .before .fill-refusal .ensures) ∙ c .if1 .left))
 
--- what the exit holds
-target : (c : tie.After-target-at) →
-    let a = c .before .before .before .before .before .args in
-    c .target-at .result ≡ targetOf (tableOf (a .t .now)) (a .holder) (a .exit)
-target c =
-    let a = c .before .before .before .before .before .args in
-    c .target-at .ensures ∙ rw (c .before .wide2 .ensures, c .before .before .wide .ensures)
-
-past-empty : (c : tie.Else2) →
-    let a = c .before .before .before .before .before .before .args in
-    holds (tableOf (a .t .now)) (a .holder) (a .exit) ≡ false
-past-empty c = target-empty _ _ _ (sym (target (c .before)) ∙ c .if2 .left)
-
-past-fits : (c : tie.Else3) →
-    let a = c .before .before .before .before .before .before .before .before .args in
-    contentFits (a .kind) (a .content) ≡ true
-past-fits c = said-true (c .before .content-fits .ensures) (c .if3 .left)
+past-fits : (c : tie.Else2) → let a = c .before .before .before .before .args in contentFits (a .kind) (a .content) ≡ true
+past-fits c = said-true (c .before .content-fits .ensures) (c .if2 .left)
 
 returns : tie.Need-returns
-unfolding stepRefusal
 returns c =
-    let e = c .before .exit-refusal .ensures in
-    e ∙ exit-stopped _ _ _ _ (λ z. c .if1 .taken (e ∙ z))
-
-target-at-requires : tie.Need-target-at-requires
-target-at-requires c κs =
-    let c1 = c .before .before in
-    let p = past-exit c1 in
-    rw (c .wide2 .ensures, c .before .wide .ensures) (used-place (c1 .before .before .pre .shape) _ (p .0), own-exit _ _ (p .1))
+    let e = c .before .fill-refusal .ensures in
+    e ∙ sym (order _ _ _ _ _ ∙ rw (ne-eqb _ 0 (λ z. c .if1 .taken (e ∙ z))))
 
 returns-2 : tie.Need-returns-2
-unfolding stepRefusal first
-returns-2 c =
-    let p = past-exit (c .before .before .before .before) in
-    let filled = target-holds _ _ _ (λ z. c .if2 .taken (target (c .before) ∙ z)) in
-    rw (p .0, lt-leb exits _ (p .1), filled)
-
-returns-3 : tie.Need-returns-3
-unfolding stepRefusal first
-returns-3 c =
-    let c2 = c .before .before in
-    let p = past-exit (c2 .before .before .before .before) in
-    rw (p .0, lt-leb exits _ (p .1), past-empty c2, said-false (c .before .content-fits .ensures) (c .if3 .taken))
+unfolding first
+returns-2 c = sym (past-exit (c .before .before) ∙ rw (said-false (c .before .content-fits .ensures) (c .if2 .taken)))
 
 count-used-requires : tie.Need-count-used-requires
-count-used-requires c κs = c .before .before .before .before .before .before .before .before .pre .most
+count-used-requires c κs = c .before .before .before .before .pre .most
+
+returns-3 : tie.Need-returns-3
+unfolding first
+returns-3 c =
+    let x = c .before .before .before in
+    let room = eq-eqb _ _ (sym (c .before .before .count-used .ensures) ∙ c .if3 .taken ∙ c .before .capacity .ensures) in
+    sym (past-exit (x .before .before) ∙ rw (past-fits x, room))
 
 returns-4 : tie.Need-returns-4
-unfolding stepRefusal first
+unfolding first
 returns-4 c =
-    let c3 = c .before .before .before in
-    let c2 = c3 .before .before in
-    let p = past-exit (c2 .before .before .before .before) in
-    let full = eq-eqb _ _ (sym (c .before .before .count-used .ensures) ∙ c .if4 .taken ∙ c .before .capacity .ensures) in
-    rw (p .0, lt-leb exits _ (p .1), past-empty c2, past-fits c3, full)
-
-returns-5 : tie.Need-returns-5
-unfolding stepRefusal first
-returns-5 c =
-    let c3 = c .before .before .before in
-    let c2 = c3 .before .before in
-    let p = past-exit (c2 .before .before .before .before) in
-    let room = ne-eqb _ _ (λ q. c .if4 .left (c .before .before .count-used .ensures ∙ q ∙ sym (c .before .capacity .ensures))) in
-    rw (p .0, lt-leb exits _ (p .1), past-empty c2, past-fits c3, room)
+    let x = c .before .before .before in
+    let room = ne-eqb _ _ (λ q. c .if3 .left (c .before .before .count-used .ensures ∙ q ∙ sym (c .before .capacity .ensures))) in
+    sym (past-exit (x .before .before) ∙ rw (past-fits x, room))
 
 pub step-refusal-spec : {M : Type 1} → statement M
 step-refusal-spec =
@@ -93,12 +69,8 @@ step-refusal-spec =
     (λ c κs. search needs)
     returns
     (λ c κs. search needs)
-    (λ c κs. search needs)
-    target-at-requires
     returns-2
-    (λ c κs. search needs)
-    returns-3
     count-used-requires
     (λ c κs. search needs)
-    returns-4
-    returns-5)
+    returns-3
+    returns-4)

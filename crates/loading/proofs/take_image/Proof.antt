@@ -11,19 +11,19 @@ use Rattle.image.specs.Image.{Edition, stepFieldCount, recordSize, editionIn, i
 use Rattle.words.specs.Words.{words, tableOf, wordsOf}
 use Rattle.words.proofs.Laws.{words-table}
 use Rattle.records.specs.declared.StepRecord.{StepRecord}
-use Rattle.records.specs.Parts.{editionOf, stepRead, readStep}
-use Rattle.records.proofs.Reading.{HeaderFits, HeaderSays, StepSays, second-room, step-least, header-edition, header-known, header-refuted, step-known, step-refuted}
+use Rattle.records.specs.Records.{editionOf, stepRead, readStep}
+use Rattle.records.proofs.Reading.{HeaderFits, HeaderSays, StepSays, newer-room, step-least, header-edition, header-known, header-refuted, step-known, step-refuted}
 use Rattle.loading.proofs.Loading.{Filled, filled-none, filled-more, filled-bits, filled-counts, filled-capacity, filled-table, filled-accepted, next-twice, unfit-refused, nothing-refused, twice-refused}
 use Rattle.loading.proofs.take_image.Statement.{statement}
 use Rattle.loading.proofs.take_image.Tie as tie
 
 abbrev Inv-loop : tie.InvT-loop
-Inv-loop t₀ bytes second capacity last size at₀ t at =
-    Filled bytes (tableOf t) at × HeaderFits bytes × (length t ≡ words) × (editionOf second ≡ editionIn bytes) ×
+Inv-loop t₀ bytes newer capacity last size at₀ t at =
+    Filled bytes (tableOf t) at × HeaderFits bytes × (length t ≡ words) × (editionOf newer ≡ editionIn bytes) ×
     (size ≡ recordSize (stepFieldCount (editionIn bytes)))
 
 abbrev μ-loop : tie.MeasureT-loop
-μ-loop t₀ bytes second capacity last size at₀ t at = length bytes - at
+μ-loop t₀ bytes newer capacity last size at₀ t at = length bytes - at
 
 -- the bytes, at the loop's head, and the loop's head, where a record was found
 abbrev bytesAt : tie.At-loop Inv-loop μ-loop → List ℕ
@@ -33,10 +33,10 @@ abbrev headOf : tie.After-r Inv-loop μ-loop → tie.At-loop Inv-loop μ-loop
 headOf c = c .before .before .before .before .before
 
 -- what the header that was found says
-header-here : (c : tie.After-second Inv-loop μ-loop) →
-    let f = c .second .given .0 in
+header-here : (c : tie.After-newer Inv-loop μ-loop) →
+    let f = c .newer .given .0 in
     HeaderSays (c .before .before .before .before .args .bytes .now) (f .0) (f .1 .0) (f .1 .1 .0)
-header-here c = header-known _ _ _ _ (sym (c .second .given .1) ∙ c .before .before .read-header .ensures)
+header-here c = header-known _ _ _ _ (sym (c .newer .given .1) ∙ c .before .before .read-header .ensures)
 
 -- what the reader finds is of the header's edition
 reads : (c : tie.After-read-step Inv-loop μ-loop) →
@@ -78,7 +78,7 @@ returns c =
 take-header-requires : tie.Need-take-header-requires Inv-loop μ-loop
 take-header-requires c κs =
     let h = header-here (c .before .before) in
-    (h .capacity, λ s. second-room _ (h .fits) (sym (h .second) ∙ s))
+    (h .capacity, λ s. newer-room _ (h .fits) (sym (h .newer) ∙ s))
 
 loop-holds : tie.Need-loop-holds Inv-loop μ-loop
 loop-holds c =

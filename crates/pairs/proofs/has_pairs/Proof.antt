@@ -16,7 +16,7 @@ use Rattle.table.proofs.Sound.{test-sound}
 use Rattle.image.specs.Image.{recordSize}
 use Rattle.image.specs.Slip.{recordIn, changed, pairsBelow, recordLength}
 use Rattle.words.specs.Words.{tableOf}
-use Rattle.pairs.specs.Parts.{SoundPair}
+use Rattle.pairs.specs.SoundPair.{SoundPair}
 use Rattle.pairs.proofs.Pairs.{pairs-room, Read, read-none, read-more, read-same, read-all, read-other}
 use Rattle.pairs.proofs.has_pairs.Statement.{statement}
 use Rattle.pairs.proofs.has_pairs.Tie as tie

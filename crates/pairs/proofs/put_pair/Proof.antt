@@ -12,8 +12,8 @@ use Rattle.image.specs.Slip.{recordLength, recordIn}
 use Rattle.image.proofs.Slips.{length-record-in}
 use Rattle.words.specs.Words.{tableOf}
 use Rattle.records.specs.declared.StepRecord.{StepRecord}
-use Rattle.records.specs.Parts.{recordFields}
-use Rattle.writing.proofs.Writing.{part-back}
+use Rattle.records.specs.Records.{recordFields}
+use Rattle.records.proofs.Laws.{part-back}
 use Rattle.pairs.proofs.put_pair.Statement.{statement}
 use Rattle.pairs.proofs.put_pair.Tie as tie
 

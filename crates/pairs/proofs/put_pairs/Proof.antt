@@ -11,7 +11,7 @@ use Rattle.table.proofs.Sound.{test-sound}
 use Rattle.image.specs.Image.{recordSize}
 use Rattle.image.specs.Slip.{pairsBelow, recordLength}
 use Rattle.words.specs.Words.{tableOf}
-use Rattle.pairs.specs.Parts.{SoundPair}
+use Rattle.pairs.specs.SoundPair.{SoundPair}
 use Rattle.pairs.proofs.Pairs.{pairs-room, Put, put-none, put-more, put-same, put-all}
 use Rattle.pairs.proofs.put_pairs.Statement.{statement}
 use Rattle.pairs.proofs.put_pairs.Tie as tie

@@ -7,7 +7,7 @@ use borrow.Author.Tests.{eq-eqb, ne-eqb}
 use Rattle.finite.specs.Below.{all, same}
 use Rattle.image.specs.Image.{edition2}
 use Rattle.records.specs.declared.StepRecord.{StepRecord}
-use Rattle.records.specs.Parts.{added, recordFields}
+use Rattle.records.specs.Records.{added, recordFields}
 use Rattle.pairs.proofs.Laws.{agree, same-agree}
 use Rattle.pairs.proofs.same_record.Statement.{statement}
 use Rattle.pairs.proofs.same_record.Tie as tie

@@ -2,7 +2,7 @@
 use mathlib.Core.Path.{refl}
 use native.Mathlib.Omega.{arith}
 use Rattle.image.specs.Image.{fieldAt}
-use Rattle.records.specs.Parts.{cabinAt}
+use Rattle.records.specs.Records.{cabinAt}
 use Rattle.records.proofs.cabin_in.Statement.{statement}
 use Rattle.records.proofs.cabin_in.Tie as tie
 

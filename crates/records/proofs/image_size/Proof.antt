@@ -4,12 +4,12 @@ use Prim.Native.Nat.{ℕ, _+_, _*_, _^_, _<_}
 use native.Mathlib.Omega.{arith}
 use borrow.Author.Needs.{needs}
 use Rattle.image.specs.Image.{headerFieldCount, stepFieldCount, recordSize}
-use Rattle.records.specs.Parts.{editionOf}
+use Rattle.records.specs.Records.{editionOf}
 use Rattle.records.proofs.image_size.Statement.{statement}
 use Rattle.records.proofs.image_size.Tie as tie
 
-short : (second : Bool) (n : ℕ) → n < 65536 →
-    recordSize (headerFieldCount (editionOf second)) + recordSize (stepFieldCount (editionOf second)) * n < 2 ^ 64
+short : (newer : Bool) (n : ℕ) → n < 65536 →
+    recordSize (headerFieldCount (editionOf newer)) + recordSize (stepFieldCount (editionOf newer)) * n < 2 ^ 64
 unfolding recordSize
 short true n l = omega arith
 short false n l = omega arith
@@ -18,7 +18,7 @@ short false n l = omega arith
 fits : (c : tie.After-wide) → c .before .before .header-size .result + c .before .step-size .result * c .wide .result < 2 ^ 64
 fits c =
     let a = c .before .before .before .args in
-    rw (c .before .before .header-size .ensures, c .before .step-size .ensures, c .wide .ensures) (short (a .second) (a .steps) (search needs))
+    rw (c .before .before .header-size .ensures, c .before .step-size .ensures, c .wide .ensures) (short (a .newer) (a .steps) (search needs))
 
 returns : tie.Need-returns
 returns c = rw (c .before .before .header-size .ensures, c .before .step-size .ensures, c .wide .ensures)

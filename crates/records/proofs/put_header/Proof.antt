@@ -7,7 +7,7 @@ use native.Mathlib.Omega.{arith}
 use lib.ListN.{length, drop}
 use borrow.Author.Needs.{needs}
 use Rattle.image.specs.Image.{headerKindOf, headerFieldCount, recordSize, recordBytes}
-use Rattle.records.specs.Parts.{editionOf, putWords, added}
+use Rattle.records.specs.Records.{editionOf, putWords, added}
 use Rattle.records.proofs.Laws.{put-more, put-record, header-length, header-most}
 use Rattle.records.proofs.Reading.{header-least}
 use Rattle.records.proofs.put_header.Statement.{statement}
@@ -37,29 +37,29 @@ five c =
 whole : (c : tie.After-slice-known3) (rest ds : List ℕ) →
     let f = fourOf c in
     let a = argsOf f .args in
-    let e = editionOf (a .second) in
+    let e = editionOf (a .newer) in
     rest ≡ added e (a .quotas .now) → ds ≡ putWords (a .part .now) 0 (numbers f rest) →
     ds ≡ recordBytes (headerKindOf e) (a .capacity ∷ a .last ∷ a .steps ∷ added e (a .quotas .now)) ++ drop (recordSize (headerFieldCount e)) (a .part .now)
 whole c rest ds q p =
     let f = fourOf c in
     let a = argsOf f .args in
-    let e = editionOf (a .second) in
+    let e = editionOf (a .newer) in
     put-record (a .part .now) ds (headerFieldCount e) _ _ (headerKindOf e) (a .capacity ∷ a .last ∷ a .steps ∷ rest) _
     (f .before .before .header-size .ensures) (f .before .header-kind .ensures) (ap (λ (l : List ℕ). a .capacity ∷ a .last ∷ a .steps ∷ l) q)
     (header-length e (a .capacity) (a .last) (a .steps) (a .quotas .now) (f .before .before .before .before .listed .ensures)) (argsOf f .pre) p
 
 cast-put-four : tie.Need-cast-put-four
-cast-put-four c = omega (arith, c .header-size .ensures, header-most (editionOf (c .before .before .before .before .args .second)))
+cast-put-four c = omega (arith, c .header-size .ensures, header-most (editionOf (c .before .before .before .before .args .newer)))
 
 put-four-requires : tie.Need-put-four-requires
 put-four-requires c κs =
     let s = c .before .before .before .before .before in
-    omega (arith, s .pre, header-least (editionOf (s .args .second)))
+    omega (arith, s .pre, header-least (editionOf (s .args .newer)))
 
 put-word-requires : tie.Need-put-word-requires
 put-word-requires c κs =
     let f = c .before .before .before in
-    omega (arith, f .put-four .kept .0, argsOf f .pre, header-least (editionOf (argsOf f .args .second)))
+    omega (arith, f .put-four .kept .0, argsOf f .pre, header-least (editionOf (argsOf f .args .newer)))
 
 put-quotas-requires : tie.Need-put-quotas-requires
 unfolding recordSize

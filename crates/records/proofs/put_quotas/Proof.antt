@@ -9,7 +9,7 @@ use lib.Seq.{take-all, take-suc, length-take-le}
 use borrow.Author.Needs.{needs}
 use Rattle.table.specs.Table.{quotaNumbers}
 use Rattle.image.specs.Image.{words}
-use Rattle.records.specs.Parts.{putWords}
+use Rattle.records.specs.Records.{putWords}
 use Rattle.records.proofs.Laws.{put-more}
 use Rattle.records.proofs.put_quotas.Statement.{statement}
 use Rattle.records.proofs.put_quotas.Tie as tie

@@ -7,7 +7,7 @@ use native.Mathlib.Omega.{arith}
 use lib.ListN.{length, drop}
 use borrow.Author.Needs.{needs}
 use Rattle.image.specs.Image.{stepKindOf, stepFieldCount, recordSize, recordBytes}
-use Rattle.records.specs.Parts.{editionOf, putWords, added, recordFields}
+use Rattle.records.specs.Records.{editionOf, putWords, added, recordFields}
 use Rattle.records.proofs.Laws.{put-more, put-record, step-length, step-most}
 use Rattle.records.proofs.Reading.{step-least}
 use Rattle.records.proofs.put_step.Statement.{statement}
@@ -54,14 +54,14 @@ ten c =
 -- the record, where what the edition adds is put behind them
 whole : (c : tie.After-slice-known5) (rest ds : List ℕ) →
     let a = begun c .args in
-    let e = editionOf (a .second) in
+    let e = editionOf (a .newer) in
     rest ≡ added e (a .r .cabin ∷ []) → ds ≡ putWords (a .part .now) 0 (numbers c rest) →
     ds ≡ recordBytes (stepKindOf e) (recordFields e (a .r)) ++ drop (recordSize (stepFieldCount e)) (a .part .now)
 unfolding recordFields
 whole c rest ds q p =
     let a = begun c .args in
     let r = a .r in
-    let e = editionOf (a .second) in
+    let e = editionOf (a .newer) in
     let w = kindOf (fourOf c) in
     put-record (a .part .now) ds (stepFieldCount e) _ _ (stepKindOf e)
     (r .number ∷ r .kind ∷ r .content ∷ r .bits ∷ r .first ∷ r .second ∷ r .third ∷ r .fourth ∷ rest) _
@@ -71,10 +71,10 @@ whole c rest ds q p =
 
 -- the part has room for the fields of both editions
 room : (s : tie.Start) → 20 ≤ length (s .args .part .now)
-room s = omega (arith, s .pre, step-least (editionOf (s .args .second)))
+room s = omega (arith, s .pre, step-least (editionOf (s .args .newer)))
 
 cast-put-word : tie.Need-cast-put-word
-cast-put-word c = omega (arith, c .step-size .ensures, step-most (editionOf (c .before .before .before .args .second)))
+cast-put-word c = omega (arith, c .step-size .ensures, step-most (editionOf (c .before .before .before .args .newer)))
 
 put-word-requires : tie.Need-put-word-requires
 put-word-requires c κs = omega (arith, room (c .before .before .before))

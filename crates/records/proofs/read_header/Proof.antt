@@ -9,17 +9,17 @@ use borrow.Author.Needs.{needs}
 use Rattle.finite.proofs.Bools.{not-true-false, not-false-true, clash}
 use Rattle.image.specs.Image.{Edition, headerKindOf, headerFieldCount, recordSize, recordAt, imageSize, wordAt, fieldAt, stepPlace, editionIn, capacityIn, lastIn, countIn}
 use Rattle.records.specs.declared.Header.the-variants.{Fits}
-use Rattle.records.specs.Parts.{editionOf}
+use Rattle.records.specs.Records.{editionOf}
 use Rattle.records.proofs.Reading.{edition-said, header-least, header-room, header-found, header-unfit}
 use Rattle.records.proofs.read_header.Statement.{statement}
 use Rattle.records.proofs.read_header.Tie as tie
 
 -- the bytes, and the edition that they say
-abbrev bytesOf : tie.After-second-in → List ℕ
+abbrev bytesOf : tie.After-newer-in → List ℕ
 bytesOf c = c .before .before .before .args .bytes .now
 
-edition : (c : tie.After-second-in) → editionOf (c .second-in .result) ≡ editionIn (bytesOf c)
-edition c = ap editionOf (c .second-in .ensures) ∙ edition-said (bytesOf c)
+edition : (c : tie.After-newer-in) → editionOf (c .newer-in .result) ≡ editionIn (bytesOf c)
+edition c = ap editionOf (c .newer-in .ensures) ∙ edition-said (bytesOf c)
 
 -- the length that the header says
 size : (c : tie.After-image-size) → c .image-size .result ≡ stepPlace (bytesOf (c .before .before)) (countIn (bytesOf (c .before .before)))
@@ -73,7 +73,7 @@ returns-5 c =
       begins = sym (begins b) ∙ not-false-true _ (c .before .before .before .if3 .left);
       capacity = omega (arith, capacity, c .before .if4 .left);
     }) in
-    (λ k. Fits (s .second-in .ensures k) (capacity k) (c .word-at3 .ensures k)) ∙ sym found
+    (λ k. Fits (s .newer-in .ensures k) (capacity k) (c .word-at3 .ensures k)) ∙ sym found
 
 pub read-header-spec : {M : Type 1} → statement M
 read-header-spec =

@@ -10,7 +10,7 @@ use borrow.Author.Needs.{needs}
 use Rattle.finite.proofs.Bools.{not-true-false, not-false-true, clash}
 use Rattle.image.specs.Image.{Edition, stepKindOf, stepFieldCount, recordSize, recordAt, wordAt, fieldAt}
 use Rattle.records.specs.declared.Read.the-variants.{Step}
-use Rattle.records.specs.Parts.{editionOf}
+use Rattle.records.specs.Records.{editionOf}
 use Rattle.records.proofs.Reading.{step-least, step-found, step-nothing}
 use Rattle.records.proofs.read_step.Statement.{statement}
 use Rattle.records.proofs.read_step.Tie as tie
@@ -20,7 +20,7 @@ abbrev partOf : tie.After-step-size → List ℕ
 partOf c = c .before .before .args .part .now
 
 abbrev editionAt : tie.After-step-size → Edition
-editionAt c = editionOf (c .before .before .args .second)
+editionAt c = editionOf (c .before .before .args .newer)
 
 -- past the first test the part has a record's length, with the old fields and in edition 2 the cabin
 room : (c : tie.Else1) → recordSize (stepFieldCount (editionAt (c .before))) ≤ length (partOf (c .before))
@@ -29,7 +29,7 @@ room c = omega (arith, c .before .step-size .ensures, c .if1 .left)
 old : (c : tie.Else1) → 20 ≤ length (partOf (c .before))
 old c = omega (arith, room c, step-least (editionAt (c .before)))
 
-cabin : (c : tie.Else1) → c .before .before .before .args .second ≡ true → 22 ≤ length (partOf (c .before))
+cabin : (c : tie.Else1) → c .before .before .before .args .newer ≡ true → 22 ≤ length (partOf (c .before))
 unfolding recordSize
 cabin c s =
     let long : recordSize (stepFieldCount (editionAt (c .before))) ≡ 22 = ap (λ (b : Bool). recordSize (stepFieldCount (editionOf b))) s in

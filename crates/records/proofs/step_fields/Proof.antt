@@ -1,7 +1,7 @@
 -- `records::step_fields` meets its contract: each word is the field that stands there. Assumes nothing.
 use borrow.Author.Needs.{needs}
 use Rattle.image.specs.Image.{fieldAt}
-use Rattle.records.specs.Parts.{stepRead}
+use Rattle.records.specs.Records.{stepRead}
 use Rattle.records.proofs.step_fields.Statement.{statement}
 use Rattle.records.proofs.step_fields.Tie as tie
 

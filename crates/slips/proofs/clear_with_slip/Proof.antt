@@ -15,7 +15,7 @@ use Rattle.image.specs.Slip.{changed, slip, slipSize, slipLength, SlipOutcome}
 use Rattle.image.proofs.TakenBack.{Led, cleared-led, slip-refused, slip-short, slip-fits, slip-made}
 use Rattle.words.specs.Words.{words, tableOf, wordsOf}
 use Rattle.words.proofs.Laws.{words-table}
-use Rattle.pairs.specs.Parts.{SoundPair}
+use Rattle.pairs.specs.SoundPair.{SoundPair}
 use Rattle.slips.proofs.clear_with_slip.Statement.{statement}
 use Rattle.slips.proofs.clear_with_slip.Tie as tie
 

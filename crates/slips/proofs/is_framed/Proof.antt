@@ -14,7 +14,7 @@ use Rattle.finite.proofs.Loops.{all-none, all-more, all-fails, all-done}
 use Rattle.table.specs.Table.{places}
 use Rattle.image.specs.Image.{recordSize, wordAt, fieldAt, Bytes}
 use Rattle.image.specs.Slip.{slipCount, oldPlace}
-use Rattle.slips.specs.Parts.{framed}
+use Rattle.slips.specs.Framed.{framed}
 use Rattle.slips.proofs.is_framed.Statement.{statement}
 use Rattle.slips.proofs.is_framed.Tie as tie
 

@@ -15,9 +15,9 @@ use Rattle.image.specs.Image.{edition2, recordSize, fieldAt, withRecord, counte
 use Rattle.image.specs.Slip.{recordLength, slipCount, oldPlace, fieldsAt, rebuilt}
 use Rattle.words.specs.Words.{words, tableOf}
 use Rattle.records.specs.declared.StepRecord.{StepRecord}
-use Rattle.records.specs.Parts.{recordFields, stepRead}
+use Rattle.records.specs.Records.{recordFields, stepRead}
 use Rattle.records.proofs.Reading.{part-fields}
-use Rattle.slips.specs.Parts.{Framed}
+use Rattle.slips.specs.Framed.{Framed}
 use Rattle.slips.proofs.Back.{record-read, after, after-bits, after-capacity}
 use Rattle.slips.proofs.put_back.Statement.{statement}
 use Rattle.slips.proofs.put_back.Tie as tie

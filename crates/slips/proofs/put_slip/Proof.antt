@@ -13,8 +13,8 @@ use Rattle.image.specs.Slip.{changed, pairsBelow, slip, slipSize}
 use Rattle.image.proofs.Words.{length-words}
 use Rattle.image.proofs.Slips.{length-pairs}
 use Rattle.words.specs.Words.{tableOf}
-use Rattle.records.specs.Parts.{putWords}
-use Rattle.writing.proofs.Writing.{part-back}
+use Rattle.records.specs.Records.{putWords}
+use Rattle.records.proofs.Laws.{part-back}
 use Rattle.slips.proofs.put_slip.Statement.{statement}
 use Rattle.slips.proofs.put_slip.Tie as tie
 

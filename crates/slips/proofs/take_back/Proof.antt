@@ -24,8 +24,8 @@ use Rattle.image.proofs.TakenBack.{Taken, again-made, taken-accepted, not-taken
 use Rattle.words.specs.Words.{words as wordCount, tableOf, wordsOf}
 use Rattle.words.proofs.Laws.{words-table}
 use Rattle.words.proofs.Refusals.{table-passed, table-stopped, refused-answer, refused-words, given-answer, given-words}
-use Rattle.slips.specs.Parts.{Framed}
-use Rattle.pairs.specs.Parts.{SoundPair}
+use Rattle.slips.specs.Framed.{Framed}
+use Rattle.pairs.specs.SoundPair.{SoundPair}
 use Rattle.slips.proofs.Back.{after-capacity, framed-test, test-framed}
 use Rattle.slips.proofs.take_back.Statement.{statement}
 use Rattle.slips.proofs.take_back.Tie as tie

@@ -5,7 +5,7 @@ use mathlib.Core.Logic.{⊎-elim}
 use lib.Dec.{eqb, ltb}
 use borrow.Author.Tests.{eq-eqb, ne-eqb}
 use Rattle.table.specs.Table.{counters}
-use Rattle.soundness.specs.Parts.{alarmFits}
+use Rattle.soundness.specs.Tests.{alarmFits}
 use Rattle.soundness.proofs.alarm_fits.Statement.{statement}
 use Rattle.soundness.proofs.alarm_fits.Tie as tie
 

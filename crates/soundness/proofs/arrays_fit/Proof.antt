@@ -9,7 +9,7 @@ use borrow.Author.Needs.{needs}
 use Rattle.finite.specs.Below.{all}
 use Rattle.table.specs.Table.{Table, places, exitPlaces}
 use Rattle.words.specs.Words.{tableOf}
-use Rattle.soundness.specs.Parts.{fieldsAt, stepFits, faults, exitFits, countersFit, arraysFit}
+use Rattle.soundness.specs.Tests.{fieldsAt, stepFits, faults, exitFits, countersFit, arraysFit}
 use Rattle.soundness.proofs.Totals.{no-faults, one-fault}
 use Rattle.soundness.proofs.arrays_fit.Statement.{statement}
 use Rattle.soundness.proofs.arrays_fit.Tie as tie

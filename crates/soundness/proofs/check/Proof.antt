@@ -11,8 +11,8 @@ use Rattle.table.specs.Table.{Table, cabinCount, kindOf, contentOf, ownBit, cab
 use Rattle.table.specs.Cabins.{charge}
 use Rattle.words.specs.Words.{tableOf}
 use Rattle.words.proofs.Laws.{shape-table}
-use Rattle.soundness.specs.Parts.{numbersFit, alarmFits, fieldsAt}
-use Rattle.soundness.proofs.Parts.{numbers-least, numbers-most, alarm-apart}
+use Rattle.soundness.specs.Tests.{numbersFit, alarmFits, fieldsAt}
+use Rattle.soundness.proofs.Tests.{numbers-least, numbers-most, alarm-apart}
 use Rattle.soundness.proofs.Laws.{Fitted, Checked, charges-counted, checked-ranged, checked-spans, unsound}
 use Rattle.soundness.proofs.check.Statement.{statement}
 use Rattle.soundness.proofs.check.Tie as tie

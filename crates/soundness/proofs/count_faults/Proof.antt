@@ -6,7 +6,7 @@ use native.Mathlib.Omega.{arith}
 use borrow.Author.Needs.{needs}
 use Rattle.table.specs.Table.{places}
 use Rattle.words.specs.Words.{tableOf}
-use Rattle.soundness.specs.Parts.{countersFit, faults}
+use Rattle.soundness.specs.Tests.{countersFit, faults}
 use Rattle.soundness.proofs.Totals.{faults-none, faults-le, faults-pass, faults-fail}
 use Rattle.soundness.proofs.count_faults.Statement.{statement}
 use Rattle.soundness.proofs.count_faults.Tie as tie

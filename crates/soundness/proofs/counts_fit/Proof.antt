@@ -1,6 +1,6 @@
 -- `counts_fit` tests the counters of one step. Assumes nothing.
 use borrow.Author.Tests.{eq-eqb, ne-eqb}
-use Rattle.soundness.specs.Parts.{countsFit}
+use Rattle.soundness.specs.Tests.{countsFit}
 use Rattle.soundness.proofs.counts_fit.Statement.{statement}
 use Rattle.soundness.proofs.counts_fit.Tie as tie
 

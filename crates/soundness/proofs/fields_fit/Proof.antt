@@ -7,7 +7,7 @@ use borrow.Author.Needs.{needs}
 use borrow.Author.Tests.{eq-eqb, ne-eqb}
 use Rattle.table.specs.Table.{counters}
 use Rattle.table.specs.Sound.{contentFits}
-use Rattle.soundness.specs.Parts.{fieldsFit}
+use Rattle.soundness.specs.Tests.{fieldsFit}
 use Rattle.soundness.proofs.fields_fit.Statement.{statement}
 use Rattle.soundness.proofs.fields_fit.Tie as tie
 

@@ -6,7 +6,7 @@ use native.Mathlib.Omega.{arith}
 use borrow.Author.Tests.{eq-eqb, ne-eqb}
 use Rattle.table.specs.Table.{places, exitPlaces}
 use Rattle.words.specs.Words.{tableOf}
-use Rattle.soundness.specs.Parts.{emptyAt, faults}
+use Rattle.soundness.specs.Tests.{emptyAt, faults}
 use Rattle.soundness.proofs.Totals.{faults-none, faults-le, faults-pass, faults-fail}
 use Rattle.soundness.proofs.filled.Statement.{statement}
 use Rattle.soundness.proofs.filled.Tie as tie

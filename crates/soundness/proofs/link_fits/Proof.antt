@@ -1,6 +1,6 @@
 -- `link_fits` tests one exit. Assumes nothing.
 use borrow.Author.Tests.{eq-eqb, ne-eqb, lt-ltb, le-ltb}
-use Rattle.soundness.specs.Parts.{linkFits}
+use Rattle.soundness.specs.Tests.{linkFits}
 use Rattle.soundness.proofs.link_fits.Statement.{statement}
 use Rattle.soundness.proofs.link_fits.Tie as tie
 

@@ -1,7 +1,7 @@
 -- `numbers_fit` tests the capacity and the last number given. Assumes nothing.
 use mathlib.Core.Path.{sym, _∙_}
 use borrow.Author.Needs.{needs}
-use Rattle.soundness.specs.Parts.{numbersFit}
+use Rattle.soundness.specs.Tests.{numbersFit}
 use Rattle.soundness.proofs.numbers_fit.Statement.{statement}
 use Rattle.soundness.proofs.numbers_fit.Tie as tie
 

@@ -6,9 +6,9 @@ use native.Mathlib.Omega.{arith}
 use borrow.Author.Needs.{needs}
 use Rattle.table.specs.Cabins.{quotasFit, charge}
 use Rattle.words.specs.Words.{tableOf}
-use Rattle.cabins.specs.Parts.{given, sharesFit}
+use Rattle.cabins.specs.Shares.{given, sharesFit}
 use Rattle.cabins.proofs.Laws.{tabulated, shares-agree}
-use Rattle.soundness.specs.Parts.{quotasHold}
+use Rattle.soundness.specs.Tests.{quotasHold}
 use Rattle.soundness.proofs.quotas_hold.Statement.{statement}
 use Rattle.soundness.proofs.quotas_hold.Tie as tie
 

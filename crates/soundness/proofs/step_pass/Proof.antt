@@ -13,7 +13,7 @@ use Rattle.finite.proofs.Below.{count-le}
 use Rattle.finite.proofs.Loops.{count-zero, count-next}
 use Rattle.table.specs.Table.{Table, places, inUse, kindOf, contentOf, ownBit, cabinOf}
 use Rattle.words.specs.Words.{tableOf}
-use Rattle.soundness.specs.Parts.{fieldsFit, fieldsAt, faults, hasCabin, cabinSteps}
+use Rattle.soundness.specs.Tests.{fieldsFit, fieldsAt, faults, hasCabin, cabinSteps}
 use Rattle.soundness.proofs.Totals.{faults-none, faults-le}
 use Rattle.soundness.proofs.step_pass.Statement.{statement}
 use Rattle.soundness.proofs.step_pass.Tie as tie

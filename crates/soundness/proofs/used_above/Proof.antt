@@ -7,7 +7,7 @@ use borrow.Author.Tests.{eq-eqb, ne-eqb, lt-ltb, le-ltb}
 use Rattle.finite.proofs.Bools.{or-left}
 use Rattle.table.specs.Table.{places}
 use Rattle.words.specs.Words.{tableOf}
-use Rattle.soundness.specs.Parts.{freeAbove, faults}
+use Rattle.soundness.specs.Tests.{freeAbove, faults}
 use Rattle.soundness.proofs.Totals.{faults-zero, faults-le, faults-pass, faults-fail}
 use Rattle.soundness.proofs.used_above.Statement.{statement}
 use Rattle.soundness.proofs.used_above.Tie as tie

@@ -17,9 +17,9 @@ use Rattle.table.proofs.Cabins.{formed-charges}
 use Rattle.table.proofs.Sound.{capacity-range, sound-test, test-sound}
 use Rattle.table.proofs.Squeeze.{does-not-fit}
 use Rattle.words.specs.Words.{tableOf}
-use Rattle.cabins.specs.Parts.{sharesFit}
+use Rattle.cabins.specs.Shares.{sharesFit}
 use Rattle.cabins.proofs.Laws.{list-quotas, tabulated, shares-agree, shares-charges}
-use Rattle.edits.proofs.Laws.{said-true, said-false}
+use Rattle.steps.proofs.Laws.{said-true, said-false}
 use Rattle.squeezing.proofs.squeeze_refusal.Statement.{statement}
 use Rattle.squeezing.proofs.squeeze_refusal.Tie as tie
 

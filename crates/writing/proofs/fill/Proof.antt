@@ -12,7 +12,7 @@ use Rattle.table.proofs.Sound.{test-sound}
 use Rattle.image.specs.Image.{Edition, image, imageSize, imageLength, put, roomTests}
 use Rattle.image.proofs.Laws.{put-made, put-refused, room-fits, room-short}
 use Rattle.words.specs.Words.{tableOf}
-use Rattle.records.specs.Parts.{editionOf}
+use Rattle.records.specs.Records.{editionOf}
 use Rattle.writing.proofs.Writing.{image-small}
 use Rattle.writing.proofs.fill.Statement.{statement}
 use Rattle.writing.proofs.fill.Tie as tie
@@ -30,11 +30,11 @@ module _ (v : Edition) (t : Table) (buffer : List ℕ) where
 -- the length worked out is the image's
 size : (c : tie.After-image-size) →
     let s = c .before .before .before in
-    c .image-size .result ≡ imageLength (editionOf (s .args .second)) (tableOf (s .args .t .now))
+    c .image-size .result ≡ imageLength (editionOf (s .args .newer)) (tableOf (s .args .t .now))
 unfolding imageLength
 size c =
     let s = c .before .before .before in
-    c .image-size .ensures ∙ ap (imageSize (editionOf (s .args .second))) (c .before .count-used .ensures)
+    c .image-size .ensures ∙ ap (imageSize (editionOf (s .args .newer))) (c .before .count-used .ensures)
 
 count-used-requires : tie.Need-count-used-requires
 count-used-requires c κs = test-sound (tableOf (c .before .args .t .now)) (c .before .pre) .most
@@ -42,7 +42,7 @@ count-used-requires c κs = test-sound (tableOf (c .before .args .t .now)) (c .b
 returns : tie.Need-returns
 returns c =
     let s = c .before .before .before .before in
-    let e = short (editionOf (s .args .second)) (tableOf (s .args .t .now)) (s .args .buffer .now) (omega (arith, size (c .before), c .if1 .taken)) in
+    let e = short (editionOf (s .args .newer)) (tableOf (s .args .t .now)) (s .args .buffer .now) (omega (arith, size (c .before), c .if1 .taken)) in
     (sym (ap (λ (o : WriteOutcome). o .answer) e), sym (ap (λ (o : WriteOutcome). o .buffer) e))
 
 put-image-requires : tie.Need-put-image-requires
@@ -55,14 +55,14 @@ cast-t11 c =
     let z = c .before .before .before .before .before in
     let s = z .before .before .before in
     let t = tableOf (s .args .t .now) in
-    omega (arith, size z, image-small (editionOf (s .args .second)) t (test-sound t (s .pre)))
+    omega (arith, size z, image-small (editionOf (s .args .newer)) t (test-sound t (s .pre)))
 
 returns-2 : tie.Need-returns-2
 returns-2 c =
     let z = c .before .before .before .before .before in
     let s = z .before .before .before in
     let e =
-    long (editionOf (s .args .second)) (tableOf (s .args .t .now)) (s .args .buffer .now) (omega (arith, size z, c .before .before .before .before .if1 .left)) in (
+    long (editionOf (s .args .newer)) (tableOf (s .args .t .now)) (s .args .buffer .now) (omega (arith, size z, c .before .before .before .before .if1 .left)) in (
       ap (λ (n : ℕ). Given n 0) (size z) ∙ sym (ap (λ (o : WriteOutcome). o .answer) e),
       c .before .before .put-image .ensures ∙ sym (ap (λ (o : WriteOutcome). o .buffer) e),
     )

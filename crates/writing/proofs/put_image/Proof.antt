@@ -13,19 +13,19 @@ use Rattle.table.specs.Sound.{sound}
 use Rattle.table.proofs.Sound.{test-sound}
 use Rattle.image.specs.Image.{Edition, headerFieldCount, stepFieldCount, recordSize, imageLength}
 use Rattle.words.specs.Words.{tableOf}
-use Rattle.records.specs.Parts.{editionOf}
+use Rattle.records.specs.Records.{editionOf}
 use Rattle.writing.proofs.Writing.{Written, record-fields, written-none, written-more, written-same, written-all, written-room}
 use Rattle.writing.proofs.put_image.Statement.{statement}
 use Rattle.writing.proofs.put_image.Tie as tie
 
 abbrev Inv-loop : tie.InvT-loop
-Inv-loop t second steps buffer₀ capacity n size at₀ i₀ buffer at i =
-    (i ≤ n) × (n ≡ tableOf t .capacity) × (sound (tableOf t) ≡ true) × (size ≡ recordSize (stepFieldCount (editionOf second))) ×
-    (imageLength (editionOf second) (tableOf t) ≤ length buffer₀) × (length buffer₀ < 2 ^ 64) ×
-    Written (editionOf second) (tableOf t) buffer₀ buffer at i
+Inv-loop t newer steps buffer₀ capacity n size at₀ i₀ buffer at i =
+    (i ≤ n) × (n ≡ tableOf t .capacity) × (sound (tableOf t) ≡ true) × (size ≡ recordSize (stepFieldCount (editionOf newer))) ×
+    (imageLength (editionOf newer) (tableOf t) ≤ length buffer₀) × (length buffer₀ < 2 ^ 64) ×
+    Written (editionOf newer) (tableOf t) buffer₀ buffer at i
 
 abbrev μ-loop : tie.MeasureT-loop
-μ-loop t second steps buffer₀ capacity n size at₀ i₀ buffer at i = n - i
+μ-loop t newer steps buffer₀ capacity n size at₀ i₀ buffer at i = n - i
 
 -- the arguments, at the loop's head
 abbrev startAt : tie.At-loop Inv-loop μ-loop → tie.Start Inv-loop μ-loop
@@ -35,7 +35,7 @@ abbrev tableAt : tie.At-loop Inv-loop μ-loop → Table
 tableAt l = tableOf (startAt l .args .t .now)
 
 abbrev editionAt : tie.At-loop Inv-loop μ-loop → Edition
-editionAt l = editionOf (startAt l .args .second)
+editionAt l = editionOf (startAt l .args .newer)
 
 -- a step below the capacity has a place
 low : (c : tie.In-loop Inv-loop μ-loop) → c .before .loop .i < 128
@@ -63,14 +63,14 @@ header-room v t = omega arith
 put-header-requires : tie.Need-put-header-requires Inv-loop μ-loop
 put-header-requires c κs =
     let s = c .before .before .before .before .before .before in
-    omega (arith, s .pre .2, header-room (editionOf (s .args .second)) (tableOf (s .args .t .now)))
+    omega (arith, s .pre .2, header-room (editionOf (s .args .newer)) (tableOf (s .args .t .now)))
 
 loop-holds : tie.Need-loop-holds Inv-loop μ-loop
 loop-holds c =
     let h = c .before .before .before .before .before in
     let q = h .before .before .before .before in
     let s = q .before .before .before in
-    let v = editionOf (s .args .second) in
+    let v = editionOf (s .args .newer) in
     let t = tableOf (s .args .t .now) in
     let start = h .put-header .last .0 in
     let k : length start ≡ length (s .args .buffer .now) = h .put-header .kept .0 in

@@ -1,0 +1,2 @@
+-- The laws that the proofs of several functions cite, here and above.
+pub mod Laws
