@@ -54,7 +54,7 @@ target-at-requires : tie.Need-target-at-requires
 target-at-requires c κs =
     let x = c .before .before in
     let f = exit-fits x in
-    (rw (c .before .wide .ensures) (used-place (is-sound (passed x) .shape) _ (f .0)), rw (c .wide2 .ensures) (own-exit _ _ (f .1)))
+    (rw (c .before .wide .ensures) (used-place (is-sound (passed x) .formed .shape) _ (f .0)), rw (c .wide2 .ensures) (own-exit _ _ (f .1)))
 
 target : (c : tie.After-target-at) → let s = tested (passed (looked c)) in c .target-at .result ≡ targetOf (given s) (s .args .step) (s .args .exit)
 target c =

@@ -44,7 +44,7 @@ target-at-requires : tie.Need-target-at-requires
 target-at-requires c κs =
     let x = c .before .before in
     let p = past-into x in
-    let place = used-place (clear-sound _ _ _ (past-source (x .before .before)) .shape) _ (p .0) in
+    let place = used-place (clear-sound _ _ _ (past-source (x .before .before)) .formed .shape) _ (p .0) in
     rw (c .wide2 .ensures, c .before .wide .ensures) (place, own-exit _ _ (p .1))
 
 returns-3 : tie.Need-returns-3

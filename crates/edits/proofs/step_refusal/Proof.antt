@@ -49,7 +49,7 @@ target-at-requires : tie.Need-target-at-requires
 target-at-requires c κs =
     let c1 = c .before .before in
     let p = past-exit c1 in
-    rw (c .wide2 .ensures, c .before .wide .ensures) (used-place (c1 .before .before .pre .shape) _ (p .0), own-exit _ _ (p .1))
+    rw (c .wide2 .ensures, c .before .wide .ensures) (used-place (c1 .before .before .pre .formed .shape) _ (p .0), own-exit _ _ (p .1))
 
 returns-2 : tie.Need-returns-2
 unfolding stepRefusal first
@@ -66,7 +66,7 @@ returns-3 c =
     rw (p .0, lt-leb exits _ (p .1), past-empty c2, said-false (c .before .content-fits .ensures) (c .if3 .taken))
 
 count-used-requires : tie.Need-count-used-requires
-count-used-requires c κs = c .before .before .before .before .before .before .before .before .pre .most
+count-used-requires c κs = c .before .before .before .before .before .before .before .before .pre .formed .most
 
 returns-4 : tie.Need-returns-4
 unfolding stepRefusal first

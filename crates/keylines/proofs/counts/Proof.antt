@@ -17,7 +17,7 @@ returns c =
     ap Refused e ∙ counts-unsound _ (λ z. c .if1 .taken (e ∙ z))
 
 count-used-requires : tie.Need-count-used-requires
-count-used-requires c κs = test-sound _ (passes-sound _ (sym (c .before .table-refusal .ensures) ∙ c .if1 .left)) .most
+count-used-requires c κs = test-sound _ (passes-sound _ (sym (c .before .table-refusal .ensures) ∙ c .if1 .left)) .formed .most
 
 sub-t6 : tie.Need-sub-t6
 unfolding stepsInUse
