@@ -21,7 +21,6 @@ use Rattle.table.specs.Table.{Table, cabinCount, quotaNumbers, stepsInUse}
 use Rattle.table.specs.Cabins.{guaranteeOf, limitOf, quotasFit, listFits, unmet, reserved, atLimit, noneToSpare, withinLimits, chargesFit, charge, freeSteps}
 use Rattle.table.specs.Sound.{Sound}
 use Rattle.table.specs.Answer.{cabinAtLimit, stepsReserved, first}
-use Rattle.table.proofs.Formed.{sound-formed}
 use Rattle.table.proofs.Cabins.{formed-charges}
 use Rattle.cabins.specs.Shares.{given, share, sharesFit, shareRefusal}
 
@@ -86,7 +85,7 @@ module _ {t : Table} (s : Sound t) (f : ℕ → ℕ) (same : Agree f (charge t))
   none-to-spare =
       let shares = sum-agree (t .quotas) f (charge t) same ∙ shares-total (t .quotas) (charge t) in
       let rest = total-rest cabinCount (unmet (t .quotas) (charge t)) c l in
-      let steps = formed-charges (sound-formed s) in
+      let steps = formed-charges (s .formed) in
       let others = total cabinCount (λ d. cond (eqb d c) 0 (unmet (t .quotas) (charge t) d)) in
       ap (λ (n : ℕ). leb (guaranteeOf (t .quotas) c) n && leb (t .capacity) (total cabinCount (share (t .quotas) f) + 1)) (same c l)
       ∙ ⊎-elim

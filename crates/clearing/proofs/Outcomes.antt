@@ -19,7 +19,7 @@ use Rattle.finite.proofs.Those.{length-those, those-ext}
 use Rattle.table.specs.declared.Answer.{Answer}
 use Rattle.table.specs.declared.Answer.the-variants.{Refused, Given}
 use Rattle.table.specs.Table.{Table, places, counterPlace, inUse, ownBit, targetOf, linkBit, counterOf, strong, linked, stronglyLinked, withLinks}
-use Rattle.table.specs.Sound.{Sound}
+use Rattle.table.specs.Sound.{Formed, Sound}
 use Rattle.table.specs.Answer.{WriteOutcome, tooShort, first}
 use Rattle.table.specs.Calls.{lowered, raised, relink}
 use Rattle.table.specs.Clear.{Repair, emptied, heldStrongly, stops, doubtful, repair, repairOf, unlinked, blanked, eachDoubtful, release, size, repaired, cleared, clearRefusal}
@@ -27,15 +27,15 @@ use Rattle.table.specs.Clear
 use Rattle.table.specs.Preview.{isFreed, wouldGo, previewRoom, previewRefusal, previewCall}
 use Rattle.table.proofs.Links.{holds-target, bit-strong}
 use Rattle.table.proofs.Relink.{counter-place-below}
-use Rattle.table.proofs.Formed.{Formed, sound-formed}
 use Rattle.table.proofs.Edits.{weak-bit}
 use Rattle.table.proofs.Calls.{ClearFits}
 use Rattle.table.proofs.Preview.{preview-order, preview-made, preview-refused-as, go-length, go-fits, go-none, go-marked, doubtful-links}
 use Rattle.words.specs.Words.{Becomes}
+use Rattle.words.specs.Marks.{isMarked}
 use Rattle.words.proofs.Formed.{target-place}
 use Rattle.withdraw.specs.Withdraw.{Losing, candidate}
 use Rattle.withdraw.proofs.Doubtful.{losing-formed}
-use Rattle.repairing.specs.Repairing.{underRepair, isOne, asMarks, Repairable, Candidates, Settling}
+use Rattle.repairing.specs.Repairing.{underRepair, asMarks, Repairable, Candidates, Settling}
 use Rattle.repairing.proofs.Laws.{marks-at}
 use Rattle.repairing.proofs.Repairs.{wanted-in, candidates-begin}
 use Rattle.clearing.specs.Clearing.{Searched}
@@ -54,8 +54,8 @@ module _ (u : Table) where
   abbrev found : List ℕ
   found = tabulate places (λ i. one (marked (doubtful u) i))
 
-  found-at : (i : ℕ) → i < places → isOne found i ≡ marked (doubtful u) i
-  unfolding isOne
+  found-at : (i : ℕ) → i < places → isMarked found i ≡ marked (doubtful u) i
+  unfolding isMarked
   found-at i l =
       let z : getD found i 0 ≡ one (marked (doubtful u) i) = getD-tabulate places (λ i. one (marked (doubtful u) i)) 0 i l in
       rw z (back (marked (doubtful u) i))
@@ -67,7 +67,7 @@ module _ (u : Table) where
   found-marks : u .capacity ≤ places → asMarks (u .capacity) found ≡ doubtful u
   unfolding asMarks
   found-marks m =
-      tabulate-entries (u .capacity) (isOne found) (doubtful u) false (unfold doubtful in length-tabulate (u .capacity) _)
+      tabulate-entries (u .capacity) (isMarked found) (doubtful u) false (unfold doubtful in length-tabulate (u .capacity) _)
       (λ i l. found-at i (omega arith))
 
   pub found-able : (n : ℕ) (doubt : List ℕ) → n ≡ u .capacity → doubt ≡ found → Formed u → Repairable u n doubt
@@ -76,7 +76,7 @@ module _ (u : Table) where
       record {
         capacity = sym q;
         formed = f;
-        doubted = λ i l h. doubtful-used i (sym (found-at i (omega arith)) ∙ subst (λ (d : List ℕ). isOne d i ≡ true) z h);
+        doubted = λ i l h. doubtful-used i (sym (found-at i (omega arith)) ∙ subst (λ (d : List ℕ). isMarked d i ≡ true) z h);
       }
 
   -- and the first candidates too
@@ -92,14 +92,14 @@ module _ (u : Table) where
       wanted′ : List Bool → ℕ → Bool
       wanted′ d i = Clear.wanted (record { table = u; doubt = d }) i
 
-  pub found-marked : (doubt : List ℕ) → doubt ≡ found → (k : ℕ) → isOne doubt k ≡ true → marked (doubtful u) k ≡ true
-  unfolding isOne
+  pub found-marked : (doubt : List ℕ) → doubt ≡ found → (k : ℕ) → isMarked doubt k ≡ true → marked (doubtful u) k ≡ true
+  unfolding isMarked
   found-marked doubt q k h =
       ⊎-elim
       (λ (l : places ≤ k).
       let none : getD doubt k 0 ≡ 0 = List·getD-eq-default doubt 0 {n = k} (rw (ap length q ∙ length-tabulate places (λ i. one (marked (doubtful u) i))) l) in
       clash h (rw none))
-      (λ l. sym (found-at k l) ∙ subst (λ (d : List ℕ). isOne d k ≡ true) q (unfold isOne in h))
+      (λ l. sym (found-at k l) ∙ subst (λ (d : List ℕ). isMarked d k ≡ true) q (unfold isMarked in h))
       (le-or-lt places k)
 
 -- Where no step is marked, nothing is freed.
@@ -163,9 +163,9 @@ module _ (t : Table) (s : Sound t) (i e : ℕ) (g : ClearFits t i e) where
   lowered-counter : counterOf (emptied t i e) target bit ≡ counterOf t target bit - 1
   unfolding counterOf emptied relink withLinks raised lowered
   lowered-counter =
-      let f = sound-formed s in
+      let f = s .formed in
       let low = counter-place-below target bit (f .bits i e (g .used) (g .exit)) (target-place f i e (g .exit)) in
-      rw (ne-eqb target 0 (holds-target t i e (g .filled))) (getD-set-same (t .counts) (counterPlace target bit) _ 0 (rw (s .shape .counts) low))
+      rw (ne-eqb target 0 (holds-target t i e (g .filled))) (getD-set-same (t .counts) (counterPlace target bit) _ 0 (rw (s .formed .shape .counts) low))
 
   pub weak-stops : (bit ≡ ownBit t target → ⊥) → not (stops t i e) ≡ false
   unfolding stops
@@ -249,16 +249,16 @@ module _ {t : Table} {i e n : ℕ} {doubt wanted doubt′ : List ℕ} (f : Fores
   unfolding repairOf
   left-marks = f .left ∙ ap₂ (λ (m : ℕ) (d : List Bool). repair m (record { table = after; doubt = d }) .doubt) size-after first-marks
 
-  numbers : those n (isOne doubt′) ≡ wouldGo t i e
+  numbers : those n (isMarked doubt′) ≡ wouldGo t i e
   unfolding wouldGo
   numbers =
       those-ext n _ (isFreed t (cleared t i e .table))
       (λ j l. sym (marks-at n doubt′ j l) ∙ ap (λ (d : List Bool). marked d j) left-marks ∙ sym (go-marked t i e s g (f .losing .goes) j))
       ∙ ap (λ (m : ℕ). those m (isFreed t (cleared t i e .table))) (f .size)
 
-  pub listed-fits : count n (isOne doubt′) ≤ previewRoom
+  pub listed-fits : count n (isMarked doubt′) ≤ previewRoom
   listed-fits =
-      let l = sym (length-those n (isOne doubt′)) ∙ ap length numbers ∙ go-length t i e s g in
+      let l = sym (length-those n (isMarked doubt′)) ∙ ap length numbers ∙ go-length t i e s g in
       let fits = go-fits t i e s g in
       omega arith
 
@@ -269,9 +269,9 @@ module _ {t : Table} {i e n : ℕ} {doubt wanted doubt′ : List ℕ} (f : Fores
       rw (f .losing .goes)
       (ap₂ Given (a ∙ ap₂ Clear.size (ap (λ (m : ℕ). asMarks m doubt) size-after ∙ first-marks) size-after) (b ∙ ap₂ Clear.size left-marks size-after))
 
-  pub foreseen-written : (buffer : List ℕ) → those n (isOne doubt′) ++ drop (count n (isOne doubt′)) buffer ≡ wouldGo t i e ++ drop (length (wouldGo t i e)) buffer
+  pub foreseen-written : (buffer : List ℕ) → those n (isMarked doubt′) ++ drop (count n (isMarked doubt′)) buffer ≡ wouldGo t i e ++ drop (length (wouldGo t i e)) buffer
   foreseen-written buffer =
-      ap (λ (m : ℕ). those n (isOne doubt′) ++ drop m buffer) (sym (length-those n (isOne doubt′)))
+      ap (λ (m : ℕ). those n (isMarked doubt′) ++ drop m buffer) (sym (length-those n (isMarked doubt′)))
       ∙ ap (λ (ms : List ℕ). ms ++ drop (length ms) buffer) numbers
 
 -- where rule 1 stops, nothing would go

@@ -6,8 +6,8 @@ use Prim.Native.Nat.{ℕ}
 use Rattle.finite.specs.Below.{one, tabulate}
 use Rattle.finite.specs.Reach.{marked}
 use Rattle.table.specs.Table.{Table, places}
+use Rattle.table.specs.Sound.{Formed}
 use Rattle.table.specs.Clear.{doubtful}
-use Rattle.table.proofs.Formed.{Formed}
 use Rattle.withdraw.specs.Withdraw.{candidate}
 
 pub record Searched (u : Table) (doubt wanted : List ℕ) : Type 0 where

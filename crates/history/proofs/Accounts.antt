@@ -23,8 +23,8 @@ use Rattle.table.specs.Calls.{numberGiven, relink, addConditions, addRefusal, a
 use Rattle.table.specs.Clear.{emptied, cleared, clearRefusal, clearCall}
 use Rattle.table.specs.Preview.{previewCall}
 use Rattle.table.specs.Squeeze.{squeezeRefusal, squeezeCall}
-use Rattle.table.proofs.Formed.{sound-formed, formed-wired}
-use Rattle.table.proofs.Cabins.{sound-shares, formed-charges, guarantee-free, charged-used, used-charged, Adds, charge-more, charge-stays}
+use Rattle.table.proofs.Links.{formed-wired}
+use Rattle.table.proofs.Cabins.{formed-charges, guarantee-free, charged-used, used-charged, Adds, charge-more, charge-stays}
 use Rattle.table.proofs.Edits.{number-given, adds}
 use Rattle.table.proofs.Clear.{Cleared, reached-in-use, emptied-used, emptied-steps, formed-emptied}
 use Rattle.table.proofs.Calls.{unless-zero, unless-refused, unless-refusal, past-sound, add-fits, ClearFits, clear-fits, clear-cleared}
@@ -159,7 +159,7 @@ module _ {t : Table} (s : Sound t) where
         (unfold saidBy in
         record {
           each = λ c. let all = left c in omega arith;
-          steps = λ n q. let x = fall in let some = formed-charges (sound-formed (c3 .sound)) in omega arith;
+          steps = λ n q. let x = fall in let some = formed-charges (c3 .sound .formed) in omega arith;
         })
 
     -- W7: and where the clearing is taken back, they are charged again
@@ -259,8 +259,8 @@ charges-demand f cs =
     let s = begun f .sound in
     record {
       each = λ c. after-account c (firstTable f) s cs;
-      together = formed-charges (sound-formed (after-sound (firstTable f) s cs));
-      kept = after-tally (firstTable f) s _ (let some = formed-charges (sound-formed s) in omega arith) cs;
+      together = formed-charges (after-sound (firstTable f) s cs .formed);
+      kept = after-tally (firstTable f) s _ (let some = formed-charges (s .formed) in omega arith) cs;
     }
 
 -- a number that no condition of an order gives: each has another number, or does not hold
@@ -368,9 +368,9 @@ guarantee-demand f cs =
     let s = after-sound (firstTable f) (begun f .sound) cs in
     record {
       adds = λ holder e kind content cabin l h.
-          let free = guarantee-free (sound-shares s) cabin l h in
+          let free = guarantee-free (s .shares) cabin l h in
           not-full (addCall t holder e kind content cabin) (add-room t cabin h (free .0) (free .1) holder e kind content);
       keys = λ bs h.
-          let free = guarantee-free (sound-shares s) keyCabin (omega arith) h in
+          let free = guarantee-free (s .shares) keyCabin (omega arith) h in
           not-full (keyCall t bs) (key-room t s h (free .0) (free .1) bs);
     }

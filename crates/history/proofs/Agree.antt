@@ -231,7 +231,7 @@ module _ {t : Table} (s : Sound t) where
       beside-unless _ _ _ _ s (back-refusal bs)
       (λ z.
       let x = accepted-taken t bs z in
-      let plan = rebuilt-plan t (s .shape) (s .most) bs in
+      let plan = rebuilt-plan t (s .formed .shape) (s .formed .most) bs in
       let rise : secondOf (clearedAgain t bs .answer) ≡ planCount (planTakenBack (planOf t) bs) - planCount (planOf t) =
       (let before = plan-count (sound-wired s) in
       let after = ap planCount (sym plan) ∙ plan-count (sound-wired (x .sound)) in

@@ -21,8 +21,7 @@ use Rattle.table.specs.Clear.{emptied, cleared, clearRefusal, clearCall}
 use Rattle.table.specs.Trial.{trialCall, underNumbers}
 use Rattle.table.specs.Squeeze.{newNumber, squeezed, squeezeRefusal, squeezeCall, ClearsAlike}
 use Rattle.table.proofs.Sound.{test-sound}
-use Rattle.table.proofs.Links.{sound-wired, linked-below}
-use Rattle.table.proofs.Formed.{formed-wired}
+use Rattle.table.proofs.Links.{formed-wired, sound-wired, linked-below}
 use Rattle.table.proofs.Spine.{strong-below}
 use Rattle.table.proofs.Calls.{unless-zero, clear-made, add-fits, link-fits, clear-fits, number-plan, add-sound, add-plan, link-sound, link-plan, clear-cleared, clear-plan}
 use Rattle.table.proofs.Clear.{emptied-steps, formed-emptied, sound-reached}
@@ -73,11 +72,11 @@ squeeze-demand t s c q z =
       answer = refl;
       capacity = refl;
       quotas = refl;
-      last = let n = new-below w 0 (s .alarm) in omega arith;
+      last = let n = new-below w 0 (s .formed .alarm) in omega arith;
       moved = r;
-      each = used-new-step w (s .alarm) (renumbered-follows r);
+      each = used-new-step w (s .formed .alarm) (renumbered-follows r);
       order = λ i j u l. new-rises t i j l u;
-      strengths = λ i e u l. follow-strong w (s .alarm) (renumbered-follows r) i e u l;
+      strengths = λ i e u l. follow-strong w (s .formed .alarm) (renumbered-follows r) i e u l;
     })
 
 pub twice-demand : (t : Table) → Sound t → (c : ℕ) (q : List ℕ) → squeezeRefusal t c q ≡ 0 → (d : ℕ) (l : List ℕ) →
@@ -118,7 +117,7 @@ clear-demand t s i e z =
     let formed = formed-emptied t s i e (g .used) (g .exit) (g .filled) in
     let w = formed-wired formed in
     let links = reach-iff u (λ a b l. linked-below w a b l) (formed .least) in
-    let after = reach-iff (cleared t i e .table) (λ a b l. linked-below (sound-wired (c .sound)) a b l) (c .sound .least) in
+    let after = reach-iff (cleared t i e .table) (λ a b l. linked-below (sound-wired (c .sound)) a b l) (c .sound .formed .least) in
     rw (clear-made t i e z)
     (record {
       sound = c .sound;

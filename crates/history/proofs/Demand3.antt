@@ -14,7 +14,7 @@ use Rattle.table.specs.Answer.{first, unless, refusalOf}
 use Rattle.table.specs.Calls.{freshTable, refusedTable, freshCall}
 use Rattle.table.specs.Plan.{Plan, planOf, freshPlan}
 use Rattle.table.proofs.Sound.{capacity-range, test-sound, sound-test}
-use Rattle.table.proofs.Formed.{sound-formed}
+use Rattle.table.proofs.Formed.{formed-counts}
 use Rattle.table.proofs.Spine.{strong-chain-short}
 use Rattle.table.proofs.Edits.{sound-fresh}
 use Rattle.table.proofs.Plan.{plan-fresh}
@@ -108,7 +108,7 @@ demand-3 f cs =
       plan = after-plan (firstTable f) (b .sound) cs ∙ ap (λ (p : Plan). planAfter p (withTold (firstTable f) cs)) (b .plan);
       begun = first-refusal f;
       heard = after-heard (firstTable f) (b .sound) cs ∙ ap (λ (p : Plan). drawnBy p (withTold (firstTable f) cs)) (b .plan);
-      counts = sound-formed s .exact;
+      counts = formed-counts (s .formed);
     }
 
 -- each part of it by itself

@@ -20,7 +20,7 @@ use Rattle.table.specs.Sound.{Sound}
 use Rattle.table.specs.Answer.{Outcome, secondOf}
 use Rattle.table.specs.Clear.{emptied, cleared, clearRefusal, clearCall}
 use Rattle.table.specs.Preview.{isFreed, wouldGo, previewRefusal, previewCall}
-use Rattle.table.proofs.Formed.{sound-formed, formed-below}
+use Rattle.table.proofs.Formed.{formed-below}
 use Rattle.table.proofs.Calls.{clear-made, clear-refusal-given, clear-sound, clear-fits, clear-cleared}
 use Rattle.table.proofs.Preview.{preview-order, preview-made, preview-refusal-given, preview-accepted, freed-counted, go-length, go-fits}
 use Rattle.history.specs.History.{row, run, tableAfter}
@@ -61,7 +61,7 @@ module _ (t : Table) (i e : ℕ) (buffer : List ℕ) (z : previewRefusal t i e (
   listed k = (
     (λ x. let y = entry (x .0) (x .1) in subst (λ (j : ℕ). isFreed t v j ≡ true) (sym (y .1) ∙ x .2) (y .0 .passes)),
     λ y.
-        let low = formed-below (sound-formed s) k (unfold isFreed in and-left (inUse t k) _ y) in
+        let low = formed-below (s .formed) k (unfold isFreed in and-left (inUse t k) _ y) in
         let rank = count-rises (isFreed t v) k (t .capacity) low y in
         let m : count k (isFreed t v) < n = rw (sym (freed-counted t i e s (clear-fits t i e c))) rank in
         (count k (isFreed t v), m, List·getD-append numbers _ 0 _ (rw long m) ∙ those-at (t .capacity) (isFreed t v) k low y),
@@ -105,7 +105,7 @@ module _ (t : Table) (i e : ℕ) (buffer : List ℕ) (z : previewRefusal t i e (
         );
         cut = cut;
         ascending = rising;
-        bytes = λ m l. let x = entry m l in let b = x .0 .below in let most = sound-formed s .most in rw (x .1) (omega arith);
+        bytes = λ m l. let x = entry m l in let b = x .0 .below in let most = s .formed .most in rw (x .1) (omega arith);
         past = subst (λ (k : ℕ). drop k out ≡ drop k buffer) long (drop-at numbers _ _ refl);
         size =
             length-append numbers (drop (length numbers) buffer)

@@ -88,7 +88,7 @@ module _ (t : Table) (i e : ℕ) (buffer : List ℕ) (z : clearSlipRefusal t i e
 
   most : n ≤ 5638
   unfolding slipLength recordSize
-  most = let c = count-le (t .capacity) (changed t v) in let m = clear-sound t i e accepted .most in omega arith
+  most = let c = count-le (t .capacity) (changed t v) in let m = clear-sound t i e accepted .formed .most in omega arith
 
   unchanged : (k : ℕ) → recordIn t k ≡ recordIn v k → changed t v k ≡ false
   unfolding changed
@@ -121,7 +121,7 @@ module _ (t : Table) (i e : ℕ) (buffer : List ℕ) (z : clearSlipRefusal t i e
         exit = slip-head i e t v (drop n buffer) .1;
         long = fields;
         most = most;
-        zeros = λ k l f. blank-record (led .to .free k l f);
+        zeros = λ k l f. blank-record (led .to .formed .free k l f);
         used = λ k l c. changed-used i e t v led k l c;
         regret = λ cs q. ap₂ takeBackCall q written ∙ regret (clear-sound t i e accepted) i e accepted;
       })
@@ -165,7 +165,7 @@ module _ (t : Table) (s : Sound t) (bs : List ℕ) (z : takeBackRefusal t bs ≡
       rw (unless-zero _ t _ z)
       (record {
         sound = x .sound;
-        plan = rebuilt-plan t (s .shape) (s .most) bs;
+        plan = rebuilt-plan t (s .formed .shape) (s .formed .most) bs;
         again = λ buffer l. ap (λ (o : SlipOutcome). o .table) (made-again buffer l) ∙ x .table;
         slip = λ buffer l.
             ap (λ (o : SlipOutcome). take (length bs) (o .buffer)) (made-again buffer l)

@@ -38,8 +38,8 @@ sole-length capacity = refl
 sole-quotas : (t : Table) → Sound t → hasSoleQuotas t ≡ true → t .quotas ≡ soleQuotas (t .capacity)
 unfolding hasSoleQuotas
 sole-quotas t s h =
-    ext-getD 0 (t .quotas) (soleQuotas (t .capacity)) (s .shape .quotas ∙ sym (sole-length (t .capacity)))
-    (λ k l. eqb-true _ _ (all-at quotaNumbers _ h k (omega (arith, s .shape .quotas))))
+    ext-getD 0 (t .quotas) (soleQuotas (t .capacity)) (s .formed .shape .quotas ∙ sym (sole-length (t .capacity)))
+    (λ k l. eqb-true _ _ (all-at quotaNumbers _ h k (omega (arith, s .formed .shape .quotas))))
 
 pub sayable-says : (v : Edition) (t : Table) → Sound t → sayable v t ≡ true → Says v t
 unfolding sayable
@@ -58,7 +58,7 @@ says-sayable edition1 t s p =
     and-intro
     (all-intro (t .capacity) (λ i. eqb (cabinOf t i) 0)
     (λ i h.
-    eq-eqb (cabinOf t i) 0 (⊎-elim (λ u. p .cabins i u) (λ u. s .free i (omega (arith, s .most)) u .cabin) (test (inUse t i)))))
+    eq-eqb (cabinOf t i) 0 (⊎-elim (λ u. p .cabins i u) (λ u. s .formed .free i (omega (arith, s .formed .most)) u .cabin) (test (inUse t i)))))
     (all-intro quotaNumbers (λ k. eqb (getD (t .quotas) k 0) (getD (soleQuotas (t .capacity)) k 0))
     (λ k h. eq-eqb _ _ (ap (λ (q : List ℕ). getD q k 0) (p .quotas))))
 says-sayable edition2 t s p = refl

@@ -35,8 +35,8 @@ image-length = Written.image-length
 -- and of a sound table no image is longer than the largest
 pub image-most : (v : Edition) (t : Table) → Sound t → imageLength v t ≤ largest v
 unfolding imageLength stepsInUse recordSize
-image-most edition1 t s = omega (arith, count-le (t .capacity) (inUse t), s .most)
-image-most edition2 t s = omega (arith, count-le (t .capacity) (inUse t), s .most)
+image-most edition1 t s = omega (arith, count-le (t .capacity) (inUse t), s .formed .most)
+image-most edition2 t s = omega (arith, count-le (t .capacity) (inUse t), s .formed .most)
 
 -- which an image with all steps in use has
 pub largest-size : (v : Edition) → imageSize v places ≡ largest v

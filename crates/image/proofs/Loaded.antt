@@ -163,7 +163,7 @@ module _ (bs : List ℕ) where
 
   pub accepted-capacity : accepted bs ≡ true → capacityIn bs ≤ places
   unfolding imageTable counted withLinks
-  accepted-capacity t = accepted-table t .most
+  accepted-capacity t = accepted-table t .formed .most
 
   -- what the records draw of step i is what the table has of it
   drawn-step : (i : ℕ) → i < places → planStep (imageTable bs) i ≡ drawnStep bs i

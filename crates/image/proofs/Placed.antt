@@ -213,7 +213,7 @@ record-plan w fields s m =
 module _ (t : Table) (s : Sound t) where
   bits-low : (j : ℕ) → j < places → (e : ℕ) → e < 5 → bitAt t j e < 2
   bits-low j l e h =
-      ⊎-elim (λ u. bit-small edition2 t s j u e h) (λ u. let z = bit-blank edition2 t s j (s .free j l u) e in omega arith) (test (inUse t j))
+      ⊎-elim (λ u. bit-small edition2 t s j u e h) (λ u. let z = bit-blank edition2 t s j (s .formed .free j l u) e in omega arith) (test (inUse t j))
 
   -- each bit is read back from the sum
   bits-back : (j : ℕ) → j < places → (e : ℕ) → e < 5 → bitsOf t j / 2 ^ e % 2 ≡ bitAt t j e
@@ -224,7 +224,7 @@ module _ (t : Table) (s : Sound t) where
   pub used-kind : (j : ℕ) → inUse t j ≡ true → (j ≡ 0 → ⊥) → kindOf t j ≡ 0 → ⊥
   unfolding kindFits contentFits
   used-kind j u d z =
-      let k : cond (eqb j 0) (eqb (kindOf t j) 0 && eqb (contentOf t j) 0) (contentFits (kindOf t j) (contentOf t j)) ≡ true = s .kinds j u in
+      let k : cond (eqb j 0) (eqb (kindOf t j) 0 && eqb (contentOf t j) 0) (contentFits (kindOf t j) (contentOf t j)) ≡ true = s .formed .kinds j u in
       clash k (rw (ne-eqb j 0 d, z) refl)
 
   -- the record of a step in use, put into a table, gives that step
@@ -257,12 +257,12 @@ module _ (t u : Table) (s : Sound t) (r : Sound u) where
       ⊎-elim
       (λ x.
       ⊎-elim (λ y. used-one edition2 t s j x ∙ sym (used-one edition2 u r j y))
-      (λ y. absurd (used-kind t s j x (λ z. clash (r .alarm) (ap (inUse u) (sym z) ∙ y)) (q ∙ r .free j l y .kind)))
+      (λ y. absurd (used-kind t s j x (λ z. clash (r .formed .alarm) (ap (inUse u) (sym z) ∙ y)) (q ∙ r .formed .free j l y .kind)))
       (test (inUse u j)))
       (λ x.
       ⊎-elim
-      (λ y. absurd (used-kind u r j y (λ z. clash (s .alarm) (ap (inUse t) (sym z) ∙ x)) (sym q ∙ s .free j l x .kind)))
-      (λ y. s .free j l x .used ∙ sym (r .free j l y .used))
+      (λ y. absurd (used-kind u r j y (λ z. clash (s .formed .alarm) (ap (inUse t) (sym z) ∙ x)) (sym q ∙ s .formed .free j l x .kind)))
+      (λ y. s .formed .free j l x .used ∙ sym (r .formed .free j l y .used))
       (test (inUse u j)))
       (test (inUse t j))
 
@@ -295,7 +295,7 @@ pub gathered-equal : (w t : Table) → Sound t → Gathered w t → counted w �
 unfolding counted withLinks
 gathered-equal w t s g =
     let h = g .shape in
-    let z = s .shape in
+    let z = s .formed .shape in
     let places-of : (a b : List ℕ) → length a ≡ places → length b ≡ places → ((j : ℕ) → j < places → getD a j 0 ≡ getD b j 0) → a ≡ b =
     λ a b x y f. ext-getD 0 a b (x ∙ sym y) (λ j l. f j (omega arith)) in
     let exits-of : (a b : List ℕ) → length a ≡ exitPlaces places → length b ≡ exitPlaces places →

@@ -24,7 +24,7 @@ use Rattle.table.specs.Sound.{Blank, Sound, sound}
 use Rattle.table.specs.Answer.{first, unless}
 use Rattle.table.proofs.Places.{exit-at-below, exit-place-split}
 use Rattle.table.proofs.Links.{sound-wired, used-below}
-use Rattle.table.proofs.Formed.{sound-formed}
+use Rattle.table.proofs.Formed.{formed-counts}
 use Rattle.table.proofs.Cabins.{used-charged}
 use Rattle.table.proofs.Edits.{getD-zeros}
 use Rattle.image.specs.Image.{Edition, edition1, edition2, bitsOf, stepAdds, stepFieldsOf, image, editionIn, countIn, quotasBy, quotasIn, numberIn, kindIn, contentIn, bitsIn, targetIn, cabinBy, cabinIn, bitIn, recordOf, hasRecord, recordField, counted, imageTable, accepted, loadCall}
@@ -109,7 +109,7 @@ module _ (v : Edition) (t : Table) (s : Sound t) where
   said-image i h field n a b =
       ⊎-elim
       (λ u. said-record (image v t) i field (has-record-used i ∙ u) ∙ ap field (image-record-of v t i (below i u) u) ∙ a u)
-      (λ u. said-none (image v t) i field (has-record-used i ∙ u) ∙ sym (b (s .free i h u)))
+      (λ u. said-none (image v t) i field (has-record-used i ∙ u) ∙ sym (b (s .formed .free i h u)))
       (test (inUse t i))
 
   -- the fields of a step in use
@@ -128,7 +128,7 @@ module _ (v : Edition) (t : Table) (s : Sound t) where
       said-image i h _ _ (λ u. image-field v t i (below i u) u (4 + e) (omega (arith, old-fields v)) ∙ record-target v t i e x) (λ b. b .targets e l)
 
   pub bit-small : (i : ℕ) → inUse t i ≡ true → (e : ℕ) → e < 5 → bitAt t i e < 2
-  bit-small i u e h = bit-cases (λ n. n < 2) t i e (s .bits i e u) (λ l. s .own i u)
+  bit-small i u e h = bit-cases (λ n. n < 2) t i e (s .formed .bits i e u) (λ l. s .formed .own i u)
 
   pub bit-blank : (i : ℕ) → Blank t i → (e : ℕ) → bitAt t i e ≡ 0
   bit-blank i b e = bit-cases (λ n. n ≡ 0) t i e (b .bits e) (λ l. b .own)
@@ -158,31 +158,31 @@ module _ (v : Edition) (t : Table) (s : Sound t) where
 
   used-entries : tabulate places (λ i. one (hasRecord (image v t) i)) ≡ t .used
   used-entries =
-      tabulate-entries places _ (t .used) 0 (s .shape .used)
+      tabulate-entries places _ (t .used) 0 (s .formed .shape .used)
       (λ i h.
       ⊎-elim (λ u. ap one (has-record-used i ∙ u) ∙ sym (used-one i u))
-      (λ u. ap one (has-record-used i ∙ u) ∙ sym (s .free i h u .used))
+      (λ u. ap one (has-record-used i ∙ u) ∙ sym (s .formed .free i h u .used))
       (test (inUse t i)))
 
   kinds-entries : tabulate places (λ i. recordField (image v t) i (kindIn (image v t))) ≡ t .kinds
   unfolding kindOf
-  kinds-entries = tabulate-entries places _ (t .kinds) 0 (s .shape .kinds) kind-image
+  kinds-entries = tabulate-entries places _ (t .kinds) 0 (s .formed .shape .kinds) kind-image
 
   contents-entries : tabulate places (λ i. recordField (image v t) i (contentIn (image v t))) ≡ t .contents
   unfolding contentOf
-  contents-entries = tabulate-entries places _ (t .contents) 0 (s .shape .contents) content-image
+  contents-entries = tabulate-entries places _ (t .contents) 0 (s .formed .shape .contents) content-image
 
   own-entries : tabulate places (λ i. recordField (image v t) i (λ k. bitIn (image v t) k exits)) ≡ t .own
   unfolding ownBit
-  own-entries = tabulate-entries places _ (t .own) 0 (s .shape .own) (λ i h. bit-image i exits h (omega arith))
+  own-entries = tabulate-entries places _ (t .own) 0 (s .formed .shape .own) (λ i h. bit-image i exits h (omega arith))
 
   cabins-entries : Says v t → tabulate places (λ i. recordField (image v t) i (cabinIn (image v t))) ≡ t .cabins
   unfolding cabinOf
-  cabins-entries p = tabulate-entries places _ (t .cabins) 0 (s .shape .cabins) (cabin-image p)
+  cabins-entries p = tabulate-entries places _ (t .cabins) 0 (s .formed .shape .cabins) (cabin-image p)
 
   quotas-entries : Says v t → quotasIn (image v t) ≡ t .quotas
   unfolding quotasIn
-  quotas-entries p = ap (λ x. quotasBy x (image v t)) (image-edition v t) ∙ quotas-said v t p (s .shape .quotas)
+  quotas-entries p = ap (λ x. quotasBy x (image v t)) (image-edition v t) ∙ quotas-said v t p (s .formed .shape .quotas)
 
   -- one field of each exit
   exit-entries : (field : ℕ → ℕ → ℕ) (l : List ℕ) → length l ≡ exitPlaces places →
@@ -194,21 +194,21 @@ module _ (v : Edition) (t : Table) (s : Sound t) where
 
   targets-entries : tabulate (exitPlaces places) (λ p. recordField (image v t) (holderAt p) (λ k. targetIn (image v t) k (exitAt p))) ≡ t .targets
   unfolding targetOf
-  targets-entries = exit-entries (targetIn (image v t)) (t .targets) (s .shape .targets) target-image
+  targets-entries = exit-entries (targetIn (image v t)) (t .targets) (s .formed .shape .targets) target-image
 
   bits-entries : tabulate (exitPlaces places) (λ p. recordField (image v t) (holderAt p) (λ k. bitIn (image v t) k (exitAt p))) ≡ t .bits
   unfolding linkBit
   bits-entries =
-      exit-entries (bitIn (image v t)) (t .bits) (s .shape .bits)
+      exit-entries (bitIn (image v t)) (t .bits) (s .formed .shape .bits)
       (λ i e h l. let b = exit-four i e l in let x = lt-ltb e exits b in bit-image i e h (omega arith) ∙ rw x)
 
   pub counts-entries : (u : Table) → u .capacity ≡ t .capacity → u .targets ≡ t .targets → u .bits ≡ t .bits →
       tabulate (places * counters) (λ q. linksTo u (q / counters) (q % counters)) ≡ t .counts
   unfolding counterOf
   counts-entries u c g h =
-      tabulate-entries (places * counters) _ (t .counts) 0 (s .shape .counts)
+      tabulate-entries (places * counters) _ (t .counts) 0 (s .formed .shape .counts)
       (λ q b.
-      links-same u t c g h (q / counters) (q % counters) ∙ sym (sound-formed s .exact (q / counters) (q % counters) (omega arith) (omega arith))
+      links-same u t c g h (q / counters) (q % counters) ∙ sym (formed-counts (s .formed) (q / counters) (q % counters) (omega arith) (omega arith))
       ∙ ap (λ p. getD (t .counts) p 0) (counter-place q))
 
   pub decode-encode : Says v t → imageTable (image v t) ≡ t
@@ -231,7 +231,7 @@ module _ (v : Edition) (t : Table) (s : Sound t) where
       }
 
   image-numbers : (k : ℕ) → k < countIn (image v t) → numberIn (image v t) k < places
-  image-numbers k h = let a = image-index v t k h in let m = s .most in omega (arith, index-number v t k a, a .below)
+  image-numbers k h = let a = image-index v t k h in let m = s .formed .most in omega (arith, index-number v t k a, a .below)
 
   image-bits : (k : ℕ) → k < countIn (image v t) → bitsIn (image v t) k ≤ 31
   image-bits k h =
@@ -265,7 +265,7 @@ accepted-says edition1 bs a q =
           λ i u.
           let w = accepted-table bs a in
           let h = used-below (sound-wired w) i u in
-          let m = w .most in
+          let m = w .formed .most in
           let f : (k : ℕ) → cabinIn bs k ≡ 0 = λ k. ap (λ v. cabinBy v bs k) q in
           table-cabin bs i (omega arith) ∙ said-record bs i (cabinIn bs) (sym (table-used bs i (omega arith)) ∙ u) ∙ f (recordOf bs i);
     }
@@ -284,8 +284,8 @@ sole-says t s q = record { quotas = q; cabins = λ i u. here i u (cabinOf t i) r
     here : (i : ℕ) → inUse t i ≡ true → (c : ℕ) → cabinOf t i ≡ c → c ≡ 0
     here i u zero e = refl
     here i u (suc c) e =
-        let x = used-charged t (suc c) i u (λ z. omega (arith, sym e ∙ ap (cabinOf t) z ∙ s .alarmCabin)) e in
+        let x = used-charged t (suc c) i u (λ z. omega (arith, sym e ∙ ap (cabinOf t) z ∙ s .formed .alarmCabin)) e in
         let some = count-pos (t .capacity) (charged t (suc c)) i (used-below (sound-wired s) i u) x in
-        let most = s .charges (suc c) (rw e at (s .cabins i u)) in
+        let most = s .shares .charges (suc c) (rw e at (s .formed .cabins i u)) in
         let none = ap (λ (l : List ℕ). limitOf l (suc c)) q ∙ sole-limit (t .capacity) c in
         omega (arith, some, most, none)

@@ -24,8 +24,8 @@ use Rattle.table.specs.Answer.{Outcome, tooShort, slipNotAccepted, first, refus
 use Rattle.table.specs.Calls.{relink}
 use Rattle.table.specs.Clear.{emptied, cleared, clearRefusal}
 use Rattle.table.specs.Plan.{Plan, planOf, planStep}
+use Rattle.table.proofs.Links.{formed-wired}
 use Rattle.table.proofs.Sound.{test-sound, sound-test}
-use Rattle.table.proofs.Formed.{formed-wired}
 use Rattle.table.proofs.Clear.{reached-in-use, emptied-used, emptied-steps, formed-emptied}
 use Rattle.table.proofs.Calls.{nonzero, first-zero, unless-zero, unless-refusal, clear-made, cleared-given, clear-refusal-given, clear-fits, clear-cleared, into-order, into-accepted}
 use Rattle.table.proofs.Same.{table-same, same-table}
@@ -68,7 +68,7 @@ module _ (i e : ℕ) (t u : Table) (d : Led t u) where
   unfolding changed
   changed-used j l c =
       ⊎-elim (λ x. x)
-      (λ x. clash c (ap not (same-lists (step-fields (blank-same (s .free j l x) (d .to .free j l (d .free j x)))))))
+      (λ x. clash c (ap not (same-lists (step-fields (blank-same (s .formed .free j l x) (d .to .formed .free j l (d .free j x)))))))
       (test (inUse t j))
 
   -- the records of the changed steps below m are in place
@@ -83,7 +83,7 @@ module _ (i e : ℕ) (t u : Table) (d : Led t u) where
   more : (m : ℕ) → m < t .capacity → (w : Table) → Mixed m w → changed t u m ≡ true → Mixed (suc m) (withRecord w (stepFieldsOf edition2 t m))
   unfolding stepFieldsOf
   more m l w x c =
-      let low : m < places = let z = s .most in omega arith in
+      let low : m < places = let z = s .formed .most in omega arith in
       let fields = stepFieldsOf edition2 t m in
       let q = record-numbers w fields in
       record {
@@ -102,7 +102,7 @@ module _ (i e : ℕ) (t u : Table) (d : Led t u) where
 
   none-more : (m : ℕ) → m < t .capacity → (w : Table) → Mixed m w → changed t u m ≡ false → Mixed (suc m) w
   none-more m l w x c =
-      let low : m < places = let z = s .most in omega arith in
+      let low : m < places = let z = s .formed .most in omega arith in
       record {
         shape = x .shape;
         capacity = x .capacity;
@@ -123,7 +123,7 @@ module _ (i e : ℕ) (t u : Table) (d : Led t u) where
   unfolding rounds count
   mixed zero l =
       record {
-        shape = d .to .shape;
+        shape = d .to .formed .shape;
         capacity = d .capacity;
         last = d .last;
         quotas = d .quotas;
@@ -164,7 +164,7 @@ module _ (i e : ℕ) (t u : Table) (d : Led t u) where
             ⊎-elim
             (λ (h : t .capacity ≤ j).
             step-trans (x .new j h)
-            (blank-same (d .to .free j l (d .to .above j (rw (d .capacity) h) l)) (s .free j l (s .above j h l))))
+            (blank-same (d .to .formed .free j l (d .to .formed .above j (rw (d .capacity) h) l)) (s .formed .free j l (s .formed .above j h l))))
             (λ h. x .old j h)
             (le-or-lt (t .capacity) j);
       })

@@ -209,15 +209,15 @@ shape-unless n t o s f =
 
 shape-performed : (t : Table) → Sound t → (d : Decoded) → Shape (performLine t d .table)
 unfolding performLine perform addCall linkCall clearCall spokenCounts
-shape-performed t s Nothing = s .shape
+shape-performed t s Nothing = s .formed .shape
 shape-performed t s (Line (Add holder e kind content)) =
-    shape-unless (addRefusal t holder e kind content keyCabin) t _ (s .shape)
-    (λ z. add-sound s holder e kind content keyCabin (add-fits t holder e kind content keyCabin z) .shape)
+    shape-unless (addRefusal t holder e kind content keyCabin) t _ (s .formed .shape)
+    (λ z. add-sound s holder e kind content keyCabin (add-fits t holder e kind content keyCabin z) .formed .shape)
 shape-performed t s (Line (Link source e second f)) =
-    shape-unless (linkRefusal t source e second f) t _ (s .shape) (λ z. link-sound s source e second f (link-fits t source e second f z) .shape)
+    shape-unless (linkRefusal t source e second f) t _ (s .formed .shape) (λ z. link-sound s source e second f (link-fits t source e second f z) .formed .shape)
 shape-performed t s (Line (Clear i e)) =
-    shape-unless (clearRefusal t i e) t _ (s .shape) (λ z. clear-cleared s i e (clear-fits t i e z) .3 .sound .shape)
-shape-performed t s (Line Count) = s .shape
+    shape-unless (clearRefusal t i e) t _ (s .formed .shape) (λ z. clear-cleared s i e (clear-fits t i e z) .3 .sound .formed .shape)
+shape-performed t s (Line Count) = s .formed .shape
 
 pub key-shape : (t : Table) (bs : List ℕ) → Shape t → Shape (keyCall t bs .table)
 unfolding keyCall

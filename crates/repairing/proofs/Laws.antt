@@ -28,9 +28,10 @@ use Rattle.table.proofs.Edits.{weak-bit}
 use Rattle.table.proofs.Relink.{relink-used}
 use Rattle.table.proofs.Formed.{formed-place, formed-relink, formed-flipped}
 use Rattle.words.specs.Words.{tableOf, Becomes, Relinkable}
+use Rattle.words.specs.Marks.{isMarked}
 use Rattle.words.proofs.Formed.{formed-relinkable}
 use Rattle.words.proofs.Becomes.{becomes-same, becomes-done}
-use Rattle.repairing.specs.Repairing.{isOne, asMarks, meant, linkedWithin, Standing, Added}
+use Rattle.repairing.specs.Repairing.{asMarks, meant, linkedWithin, Standing, Added}
 
 -- A table in order with a step in use.
 module _ {t : Table} {k : ℕ} (s : Standing t k) where
@@ -107,22 +108,22 @@ module _ (d : List Bool) (f : Table → ℕ → Table) where
   each-done t n k c e a = becomes-done (eachRound d f) t k (t .capacity) (e ∙ sym c) a
 
 -- No candidate is new, or one is.
-added-none : (p : ℕ → Bool) (doubt before : List ℕ) (low : ℕ) → ((i : ℕ) → (p i && isOne doubt i) ≡ false) → Added p doubt before before low low
+added-none : (p : ℕ → Bool) (doubt before : List ℕ) (low : ℕ) → ((i : ℕ) → (p i && isMarked doubt i) ≡ false) → Added p doubt before before low low
 added-none p doubt before low f =
     record { marks = λ i. let z = f i in rw z; most = omega arith; below = λ i l. refl; size = refl }
 
 added-one : (p : ℕ → Bool) (doubt before : List ℕ) (low mark j : ℕ) → j < length before → mark ≤ low → mark ≤ j →
-    ((i : ℕ) → (p i && isOne doubt i) ≡ eqb j i) → Added p doubt before (set before j 1) low mark
+    ((i : ℕ) → (p i && isMarked doubt i) ≡ eqb j i) → Added p doubt before (set before j 1) low mark
 added-one p doubt before low mark j l m n f =
     record {
       marks =
           λ i.
           ⊎-elim
           (λ (q : i ≡ j).
-          let z : (p i && isOne doubt i) ≡ true = f i ∙ eq-eqb j i (sym q) in
+          let z : (p i && isMarked doubt i) ≡ true = f i ∙ eq-eqb j i (sym q) in
           rw (z, q) (getD-set-same before j 1 0 l))
           (λ d.
-          let z : (p i && isOne doubt i) ≡ false = f i ∙ ne-eqb j i (λ q. d (sym q)) in
+          let z : (p i && isMarked doubt i) ≡ false = f i ∙ ne-eqb j i (λ q. d (sym q)) in
           rw z (getD-set-other before j i 1 0 d))
           (eq-or-ne i j);
       most = m;
@@ -134,7 +135,7 @@ added-more : (p q : ℕ → Bool) (doubt before middle after : List ℕ) (low ma
     Added p doubt before middle low mark → Added q doubt middle after mark mark′ → Added (λ i. p i || q i) doubt before after low mark′
 added-more p q doubt before middle after low mark mark′ a b =
     record {
-      marks = λ i. b .marks i ∙ ap (cond (q i && isOne doubt i) 1) (a .marks i) ∙ either-one (p i) (q i) (isOne doubt i) (getD before i 0);
+      marks = λ i. b .marks i ∙ ap (cond (q i && isMarked doubt i) 1) (a .marks i) ∙ either-one (p i) (q i) (isMarked doubt i) (getD before i 0);
       most = omega (arith, a .most, b .most);
       below = λ i l. b .below i l ∙ a .below i (omega (arith, b .most));
       size = b .size ∙ a .size;
@@ -156,7 +157,7 @@ module _ (doubt before : List ℕ) (low j : ℕ) where
   wants-nothing z = added-none (meant j) doubt before low (λ i. rw (eq-eqb j 0 z))
 
   pub wants-certain : (getD doubt j 0 ≡ 1 → ⊥) → Added (meant j) doubt before before low low
-  unfolding meant isOne
+  unfolding meant isMarked
   wants-certain d =
       added-none (meant j) doubt before low
       (λ i.
@@ -167,7 +168,7 @@ module _ (doubt before : List ℕ) (low j : ℕ) where
 
   pub wants-doubtful : (mark : ℕ) → j < length before → mark ≤ low → mark ≤ j → (j ≡ 0 → ⊥) → getD doubt j 0 ≡ 1 →
       Added (meant j) doubt before (set before j 1) low mark
-  unfolding meant isOne
+  unfolding meant isMarked
   wants-doubtful mark l m n d h =
       added-one (meant j) doubt before low mark j l m n
       (λ i.
@@ -189,19 +190,19 @@ added-exit t doubt before middle after k e low mark mark′ a b =
     rw (add-one e) (added-more (linkedWithin e t k) (λ j. leads t k e j) doubt before middle after low mark mark′ a b)
 
 -- Marks in a list of numbers.
-pub is-one : (l : List ℕ) (i : ℕ) → getD l i 0 ≡ 1 → isOne l i ≡ true
-unfolding isOne
-is-one l i h = eq-eqb _ 1 h
+pub one-marked : (l : List ℕ) (i : ℕ) → getD l i 0 ≡ 1 → isMarked l i ≡ true
+unfolding isMarked
+one-marked l i h = eq-eqb _ 1 h
 
-pub not-one : (l : List ℕ) (i : ℕ) → (getD l i 0 ≡ 1 → ⊥) → isOne l i ≡ false
-unfolding isOne
-not-one l i h = ne-eqb _ 1 h
+pub not-marked : (l : List ℕ) (i : ℕ) → (getD l i 0 ≡ 1 → ⊥) → isMarked l i ≡ false
+unfolding isMarked
+not-marked l i h = ne-eqb _ 1 h
 
-pub marks-at : (n : ℕ) (l : List ℕ) (i : ℕ) → i < n → marked (asMarks n l) i ≡ isOne l i
+pub marks-at : (n : ℕ) (l : List ℕ) (i : ℕ) → i < n → marked (asMarks n l) i ≡ isMarked l i
 unfolding asMarks
-marks-at n l i h = getD-tabulate n (isOne l) false i h
+marks-at n l i h = getD-tabulate n (isMarked l) false i h
 
-pub size-marks : (n : ℕ) (l : List ℕ) → size (asMarks n l) n ≡ count n (isOne l)
+pub size-marks : (n : ℕ) (l : List ℕ) → size (asMarks n l) n ≡ count n (isMarked l)
 unfolding size
 size-marks n l = count-ext n _ _ (marks-at n l)
 

@@ -22,41 +22,42 @@ use Rattle.table.proofs.Alike.{alike-linked, alike-used}
 use Rattle.table.proofs.Restore.{taken}
 use Rattle.table.proofs.Repair.{taking}
 use Rattle.words.specs.Words.{tableOf, Becomes}
-use Rattle.repairing.specs.Repairing.{underRepair, isOne, asMarks, wantedIn, Standing, Repairable, Added, Candidates, Settling}
-use Rattle.repairing.proofs.Laws.{is-one, marks-at, standing-emptied}
+use Rattle.words.specs.Marks.{isMarked}
+use Rattle.repairing.specs.Repairing.{underRepair, asMarks, wantedIn, Standing, Repairable, Added, Candidates, Settling}
+use Rattle.repairing.proofs.Laws.{one-marked, marks-at, standing-emptied}
 
 -- a place where 1 stands is a place of the list
 one-below : (l : List ℕ) (k : ℕ) → getD l k 0 ≡ 1 → k < length l
 one-below l k h =
     ⊎-elim (λ g. let z : getD l k 0 ≡ 0 = List·getD-eq-default l 0 {n = k} g in absurd (omega arith)) (λ g. g) (le-or-lt (length l) k)
 
-is-one-true : (l : List ℕ) (k : ℕ) → isOne l k ≡ true → getD l k 0 ≡ 1
-unfolding isOne
-is-one-true l k h = eqb-true _ 1 h
+marked-one : (l : List ℕ) (k : ℕ) → isMarked l k ≡ true → getD l k 0 ≡ 1
+unfolding isMarked
+marked-one l k h = eqb-true _ 1 h
 
 -- a mark taken out
 module _ (l : List ℕ) (k : ℕ) (here : getD l k 0 ≡ 1) where
-  unmarked-here : isOne (set l k 0) k ≡ false
-  unfolding isOne
+  unmarked-here : isMarked (set l k 0) k ≡ false
+  unfolding isMarked
   unmarked-here = let z : getD (set l k 0) k 0 ≡ 0 = getD-set-same l k 0 0 (one-below l k here) in rw z
 
-  unmarked-other : (i : ℕ) → (i ≡ k → ⊥) → isOne (set l k 0) i ≡ isOne l i
-  unfolding isOne
+  unmarked-other : (i : ℕ) → (i ≡ k → ⊥) → isMarked (set l k 0) i ≡ isMarked l i
+  unfolding isMarked
   unmarked-other i d = let z : getD (set l k 0) i 0 ≡ getD l i 0 = getD-set-other l k i 0 0 d in rw z
 
   marks-set : (n : ℕ) → k < n → asMarks n (set l k 0) ≡ set (asMarks n l) k false
   unfolding asMarks
-  marks-set n h = tabulate-set n k (isOne (set l k 0)) (isOne l) false h unmarked-here (λ i _ d. unmarked-other i d)
+  marks-set n h = tabulate-set n k (isMarked (set l k 0)) (isMarked l) false h unmarked-here (λ i _ d. unmarked-other i d)
 
-  unmarked-only : (i : ℕ) → isOne (set l k 0) i ≡ true → isOne l i ≡ true
+  unmarked-only : (i : ℕ) → isMarked (set l k 0) i ≡ true → isMarked l i ≡ true
   unmarked-only i m =
-      ⊎-elim (λ (e : i ≡ k). rw e (is-one l k here)) (λ d. sym (unmarked-other i d) ∙ m) (eq-or-ne i k)
+      ⊎-elim (λ (e : i ≡ k). rw e (one-marked l k here)) (λ d. sym (unmarked-other i d) ∙ m) (eq-or-ne i k)
 
-  pub marks-fall : (n : ℕ) → k < n → count n (isOne (set l k 0)) + 1 ≡ count n (isOne l)
+  pub marks-fall : (n : ℕ) → k < n → count n (isMarked (set l k 0)) + 1 ≡ count n (isMarked l)
   marks-fall n h =
-      let c = count-change n (isOne l) (isOne (set l k 0)) k h (λ i _ d. unmarked-other i d) in
-      let x : one (isOne l k) ≡ 1 = ap one (is-one l k here) in
-      let y : one (isOne (set l k 0) k) ≡ 0 = ap one unmarked-here in
+      let c = count-change n (isMarked l) (isMarked (set l k 0)) k h (λ i _ d. unmarked-other i d) in
+      let x : one (isMarked l k) ≡ 1 = ap one (one-marked l k here) in
+      let y : one (isMarked (set l k 0) k) ≡ 0 = ap one unmarked-here in
       omega arith
 
 -- a doubtful step d that was a candidate by a is now one by l too
@@ -74,7 +75,7 @@ module _ {t : Table} {n : ℕ} {doubt : List ℕ} (r : Repairable t n doubt) whe
   able-most = let x = r .formed .most in let y = r .capacity in omega arith
 
   pub able-standing : (k : ℕ) → k < n → getD doubt k 0 ≡ 1 → Standing t k
-  able-standing k l h = record { formed = r .formed; used = r .doubted k l (is-one doubt k h) }
+  able-standing k l h = record { formed = r .formed; used = r .doubted k l (one-marked doubt k h) }
 
   pub able-unlinked : (k : ℕ) → k < n → getD doubt k 0 ≡ 1 → Repairable (unlinked t k) n doubt
   unfolding unlinked relink withLinks inUse
@@ -115,7 +116,7 @@ unfolding wanted wantedIn
 wanted-in t doubt n c i l =
     ap₂ _&&_ (marks-at (t .capacity) doubt i (omega arith))
     (any-ext (t .capacity) _ _ (λ k h. ap (λ (a : Bool). not a && linked t k i) (marks-at (t .capacity) doubt k h))
-    ∙ ap (λ (m : ℕ). any m (λ k. not (isOne doubt k) && linked t k i)) c)
+    ∙ ap (λ (m : ℕ). any m (λ k. not (isMarked doubt k) && linked t k i)) c)
 
 -- Which step the definition takes, and when it stops.
 lowest-is : (n : ℕ) (p : ℕ → Bool) (k : ℕ) → k < n → p k ≡ true → ((i : ℕ) → i < k → p i ≡ false) → lowest n p ≡ k
@@ -142,7 +143,7 @@ repair-rests (suc f) r h =
 
 -- step k has a link to i and is not marked
 abbrev fromKept : (ℕ → ℕ → Bool) → List ℕ → ℕ → ℕ → Bool
-fromKept links doubt i k = not (isOne doubt k) && links k i
+fromKept links doubt i k = not (isMarked doubt k) && links k i
 
 one-is : (b : Bool) → one b ≡ 1 → b ≡ true
 one-is true h = refl
@@ -182,7 +183,7 @@ module _ {n : ℕ} {links : ℕ → ℕ → Bool} {doubt wants : List ℕ} {low 
 
     pub candidate-doubtful : getD doubt low 0 ≡ 1
     unfolding wantedIn
-    candidate-doubtful = is-one-true doubt low (and-left (isOne doubt low) _ wanted-low)
+    candidate-doubtful = marked-one doubt low (and-left (isMarked doubt low) _ wanted-low)
 
     -- one step more is not doubtful
     more : (i : ℕ) → any n (fromKept links (set doubt low 0) i) ≡ (any n (fromKept links doubt i) || links low i)
@@ -194,7 +195,7 @@ module _ {n : ℕ} {links : ℕ → ℕ → Bool} {doubt wants : List ℕ} {low 
         (λ x.
         let r = any-at n is x in
         ⊎-elim
-        (λ e. or-right (any n was) (links low i) (subst (λ (a : ℕ). links a i ≡ true) e (and-right (not (isOne (set doubt low 0) (r .0))) _ (r .2))))
+        (λ e. or-right (any n was) (links low i) (subst (λ (a : ℕ). links a i ≡ true) e (and-right (not (isMarked (set doubt low 0) (r .0))) _ (r .2))))
         (λ d.
         or-left (any n was) (links low i)
         (any-intro n was (r .0) (r .1) (subst (λ (b : Bool). (not b && links (r .0) i) ≡ true) (other (r .0) d) (r .2))))
@@ -205,8 +206,8 @@ module _ {n : ℕ} {links : ℕ → ℕ → Bool} {doubt wants : List ℕ} {low 
         let r = any-at n was y in
         let d : r .0 ≡ low → ⊥ =
         λ e.
-        clash (is-one doubt low candidate-doubtful)
-        (subst (λ (a : ℕ). isOne doubt a ≡ false) e (not-true-false _ (and-left (not (isOne doubt (r .0))) (links (r .0) i) (r .2)))) in
+        clash (one-marked doubt low candidate-doubtful)
+        (subst (λ (a : ℕ). isMarked doubt a ≡ false) e (not-true-false _ (and-left (not (isMarked doubt (r .0))) (links (r .0) i) (r .2)))) in
         any-intro n is (r .0) (r .1) (subst (λ (b : Bool). (not b && links (r .0) i) ≡ true) (sym (other (r .0) d)) (r .2)))
         (λ y. any-intro n is low l (and-intro (ap not (unmarked-here doubt low candidate-doubtful)) y))
         (or-elim (any n was) (links low i) x))
@@ -231,29 +232,29 @@ module _ {n : ℕ} {links : ℕ → ℕ → Bool} {doubt wants : List ℕ} {low 
         and-false true = refl
         and-false false = refl
 
-        at-low : (i : ℕ) → i ≡ low → getD after i 0 ≡ one (isOne (set doubt low 0) i && any n (fromKept links (set doubt low 0) i))
+        at-low : (i : ℕ) → i ≡ low → getD after i 0 ≡ one (isMarked (set doubt low 0) i && any n (fromKept links (set doubt low 0) i))
         at-low i q =
-            let here : isOne (set doubt low 0) i ≡ false = rw q (unmarked-here doubt low candidate-doubtful) in
-            let z : (links low i && isOne (set doubt low 0) i) ≡ false = rw here (and-false (links low i)) in
+            let here : isMarked (set doubt low 0) i ≡ false = rw q (unmarked-here doubt low candidate-doubtful) in
+            let z : (links low i && isMarked (set doubt low 0) i) ≡ false = rw here (and-false (links low i)) in
             let y : getD (set wants low 0) i 0 ≡ 0 = rw q (getD-set-same wants low 0 0 (one-below wants low h)) in
             a .marks i ∙ rw (z, here) y
 
         elsewhere : (i : ℕ) → i < n → (i ≡ low → ⊥) →
-            getD after i 0 ≡ one (isOne (set doubt low 0) i && any n (fromKept links (set doubt low 0) i))
+            getD after i 0 ≡ one (isMarked (set doubt low 0) i && any n (fromKept links (set doubt low 0) i))
         elsewhere i b d =
             let same = unmarked-other doubt low candidate-doubtful i d in
-            let y : getD (set wants low 0) i 0 ≡ one (isOne doubt i && any n (fromKept links doubt i)) =
+            let y : getD (set wants low 0) i 0 ≡ one (isMarked doubt i && any n (fromKept links doubt i)) =
             getD-set-other wants low i 0 0 d ∙ c .marks i b in
-            a .marks i ∙ rw (same, y, more i) (joined (links low i) (isOne doubt i) (any n (fromKept links doubt i)))
+            a .marks i ∙ rw (same, y, more i) (joined (links low i) (isMarked doubt i) (any n (fromKept links doubt i)))
 
 pub record Progress (n : ℕ) (t₀ : Table) (doubt₀ : List ℕ) (t : Table) (doubt : List ℕ) : Type 0 where
   pub fuel : ℕ
-  pub enough : count n (isOne doubt) ≤ fuel
+  pub enough : count n (isMarked doubt) ≤ fuel
   pub same : repair fuel (underRepair t doubt) ≡ repair n (underRepair t₀ doubt₀)
   pub able : Repairable t n doubt
 
 pub progress-begins : {t : Table} {n : ℕ} {doubt : List ℕ} → Repairable t n doubt → Progress n t doubt t doubt
-progress-begins {n = n} {doubt} r = record { fuel = n; enough = count-le n (isOne doubt); same = refl; able = r }
+progress-begins {n = n} {doubt} r = record { fuel = n; enough = count-le n (isMarked doubt); same = refl; able = r }
 
 module _ {n : ℕ} {t₀ t : Table} {doubt₀ doubt wants : List ℕ} {low : ℕ}
     (p : Progress n t₀ doubt₀ t doubt) (c : Candidates n (linked t) doubt wants low) where
@@ -313,7 +314,7 @@ module _ {n : ℕ} {t₀ t : Table} {doubt₀ doubt wants : List ℕ} {low : ℕ
 -- The repair of a table that is not the one at hand.
 pub record Followed (n : ℕ) (t u₀ : Table) (doubt₀ doubt wants : List ℕ) (low : ℕ) : Type 0 where
   pub table : Table
-  pub links : (k i : ℕ) → isOne doubt k ≡ true → linked t k i ≡ linked table k i
+  pub links : (k i : ℕ) → isMarked doubt k ≡ true → linked t k i ≡ linked table k i
   pub progress : Progress n u₀ doubt₀ table doubt
   pub candidates : Candidates n (linked table) doubt wants low
 
@@ -331,9 +332,9 @@ module _ {n : ℕ} {t u₀ : Table} {doubt₀ doubt wants : List ℕ} {low : ℕ
       let here = candidate-doubtful (f .candidates) l h in
       let v = restored (f .table) low in
       let same : linked v ≡ linked (f .table) = restored-linked (f .progress .able) low l here in
-      let links : (k i : ℕ) → isOne doubt k ≡ true → linked t k i ≡ linked v k i =
+      let links : (k i : ℕ) → isMarked doubt k ≡ true → linked t k i ≡ linked v k i =
       λ k i m. f .links k i m ∙ sym (ap (λ (g : ℕ → ℕ → Bool). g k i) same) in
-      let read : linked t low ≡ linked v low = λ j i. links low i (is-one doubt low here) j in
+      let read : linked t low ≡ linked v low = λ j i. links low i (one-marked doubt low here) j in
       let r = turn (f .progress) (f .candidates) l h v refl after mark
       (subst (λ (g : ℕ → Bool). Added g (set doubt low 0) (set wants low 0) after (low + 1) mark) read a) in
       record { table = v; links = λ k i m. links k i (unmarked-only doubt low here k m); progress = r .0; candidates = r .1 }

@@ -1,5 +1,4 @@
 -- What the rules of clearing work on: a table, and marks in a list of numbers. Assumes nothing.
---   isOne l i           the number at i of l is 1: step i is marked
 --   asMarks n l         the marks of l below n
 --   underRepair t l     the table t under repair, with the marks below its capacity
 --   meant j i           the target j is step i; the target 0 is no step
@@ -18,14 +17,12 @@ use lib.ListN.{length, getD}
 use lib.Dec.{eqb}
 use Rattle.finite.specs.Below.{any, one, tabulate}
 use Rattle.table.specs.Table.{Table, places, inUse, leads, linked}
+use Rattle.table.specs.Sound.{Formed}
 use Rattle.table.specs.Clear.{Repair}
-use Rattle.table.proofs.Formed.{Formed}
-
-unfoldable pub isOne : List ℕ → ℕ → Bool
-isOne l i = eqb (getD l i 0) 1
+use Rattle.words.specs.Marks.{isMarked}
 
 unfoldable pub asMarks : ℕ → List ℕ → List Bool
-asMarks n l = tabulate n (isOne l)
+asMarks n l = tabulate n (isMarked l)
 
 abbrev pub underRepair : Table → List ℕ → Repair
 underRepair t l = record { table = t; doubt = asMarks (t .capacity) l }
@@ -37,7 +34,7 @@ unfoldable pub linkedWithin : ℕ → Table → ℕ → ℕ → Bool
 linkedWithin m t k j = any m (λ e. leads t k e j)
 
 unfoldable pub wantedIn : ℕ → (ℕ → ℕ → Bool) → List ℕ → ℕ → Bool
-wantedIn n links l i = isOne l i && any n (λ k. not (isOne l k) && links k i)
+wantedIn n links l i = isMarked l i && any n (λ k. not (isMarked l k) && links k i)
 
 pub record Standing (t : Table) (k : ℕ) : Type 0 where
   pub formed : Formed t
@@ -46,10 +43,10 @@ pub record Standing (t : Table) (k : ℕ) : Type 0 where
 pub record Repairable (t : Table) (n : ℕ) (l : List ℕ) : Type 0 where
   pub capacity : t .capacity ≡ n
   pub formed : Formed t
-  pub doubted : (i : ℕ) → i < n → isOne l i ≡ true → inUse t i ≡ true
+  pub doubted : (i : ℕ) → i < n → isMarked l i ≡ true → inUse t i ≡ true
 
 pub record Added (p : ℕ → Bool) (l before after : List ℕ) (low mark : ℕ) : Type 0 where
-  pub marks : (i : ℕ) → getD after i 0 ≡ cond (p i && isOne l i) 1 (getD before i 0)
+  pub marks : (i : ℕ) → getD after i 0 ≡ cond (p i && isMarked l i) 1 (getD before i 0)
   pub most : mark ≤ low
   pub below : (i : ℕ) → i < mark → getD after i 0 ≡ getD before i 0
   pub size : length after ≡ length before
@@ -62,5 +59,5 @@ pub record Candidates (n : ℕ) (links : ℕ → ℕ → Bool) (l wants : List �
 -- in both tables, each marked step has the same links
 pub record Settling (t u : Table) (n : ℕ) (l wants : List ℕ) : Type 0 where
   pub able : Repairable u n l
-  pub links : (k i : ℕ) → isOne l k ≡ true → linked t k i ≡ linked u k i
+  pub links : (k i : ℕ) → isMarked l k ≡ true → linked t k i ≡ linked u k i
   pub candidates : Candidates n (linked u) l wants 0

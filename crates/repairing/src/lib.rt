@@ -6,10 +6,11 @@ ghost use Prim.Native.Nat.{_+_, _<_, _≤_};
 ghost use lib.ListN.{length, set, drop};
 ghost use Rattle.finite.specs.Below.{count, those};
 ghost use Rattle.table.specs.Table.{Table, places, exitsOf, linked};
+ghost use Rattle.table.specs.Sound.{Formed};
 ghost use Rattle.table.specs.Clear.{weakened, restored, repair, unlinked, eachDoubtful, release, size};
-ghost use Rattle.table.proofs.Formed.{Formed};
 ghost use Rattle.words.specs.Words.{tableOf, Becomes};
-ghost use Rattle.repairing.specs.Repairing.{underRepair, isOne, asMarks, meant, Standing, Repairable, Added, Candidates, Settling};
+ghost use Rattle.words.specs.Marks.{isMarked};
+ghost use Rattle.repairing.specs.Repairing.{underRepair, asMarks, meant, Standing, Repairable, Added, Candidates, Settling};
 use words::PLACES;
 use words::WORDS;
 
@@ -216,10 +217,10 @@ pub fn count_marks(n: usize, doubt: &[u16; PLACES]) -> u16
 // Writes the numbers of the doubtful steps below n to the start of the buffer, ascending, a byte each; the bytes behind them stay. Gives back how many
 // there are. A step is a place, so its number fits a byte.
 pub fn list_marks(n: usize, doubt: &[u16; PLACES], buffer: &mut [u8]) -> u16
-    requires { ⌜ (n ≤ places) × (count n (isOne (now doubt)) ≤ length (now buffer)) ⌝ }
+    requires { ⌜ (n ≤ places) × (count n (isMarked (now doubt)) ≤ length (now buffer)) ⌝ }
     ensures counted { λ r. ⌜ r ≡ size (asMarks n (now (doubt .entry))) n ⌝ }
     ensures written { λ r. ⌜ now (buffer .exit) ≡
-        those n (isOne (now (doubt .entry))) ++ drop (count n (isOne (now (doubt .entry)))) (now (buffer .entry)) ⌝ }
+        those n (isMarked (now (doubt .entry))) ++ drop (count n (isMarked (now (doubt .entry)))) (now (buffer .entry)) ⌝ }
 {
     let mut at = 0usize;
     let mut k = 0;

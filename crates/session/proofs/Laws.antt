@@ -223,5 +223,5 @@ pub first-table : (w : List ℕ) → w ≡ wordsOf (freshTable places (soleQuota
 unfolding stateOf firstState keysTable listFits quotasFit guaranteeOf limitOf soleQuotas all total
 first-table w e line =
     let f : tableOf w ≡ freshTable places (soleQuotas places) =
-    ap tableOf e ∙ table-words _ (sound-fresh places (soleQuotas places) (omega arith) (omega arith) refl .shape) in
+    ap tableOf e ∙ table-words _ (sound-fresh places (soleQuotas places) (omega arith) (omega arith) refl .formed .shape) in
     ap (λ (t : Table). record { table = t; kept = [] }) f

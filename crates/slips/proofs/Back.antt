@@ -54,14 +54,14 @@ pub small-bits : (t : Table) → Sound t → (p : ℕ) → getD (t .bits) p 0 < 
 unfolding linkBit
 small-bits t s p =
     ⊎-elim
-    (λ (o : exitPlaces places ≤ p). let z = List·getD-eq-default (t .bits) 0 {n = p} (rw (s .shape .bits) o) in omega arith)
+    (λ (o : exitPlaces places ≤ p). let z = List·getD-eq-default (t .bits) 0 {n = p} (rw (s .formed .shape .bits) o) in omega arith)
     (λ (o : p < exitPlaces places).
     let i = holderAt p in
     let e = exitAt p in
     let at : getD (t .bits) p 0 ≡ linkBit t i e = ap (λ (q : ℕ). getD (t .bits) q 0) (sym (exit-place-split p)) in
     ⊎-elim
-    (λ u. let b = s .bits i e u (exit-at-below p) in omega (arith, at))
-    (λ u. let b = s .free i (omega arith) u .bits e (exit-at-below p) in omega (arith, at))
+    (λ u. let b = s .formed .bits i e u (exit-at-below p) in omega (arith, at))
+    (λ u. let b = s .formed .free i (omega arith) u .bits e (exit-at-below p) in omega (arith, at))
     (test (inUse t i)))
     (le-or-lt (exitPlaces places) p)
 

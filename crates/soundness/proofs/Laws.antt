@@ -20,17 +20,18 @@ use Rattle.finite.proofs.Loops.{and-true}
 use Rattle.finite.proofs.Packed.{count-past}
 use Rattle.table.specs.Table.{Table, places, exitsOf, exitPlaces, holderAt, exitAt, counters, cabinCount, exitPlace, counterPlace, inUse, kindOf, contentOf, ownBit, cabinOf, targetOf, linkBit, counterOf, stronglyLinked, stepsInUse}
 use Rattle.table.specs.Cabins.{quotasFit, chargesFit, charged, charge, freeSteps}
-use Rattle.table.specs.Sound.{Shape, Sound, capacityFits, contentFits, kindFits, sound}
+use Rattle.table.specs.Sound.{Shape, Formed, Shares, Sound, capacityFits, contentFits, kindFits, sound}
 use Rattle.table.proofs.Places.{exit-place-below, exit-place-step, exit-at-below}
 use Rattle.table.proofs.Sound.{capacity-range, sound-test, test-sound}
-use Rattle.table.proofs.Links.{used-place, holds-target, empty-target, target-empty, linked-used, strongly-linked}
+use Rattle.table.proofs.Links.{formed-wired, used-place, holds-target, empty-target, target-empty, linked-used, strongly-linked}
 use Rattle.table.proofs.Relink.{counter-place-below}
-use Rattle.table.proofs.Formed.{Formed, sound-formed, formed-wired, formed-place}
-use Rattle.table.proofs.Cabins.{Shares, sound-shares, charged-used, formed-charges, quotas-pairs, quotas-together, quotas-test, charges-limit, charges-reserve, charges-test}
+use Rattle.table.proofs.Formed.{formed-place}
+use Rattle.table.proofs.Cabins.{charged-used, formed-charges, quotas-pairs, quotas-together, quotas-test, charges-limit, charges-reserve, charges-test}
 use Rattle.table.proofs.Spine.{Spine, sound-spine, spine-sound}
 use Rattle.cabins.specs.Shares.{sharesFit}
 use Rattle.cabins.proofs.Laws.{shares-charges}
-use Rattle.withdraw.specs.Search.{slotAt, lands, isMarked, landing, landingKept, Ranged, Exact, Spans}
+use Rattle.words.specs.Marks.{isMarked}
+use Rattle.withdraw.specs.Search.{slotAt, lands, landing, landingKept, Ranged, Exact, Spans}
 use Rattle.withdraw.proofs.Slots.{lands-intro, landing-zero, exit-here, slot-some, slot-zero, slot-below, lands-held, link-lands, own-slot-some, landing-some, landing-linked, landing-links, shape-ranged, source-used, formed-ranged, formed-exact}
 use Rattle.withdraw.proofs.Found.{up-marked, left-kept, kept-parent}
 use Rattle.soundness.specs.Tests.{numbersFit, alarmFits, fieldsAt, stepFits, exitFits, countersFit, freeAbove, arraysFit, emptyAt, faults, hasCabin, cabinSteps, quotasHold}
@@ -266,7 +267,7 @@ module _ {t : Table} (k : Facts t) where
 
     account : (q : ℕ) → 0 < q → q < places * counters → landing (slotAt t) q ≡ counter t q + landingKept (slotAt t) marks q
     account q z l =
-        let a = s .search .account (inl (nothing-left 0 (omega arith))) q z l (λ e. omega arith) in
+        let a = s .search .ledger .account (inl (nothing-left 0 (omega arith))) q z l (λ e. omega arith) in
         let n = nothing-left q l in
         omega arith
 
@@ -358,12 +359,12 @@ module _ {t : Table} (k : Facts t) where
                 counts = λ b x. free-counter i b l x f;
                 cabin = blank .4;
               };
+          counts =
+              λ j b u x.
+              exact (counterPlace j b) (counter-place-below j b x (used-place (k .shape) j u))
+              ∙ landing-links t ranged (k .most) (λ p g y. free-empty p y (above-free (holderAt p) (omega arith) (omega arith))) j b x;
           cabins = checked-cabin;
           alarmCabin = k .fields .noCabin;
-          exact =
-              λ j b l x.
-              exact (counterPlace j b) (counter-place-below j b x l)
-              ∙ landing-links t ranged (k .most) (λ p g y. free-empty p y (above-free (holderAt p) (omega arith) (omega arith))) j b x;
         }
 
     strong-used : (i j : ℕ) → stronglyLinked t i j ≡ true → (inUse t i ≡ true) × (inUse t j ≡ true)
@@ -373,11 +374,11 @@ module _ {t : Table} (k : Facts t) where
     spine : Spine t (inUse t)
     spine =
         record {
-          rank = s .search .rank;
-          top = s .search .top;
+          rank = s .search .ledger .rank;
+          top = s .search .ledger .top;
           root = k .alarm;
           used = λ i u. u;
-          low = λ i u. s .search .low i (marked i u);
+          low = λ i u. s .search .ledger .low i (marked i u);
           rising =
               λ i j u l.
               let low = used-place (k .shape) i u in
@@ -399,7 +400,7 @@ module _ {t : Table} (k : Facts t) where
 -- a sound table passes
 module _ {t : Table} (s : Sound t) where
   g : Formed t
-  g = sound-formed s
+  g = s .formed
 
   empty-bit : (p : ℕ) → p < exitPlaces places → getD (t .targets) p 0 ≡ 0 → getD (t .bits) p 0 ≡ 0
   empty-bit p l z =
@@ -464,7 +465,7 @@ module _ {t : Table} (s : Sound t) where
             (λ (h : i < t .capacity). or-left (ltb i (t .capacity)) _ (lt-ltb _ _ h))
             (le-or-lt (t .capacity) i);
         sum = total-ext (places * counters) _ _ counted ∙ landing-total t in-range;
-        quotas = shares-holding g (sound-shares s);
+        quotas = shares-holding g (s .shares);
       }
 
   module _ (r : Bool) (w : Spans t r) where
@@ -505,7 +506,7 @@ module _ {t : Table} (s : Sound t) where
         (λ (f : inUse t i ≡ false).
         let a = g .free i l f .used in
         let b : getD (w .marks) i 0 ≡ 1 → ⊥ = λ e. clash (marks-used i (eq-eqb _ _ e)) f in
-        let c = w .search .binary i in
+        let c = w .search .ledger .binary i in
         omega arith)
         (test (inUse t i))
 
@@ -524,7 +525,7 @@ module _ {t : Table} (s : Sound t) where
     left-zero : (q : ℕ) → q < places * counters → getD (w .left) q 0 ≡ 0
     left-zero q l =
         ⊎-elim
-        (λ (z : q ≡ 0). rw z (w .search .clean counted refl))
+        (λ (z : q ≡ 0). rw z (w .search .ledger .clean counted refl))
         (λ (d : q ≡ 0 → ⊥). left-kept t in-range _ counted _ _ _ (w .search) q (omega arith) l d ∙ nothing-kept q)
         (eq-or-ne q 0)
 

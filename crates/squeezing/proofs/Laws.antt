@@ -16,12 +16,11 @@ use Rattle.finite.proofs.Bools.{clash}
 use Rattle.finite.proofs.Below.{le-or-lt, eq-or-ne, getD-tabulate}
 use Rattle.table.specs.declared.Fields.{Fields}
 use Rattle.table.specs.Table.{Table, places, exits, entries, counters, inUse, kindOf, contentOf, ownBit, cabinOf, targetOf, linkBit, counterOf, stepsInUse, withLinks, withSteps, withNumbers}
-use Rattle.table.specs.Sound.{Shape, Blank}
+use Rattle.table.specs.Sound.{Shape, Blank, Formed}
 use Rattle.table.specs.Calls.{fieldsOf, noFields}
 use Rattle.table.specs.Squeeze.{newNumber, squeezed}
 use Rattle.table.proofs.Places.{own-exit}
-use Rattle.table.proofs.Links.{Wired, used-place, used-below}
-use Rattle.table.proofs.Formed.{Formed, formed-wired}
+use Rattle.table.proofs.Links.{Wired, formed-wired, used-place, used-below}
 use Rattle.table.proofs.Renumber.{new-used, new-free, new-most, new-rises, new-step, new-all, new-place, moved-new, moved-none, squeezed-shape, squeezed-entry, squeezed-kind, squeezed-content, squeezed-own, squeezed-cabin, squeezed-target, squeezed-bit, squeezed-counter, squeezed-renumbered}
 use Rattle.words.specs.Words.{withFields}
 use Rattle.words.proofs.Formed.{target-place}

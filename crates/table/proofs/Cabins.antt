@@ -1,6 +1,5 @@
 -- Quotas and charges (document 02, W5): what the steps of the cabins come to together, and which changes of a table keep the charges within the quotas.
 -- Assumes nothing.
---   Shares t         the clauses of `Sound` on quotas and charges
 --   charges-total    the charges together are the steps in use less 1
 --   larger-fits      the larger of guarantee and charge, summed over the cabins, is at most the capacity less 1; this is `reserve` in one sum
 --   shares-fewer     steps freed: the charges still fit
@@ -21,17 +20,7 @@ use Rattle.finite.proofs.Below.{le-or-lt, eq-or-ne, all-at, all-intro, count-le
 use Rattle.finite.proofs.Totals.{total-ext, total-le, total-add, total-none, total-one, total-rest, total-count}
 use Rattle.table.specs.Table.{Table, cabinCount, inUse, cabinOf, stepsInUse}
 use Rattle.table.specs.Cabins.{guaranteeOf, limitOf, quotasFit, unmet, reserved, atLimit, noneToSpare, withinLimits, chargesFit, charged, charge, freeSteps}
-use Rattle.table.specs.Sound.{Sound}
-use Rattle.table.proofs.Formed.{Formed}
-
-pub record Shares (t : Table) : Type 0 where
-  pub pairs : (c : ℕ) → c < cabinCount → guaranteeOf (t .quotas) c ≤ limitOf (t .quotas) c
-  pub together : total cabinCount (guaranteeOf (t .quotas)) ≤ t .capacity - 1
-  pub charges : (c : ℕ) → c < cabinCount → charge t c ≤ limitOf (t .quotas) c
-  pub reserve : total cabinCount (unmet (t .quotas) (charge t)) ≤ freeSteps t
-
-pub sound-shares : {t : Table} → Sound t → Shares t
-sound-shares s = record { pairs = s .pairs; together = s .together; charges = s .charges; reserve = s .reserve }
+use Rattle.table.specs.Sound.{Formed, Shares}
 
 -- the tests of quotas and charges, as facts
 module _ (capacity : ℕ) (quotas : List ℕ) where

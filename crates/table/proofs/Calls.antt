@@ -27,9 +27,8 @@ use Rattle.table.specs.Trial.{tryFrom, trialRefusal, trialCall}
 use Rattle.table.specs.Clear.{emptied, stops, repairOf, repaired, clearConditions, cleared, clearRefusal, clearCall}
 use Rattle.table.specs.Plan.{Plan, planOf, planNumber, replan, withTarget, planAdd, planLink, pruned, planClear, planAddRefusal, planLinkRefusal, planHoldTests, planClearRefusal, planClearIntoRefusal, planReadRefusal, planTrialRefusal}
 use Rattle.table.proofs.Places.{own-exit}
-use Rattle.table.proofs.Links.{Wired, sound-wired}
+use Rattle.table.proofs.Links.{Wired, formed-wired, sound-wired}
 use Rattle.table.proofs.Sound.{test-sound, sound-test}
-use Rattle.table.proofs.Formed.{sound-formed, formed-wired}
 use Rattle.table.proofs.Edits.{number-given, sound-link, sound-add, formed-with-step, with-step-kept}
 use Rattle.table.proofs.Clear.{reached-in-use, Cleared, formed-emptied, cleared-stop, cleared-repair}
 use Rattle.table.proofs.Plan.{plan-capacity, plan-used, plan-target, plan-holds, plan-count, plan-charge, plan-relink, plan-with-step, plan-pruned}
@@ -294,10 +293,10 @@ module _ {t : Table} (s : Sound t) where
     unfolding addTable planAdd
     add-plan =
         let g = number-given s (f .room) in
-        let formed = formed-with-step t (sound-formed s) n kind content cabin (g .2) (g .1) (g .0) (f .fits) (f .shared) in
-        let kept = with-step-kept t (sound-formed s) n kind content cabin (g .2) (g .1) (g .0) (f .fits) (f .shared) holder (f .used) in
+        let formed = formed-with-step t (s .formed) n kind content cabin (g .2) (g .1) (g .0) (f .fits) (f .shared) in
+        let kept = with-step-kept t (s .formed) n kind content cabin (g .2) (g .1) (g .0) (f .fits) (f .shared) holder (f .used) in
         plan-relink (withStep t n kind content cabin) formed holder e n 0 kept (f .exit)
-        ∙ ap (λ (p : Plan). withTarget p holder e n) (plan-with-step t (sound-formed s) n kind content cabin (g .2) (g .1) (g .0) (f .fits) (f .shared))
+        ∙ ap (λ (p : Plan). withTarget p holder e n) (plan-with-step t (s .formed) n kind content cabin (g .2) (g .1) (g .0) (f .fits) (f .shared))
         ∙ ap
         (λ (m : ℕ).
         withTarget (replan (planOf t) m (set (planOf t .steps) m (some (record { kind = kind; content = content; targets = replicate (exitsOf m) 0; cabin = cabin })))) holder e m)
@@ -310,7 +309,7 @@ module _ {t : Table} (s : Sound t) where
     pub link-plan : planOf (linkTable t source e second f) ≡ planLink (planOf t) source e second f
     unfolding linkTable planLink
     link-plan =
-        plan-relink t (sound-formed s) second f (targetOf t source e) (weakBit t (targetOf t source e)) (g .second-used) (g .second-exit)
+        plan-relink t (s .formed) second f (targetOf t source e) (weakBit t (targetOf t source e)) (g .second-used) (g .second-exit)
         ∙ ap (withTarget (planOf t) second f) (sym (plan-target (sound-wired s) source e (g .exit)))
 
   module _ (i e : ℕ) (g : ClearFits t i e) where
@@ -334,7 +333,7 @@ module _ {t : Table} (s : Sound t) where
         (c .target)
         (c .cabin)
         (c .quotas)
-        ∙ ap pruned (unfold emptied in plan-relink t (sound-formed s) i e 0 0 (g .used) (g .exit))
+        ∙ ap pruned (unfold emptied in plan-relink t (s .formed) i e 0 0 (g .used) (g .exit))
       where
         cleared-still : (k : ℕ) → inUse (cleared t i e .table) k ≡ true → inUse (emptied t i e) k ≡ true
         cleared-still k y =

@@ -16,15 +16,15 @@ use Rattle.finite.proofs.Bools.{and-intro, and-left, and-right, or-elim, or-fal
 use Rattle.finite.proofs.Below.{le-or-lt, count-ext, count-le, count-none, count-some, count-split, length-tabulate, getD-tabulate}
 use Rattle.finite.proofs.Reach.{chain-map, chain-keeps, reach-sound, reach-complete, reach-closed, reach-start, reach-below}
 use Rattle.table.specs.Table.{Table, exitsOf, exitPlaces, holderAt, exitAt, counters, inUse, kindOf, contentOf, ownBit, cabinOf, targetOf, linkBit, holds, strong, linked, stronglyLinked, countsAt, linksTo, stepsInUse, withLinks}
-use Rattle.table.specs.Sound.{Sound}
+use Rattle.table.specs.Sound.{Formed, Shares, Sound}
 use Rattle.table.specs.Calls.{relink}
 use Rattle.table.specs.Clear.{Repair, emptied, heldStrongly, stops, doubtful, repair, release, size}
 use Rattle.table.proofs.Places.{exit-at-below, exit-place-split}
-use Rattle.table.proofs.Links.{Wired, sound-wired, holder-used, target-holds, empty-target, exit-linked, holds-target, strong-holds, bit-strong, strongly-exit, exit-strongly, strongly-linked, linked-used, linked-below}
+use Rattle.table.proofs.Links.{Wired, formed-wired, sound-wired, holder-used, target-holds, empty-target, exit-linked, holds-target, strong-holds, bit-strong, strongly-exit, exit-strongly, strongly-linked, linked-used, linked-below}
 use Rattle.table.proofs.Relink.{relink-target}
-use Rattle.table.proofs.Formed.{Formed, at-exit, sound-formed, formed-wired, formed-place, formed-below, formed-relink}
+use Rattle.table.proofs.Formed.{at-exit, formed-place, formed-below, formed-relink}
 use Rattle.table.proofs.Spine.{Spine, sound-spine, spine-sound, spine-fewer, spine-ext, strong-below}
-use Rattle.table.proofs.Cabins.{Shares, sound-shares, shares-fewer}
+use Rattle.table.proofs.Cabins.{shares-fewer}
 use Rattle.table.proofs.Edits.{strong-same, shares-relink, relink-strongly, relink-strongly-other}
 use Rattle.table.proofs.Alike.{alike-refl, alike-used, alike-target}
 use Rattle.table.proofs.Repair.{keptIn, Repairing, Repaired, repair-done, no-link-out, kept-reached}
@@ -42,8 +42,8 @@ sound-reached {t} s k =
     same-test _ _
     (λ u.
     let c = s .reached k u in
-    reach-complete (linked t) (t .capacity) (λ a b l. linked-below w a b l) (s .least) (chain-map (λ a b l. strongly-linked t a b l) (c .1 .row)))
-    (reached-in-use w (s .alarm) k)
+    reach-complete (linked t) (t .capacity) (λ a b l. linked-below w a b l) (s .formed .least) (chain-map (λ a b l. strongly-linked t a b l) (c .1 .row)))
+    (reached-in-use w (s .formed .alarm) k)
 
 -- What a clearing comes to: o is its outcome, and u the table with the exit emptied.
 pub record Cleared (u : Table) (doubts freed : ℕ) (v : Table) : Type 0 where
@@ -79,11 +79,11 @@ module _ (t : Table) (s : Sound t) (i e : ℕ) (ui : inUse t i ≡ true) (le : e
 
   pub formed-emptied : Formed u
   unfolding emptied
-  formed-emptied = formed-relink t (sound-formed s) i e 0 0 ui le (inl (refl, refl))
+  formed-emptied = formed-relink t (s .formed) i e 0 0 ui le (inl (refl, refl))
 
   emptied-target : targetOf u i e ≡ 0
   unfolding emptied
-  emptied-target = relink-target t (s .shape) i e 0 0 (formed-place (sound-formed s) i ui) le
+  emptied-target = relink-target t (s .formed .shape) i e 0 0 (formed-place (s .formed) i ui) le
 
   emptied-weak : strong u i e ≡ false
   emptied-weak = refute _ (λ x. holds-target u i e (strong-holds u i e x) emptied-target)
@@ -91,7 +91,7 @@ module _ (t : Table) (s : Sound t) (i e : ℕ) (ui : inUse t i ≡ true) (le : e
   pub emptied-fewer : (a b : ℕ) → stronglyLinked u a b ≡ true → stronglyLinked t a b ≡ true
   unfolding emptied
   emptied-fewer a b l =
-      ⊎-elim (λ r. clash (r .2) emptied-weak) (λ o. o) (relink-strongly t (sound-formed s) i e 0 0 ui le a b l)
+      ⊎-elim (λ r. clash (r .2) emptied-weak) (λ o. o) (relink-strongly t (s .formed) i e 0 0 ui le a b l)
 
   -- a strong link stays, unless it is the one cleared
   pub emptied-strongly : (a b : ℕ) → stronglyLinked t a b ≡ true →
@@ -103,7 +103,7 @@ module _ (t : Table) (s : Sound t) (i e : ℕ) (ui : inUse t i ≡ true) (le : e
           (stronglyLinked u a b ≡ true) ⊎ ((b ≡ targetOf t i e) × (strong t i e ≡ true))
       at a b f l x q =
           ⊎-elim (λ (p : (a ≡ i) × (f ≡ e)). inr (sym (rw (p .0, p .1) at q), rw (p .0, p .1) at x))
-          (λ d. inl (relink-strongly-other t (sound-formed s) i e 0 0 ui le a b f l d x q))
+          (λ d. inl (relink-strongly-other t (s .formed) i e 0 0 ui le a b f l d x q))
           (at-exit i e a f)
 
   -- a step whose counter says so has a strong link
@@ -113,7 +113,7 @@ module _ (t : Table) (s : Sound t) (i e : ℕ) (ui : inUse t i ≡ true) (le : e
       let g = formed-emptied in
       let b = ownBit u j in
       let lb : b < counters = g .own j (emptied-used t i e j ∙ uj) in
-      let some : 0 < linksTo u j b = rw (sym (g .exact j b (formed-place g j (emptied-used t i e j ∙ uj)) lb)) (ltb-true _ _ x) in
+      let some : 0 < linksTo u j b = rw (sym (g .counts j b (emptied-used t i e j ∙ uj) lb)) (ltb-true _ _ x) in
       let p = count-some (exitPlaces (u .capacity)) _ some in
       let both = and-left (not (eqb j 0) && eqb (getD (u .targets) (p .0) 0) j) _ (p .2) in
       let a = holderAt (p .0) in
@@ -126,7 +126,7 @@ module _ (t : Table) (s : Sound t) (i e : ℕ) (ui : inUse t i ≡ true) (le : e
 
   shares-emptied : Shares u
   unfolding emptied
-  shares-emptied = shares-relink t i e 0 0 (sound-formed s) formed-emptied (sound-shares s)
+  shares-emptied = shares-relink t i e 0 0 (s .formed) formed-emptied (s .shares)
 
   -- Rule 1 stops: every step keeps a parent.
   stop-sound : stops t i e ≡ true → Sound u
@@ -166,7 +166,7 @@ module _ (t : Table) (s : Sound t) (i e : ℕ) (ui : inUse t i ≡ true) (le : e
             refute _
             (λ y.
             let c = v .reached k (and-left (inUse u k) _ y) in
-            clash (reach-complete (stronglyLinked u) (u .capacity) (strong-below (sound-wired v)) (v .least) (c .1 .row))
+            clash (reach-complete (stronglyLinked u) (u .capacity) (strong-below (sound-wired v)) (v .formed .least) (c .1 .row))
             (not-true-false _ (and-right (inUse u k) _ y)))));
         fall = omega arith;
       }

@@ -15,12 +15,12 @@ use Rattle.finite.proofs.Bools.{and-left, and-right, clash, refute, same-test, 
 use Rattle.finite.proofs.Below.{le-or-lt, eq-or-ne, count-none, count-gap, walk, walk-add, find-reaches, find-keeps}
 use Rattle.table.specs.Table.{Table, places, exitsOf, exitPlaces, counters, cabinCount, quotaNumbers, exitPlace, counterPlace, inUse, kindOf, contentOf, ownBit, cabinOf, targetOf, linkBit, counterOf, holds, strong, leads, stronglyLinked, countsAt, linksTo, stepsInUse, withLinks, withSteps}
 use Rattle.table.specs.Cabins.{listFits, atLimit, noneToSpare, charge, freeSteps}
-use Rattle.table.specs.Sound.{Blank, Sound, kindFits, contentFits}
+use Rattle.table.specs.Sound.{Blank, Formed, Shares, Sound, kindFits, contentFits}
 use Rattle.table.specs.Calls.{freshTable, after, numberGiven, relink, withStep, addTable, weakBit, linkTable}
 use Rattle.table.proofs.Links.{holds-target, target-holds, strong-holds, bit-strong, strong-bit, strongly-exit, exit-strongly}
 use Rattle.table.proofs.Relink.{relink-cabin, relink-target, relink-bit, relink-target-other, relink-bit-other}
-use Rattle.table.proofs.Formed.{Formed, Fit, at-exit, sound-formed, formed-place, formed-relink}
-use Rattle.table.proofs.Cabins.{Shares, sound-shares, shares-fewer, Adds, shares-more, shares-alone}
+use Rattle.table.proofs.Formed.{Fit, at-exit, formed-counts, formed-place, formed-relink}
+use Rattle.table.proofs.Cabins.{shares-fewer, Adds, shares-more, shares-alone}
 use Rattle.table.proofs.Spine.{Joins, sound-spine, spine-sound, spine-fewer, spine-more, spine-ext}
 
 -- strength is a matter of the target, the link's bit and the target's own bit
@@ -78,16 +78,16 @@ module _ (t : Table) (s : Sound t) (i e k f : ℕ) (ui : inUse t i ≡ true) (le
     (uk : inUse t k ≡ true) (lf : f < exitsOf k) (free : holds t k f ≡ false) where
   link-fit : Fit t (targetOf t i e) (weakBit t (targetOf t i e))
   unfolding weakBit
-  link-fit = inr (s .targets i e ui le h, holds-target t i e h, omega arith)
+  link-fit = inr (s .formed .targets i e ui le h, holds-target t i e h, omega arith)
 
   link-weak : strong (linkTable t i e k f) k f ≡ false
   unfolding linkTable weakBit
   link-weak =
       let j = targetOf t i e in
-      let g = sound-formed s in
+      let g = s .formed in
       let at = relink-target t (g .shape) k f j (1 - ownBit t j) (formed-place g k uk) lf in
       let bit = relink-bit t (g .shape) k f j (1 - ownBit t j) (formed-place g k uk) lf in
-      let own : ownBit t j < 2 = s .own j (s .targets i e ui le h) in
+      let own : ownBit t j < 2 = s .formed .own j (s .formed .targets i e ui le h) in
       weak-bit (relink t k f j (1 - ownBit t j)) k f
       (λ q.
       let r : 1 - ownBit t j ≡ ownBit t j = sym bit ∙ q ∙ ap (ownBit (relink t k f j (1 - ownBit t j))) at ∙ (unfold relink withLinks ownBit in refl) in
@@ -97,11 +97,11 @@ module _ (t : Table) (s : Sound t) (i e k f : ℕ) (ui : inUse t i ≡ true) (le
   unfolding linkTable
   sound-link =
       let j = targetOf t i e in
-      let g = sound-formed s in
+      let g = s .formed in
       let u = relink t k f j (weakBit t j) in
       let formed = formed-relink t g k f j (weakBit t j) uk lf link-fit in
       let used : (x : ℕ) → inUse u x ≡ inUse t x = λ x. unfold relink withLinks inUse in refl in
-      spine-sound formed (shares-relink t k f j (weakBit t j) g formed (sound-shares s))
+      spine-sound formed (shares-relink t k f j (weakBit t j) g formed (s .shares))
       (spine-ext (λ x. sym (used x))
       (spine-fewer (sound-spine s) u (λ x v. used x ∙ v)
       (λ x y v. ⊎-elim (λ n. clash (n .2) link-weak) (λ o. o) (relink-strongly t g k f j (weakBit t j) uk lf x y v))
@@ -182,7 +182,7 @@ number-given {t} s room =
     (count-gap (t .capacity) (inUse t))
   where
     zero-used : (k : ℕ) → k ≤ 0 → inUse t k ≡ false → ⊥
-    zero-used k l f = let z : k ≡ 0 = omega arith in clash (s .alarm) (rw z at f)
+    zero-used k l f = let z : k ≡ 0 = omega arith in clash (s .formed .alarm) (rw z at f)
 
 -- what may be added may stand in any step but 0
 fits-added : (i kind content : ℕ) → (i ≡ 0 → ⊥) → contentFits kind content ≡ true → kindFits i kind content ≡ true
@@ -302,11 +302,13 @@ module _ (t : Table) (g : Formed t) (n kind content cabin : ℕ) (low : n < t .c
               counts = b .counts;
               cabin = cabin-other i (r .0) ∙ b .cabin;
             };
+        counts =
+            λ i b v l.
+            each (λ i. counterOf t i b ≡ linksTo t i b) (formed-counts g n b place l) (λ i v. g .counts i b v l) i v;
         cabins =
             each (λ i. cabinOf (withStep t n kind content cabin) i < cabinCount) (rw cabin-new shared)
             (λ i v. let d : i ≡ n → ⊥ = λ q. clash v (rw q free) in rw (cabin-other i d) (g .cabins i v));
         alarmCabin = cabin-other 0 (λ q. nonzero (sym q)) ∙ g .alarmCabin;
-        exact = g .exact;
       }
 
 -- Add: the new step hangs by a strong link from its holder, and leads nowhere
@@ -317,20 +319,20 @@ module _ (t : Table) (s : Sound t) (i e kind content cabin n : ℕ) (ui : inUse 
   stepped = withStep t n kind content cabin
 
   stepped-formed : Formed stepped
-  stepped-formed = formed-with-step t (sound-formed s) n kind content cabin low nonzero free fits shared
+  stepped-formed = formed-with-step t (s .formed) n kind content cabin low nonzero free fits shared
 
   holder-stays : inUse stepped i ≡ true
-  holder-stays = with-step-kept t (sound-formed s) n kind content cabin low nonzero free fits shared i ui
+  holder-stays = with-step-kept t (s .formed) n kind content cabin low nonzero free fits shared i ui
 
   new-used : inUse stepped n ≡ true
-  new-used = with-step-new t (sound-formed s) n kind content cabin low nonzero free fits shared
+  new-used = with-step-new t (s .formed) n kind content cabin low nonzero free fits shared
 
   pub formed-add : Formed (addTable t i e kind content cabin n)
   unfolding addTable
   formed-add = formed-relink stepped stepped-formed i e n 0 holder-stays le (inr (new-used, nonzero, omega arith))
 
   blank : Blank t n
-  blank = s .free n (omega (arith, s .most)) free
+  blank = s .formed .free n (omega (arith, s .formed .most)) free
 
   -- the strong links are those from before the new step came
   before-target : (k f : ℕ) → targetOf stepped k f ≡ targetOf t k f
@@ -370,7 +372,7 @@ module _ (t : Table) (s : Sound t) (i e kind content cabin n : ℕ) (ui : inUse 
   joins =
       record {
         new = free;
-        used = λ k v. used-add k ∙ with-step-kept t (sound-formed s) n kind content cabin low nonzero free fits shared k v;
+        used = λ k v. used-add k ∙ with-step-kept t (s .formed) n kind content cabin low nonzero free fits shared k v;
         user = used-add n ∙ new-used;
         old =
             λ k m v h.
@@ -405,9 +407,9 @@ module _ (t : Table) (s : Sound t) (i e kind content cabin n : ℕ) (ui : inUse 
         nonzero = nonzero;
         free = free;
         used = used-add n ∙ new-used;
-        cabin = cabin-add n ∙ cabin-new t (sound-formed s) n kind content cabin low nonzero free fits shared;
-        used-other = λ k d. used-add k ∙ with-step-other t (sound-formed s) n kind content cabin low nonzero free fits shared k d;
-        cabin-other = λ k d. cabin-add k ∙ cabin-other t (sound-formed s) n kind content cabin low nonzero free fits shared k d;
+        cabin = cabin-add n ∙ cabin-new t (s .formed) n kind content cabin low nonzero free fits shared;
+        used-other = λ k d. used-add k ∙ with-step-other t (s .formed) n kind content cabin low nonzero free fits shared k d;
+        cabin-other = λ k d. cabin-add k ∙ cabin-other t (s .formed) n kind content cabin low nonzero free fits shared k d;
       }
     where
       cabin-add : (k : ℕ) → cabinOf (addTable t i e kind content cabin n) k ≡ cabinOf stepped k
@@ -415,14 +417,14 @@ module _ (t : Table) (s : Sound t) (i e kind content cabin n : ℕ) (ui : inUse 
 
   pub sound-add : Sound (addTable t i e kind content cabin n)
   sound-add =
-      spine-sound formed-add (shares-more adds (sound-formed s) formed-add shared limit spare (sound-shares s))
+      spine-sound formed-add (shares-more adds (s .formed) formed-add shared limit spare (s .shares))
       (spine-ext
       (λ k.
       same-test _ _
       (λ h. ⊎-elim (λ a. joins .used k a) (λ b. rw (eqb-true k n b) (joins .user)) (or-elim (inUse t k) _ h))
       (λ h.
       ⊎-elim (λ q. or-right (inUse t k) _ (eq-eqb k n q))
-      (λ d. or-left (inUse t k) _ (sym (with-step-other t (sound-formed s) n kind content cabin low nonzero free fits shared k d) ∙ sym (used-add k) ∙ h))
+      (λ d. or-left (inUse t k) _ (sym (with-step-other t (s .formed) n kind content cabin low nonzero free fits shared k d) ∙ sym (used-add k) ∙ h))
       (eq-or-ne k n)))
       (spine-more (sound-spine s) joins))
 
@@ -501,9 +503,9 @@ module _ (c : ℕ) (q : List ℕ) where
               counts = λ b x. getD-zeros (places * counters) (counterPlace i b);
               cabin = getD-zeros places i;
             };
+        counts = λ k b h x. getD-zeros (places * counters) (counterPlace k b) ∙ sym (none k b);
         cabins = λ i h. rw (getD-zeros places i) (omega arith);
         alarmCabin = getD-zeros places 0;
-        exact = λ k b l x. getD-zeros (places * counters) (counterPlace k b) ∙ sym (none k b);
       }
     where
       none : (k b : ℕ) → linksTo (freshTable c q) k b ≡ 0

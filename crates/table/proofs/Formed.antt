@@ -1,7 +1,6 @@
--- A table whose fields are in order, whatever its strong links: the clauses of `Sound` but the last two. Edits of one exit or one bit keep it.
--- Assumes nothing.
---   Formed t        all clauses of `Sound` but those on rings and on reach, with exact counters for free steps too
---   Fit t j b       (j, b) may stand in an exit: it is empty, or a link to a step in use
+-- Laws of a formed table, one whose fields are in order whatever its strong links: edits of one exit or one bit keep it. Assumes nothing.
+--   formed-counts   the counters of free steps are exact too
+--   Fit t j b           (j, b) may stand in an exit: it is empty, or a link to a step in use
 use mathlib.Core.Path.{_≡_, sym, _∙_, ap}
 use mathlib.Core.Bool.{true, false, _&&_, not}
 use mathlib.Core.Logic.{_⊎_, inl, inr, ⊎-elim}
@@ -14,29 +13,12 @@ use borrow.Author.Tests.{eqb-true, eqb-false}
 use Rattle.finite.proofs.Bools.{and-left, and-right, clash, refute, test, not-true-false}
 use Rattle.finite.proofs.Below.{eq-or-ne, count-none}
 use Rattle.table.specs.Table.{Table, places, exitsOf, exitPlaces, holderAt, exitAt, cabinCount, inUse, kindOf, contentOf, ownBit, cabinOf, targetOf, linkBit, counterOf, holds, countsAt, linksTo, withLinks, withSteps}
-use Rattle.table.specs.Sound.{Shape, Blank, Sound, kindFits}
+use Rattle.table.specs.Sound.{Formed}
 use Rattle.table.specs.Calls.{relink}
 use Rattle.table.specs.Clear.{flipped}
 use Rattle.table.proofs.Places.{exit-at-below, exit-place-split}
-use Rattle.table.proofs.Links.{Wired, sound-wired, used-below, used-place, holder-used, holds-target, target-holds, empty-target, target-empty}
+use Rattle.table.proofs.Links.{Wired, formed-wired, used-below, used-place, holder-used, holds-target, target-holds, empty-target, target-empty}
 use Rattle.table.proofs.Relink.{Exact, relink-shape, relink-target, relink-bit, relink-target-other, relink-bit-other, relink-exact}
-
-pub record Formed (t : Table) : Type 0 where
-  pub shape : Shape t
-  pub least : 1 ≤ t .capacity
-  pub most : t .capacity ≤ places
-  pub last : t .last < t .capacity
-  pub above : (i : ℕ) → t .capacity ≤ i → i < places → inUse t i ≡ false
-  pub alarm : inUse t 0 ≡ true
-  pub kinds : (i : ℕ) → inUse t i ≡ true → kindFits i (kindOf t i) (contentOf t i) ≡ true
-  pub own : (i : ℕ) → inUse t i ≡ true → ownBit t i < 2
-  pub bits : (i e : ℕ) → inUse t i ≡ true → e < exitsOf i → linkBit t i e < 2
-  pub targets : (i e : ℕ) → inUse t i ≡ true → e < exitsOf i → holds t i e ≡ true → inUse t (targetOf t i e) ≡ true
-  pub empty : (i e : ℕ) → inUse t i ≡ true → e < exitsOf i → holds t i e ≡ false → linkBit t i e ≡ 0
-  pub free : (i : ℕ) → i < places → inUse t i ≡ false → Blank t i
-  pub cabins : (i : ℕ) → inUse t i ≡ true → cabinOf t i < cabinCount
-  pub alarmCabin : cabinOf t 0 ≡ 0
-  pub exact : Exact t
 
 -- no exit leads to k: no link to it is counted
 pub none-lead : (t : Table) (k c : ℕ) → ((i e : ℕ) → e < exitsOf i → holds t i e ≡ true → targetOf t i e ≡ k → ⊥) → linksTo t k c ≡ 0
@@ -61,32 +43,12 @@ no-links t lead k c f = none-lead t k c (λ i e l h q. clash (rw q at (lead i e 
 pub lead-used : {t : Table} → Wired t → (i e : ℕ) → e < exitsOf i → holds t i e ≡ true → inUse t (targetOf t i e) ≡ true
 lead-used w i e l h = w .targets i e (holder-used w i e l h) l h
 
-pub sound-formed : {t : Table} → Sound t → Formed t
-sound-formed {t} s =
-    record {
-      shape = s .shape;
-      least = s .least;
-      most = s .most;
-      last = s .last;
-      above = s .above;
-      alarm = s .alarm;
-      kinds = s .kinds;
-      own = s .own;
-      bits = s .bits;
-      targets = s .targets;
-      empty = s .empty;
-      free = s .free;
-      cabins = s .cabins;
-      alarmCabin = s .alarmCabin;
-      exact =
-          λ k c l b.
-          ⊎-elim (λ u. s .counts k c u b)
-          (λ f. s .free k l f .counts c b ∙ sym (no-links t (lead-used (sound-wired s)) k c f))
-          (test (inUse t k));
-    }
-
-pub formed-wired : {t : Table} → Formed t → Wired t
-formed-wired f = record { shape = f .shape; most = f .most; above = f .above; targets = f .targets; free = f .free }
+-- the counters of a free step are exact too
+pub formed-counts : {t : Table} → Formed t → Exact t
+formed-counts {t} g k c l b =
+    ⊎-elim (λ u. g .counts k c u b)
+    (λ f. g .free k l f .counts c b ∙ sym (no-links t (lead-used (formed-wired g)) k c f))
+    (test (inUse t k))
 
 pub formed-place : {t : Table} → Formed t → (i : ℕ) → inUse t i ≡ true → i < places
 formed-place f = used-place (f .shape)
@@ -128,7 +90,7 @@ module _ (t : Table) (g : Formed t) (i e j b : ℕ) (u : inUse t i ≡ true) (le
       let w = formed-wired g in
       let old : targetOf t i e < places =
       ⊎-elim (λ h. formed-place g (targetOf t i e) (g .targets i e u le h)) (λ h. omega (arith, empty-target t i e h)) (test (holds t i e)) in
-      let exact = relink-exact t (g .shape) i e j b li le (formed-below g i u) old (g .bits i e u le) fit-below (fit-bit t j b fit) (g .exact) in
+      let exact = relink-exact t (g .shape) i e j b li le (formed-below g i u) old (g .bits i e u le) fit-below (fit-bit t j b fit) (formed-counts g) in
       record {
         shape = relink-shape t (g .shape) i e j b li le;
         least = g .least;
@@ -170,9 +132,9 @@ module _ (t : Table) (g : Formed t) (i e j b : ℕ) (u : inUse t i ≡ true) (le
               counts = λ c x. exact k c l x ∙ no-links (relink t i e j b) lead k c f;
               cabin = blank .cabin;
             };
+        counts = λ k c v l. exact k c (formed-place g k v) l;
         cabins = g .cabins;
         alarmCabin = g .alarmCabin;
-        exact = exact;
       }
 
 -- the step's own bit changes no link and no counter
@@ -221,7 +183,7 @@ formed-flipped t g k u =
             counts = blank .counts;
             cabin = blank .cabin;
           };
+      counts = g .counts;
       cabins = g .cabins;
       alarmCabin = g .alarmCabin;
-      exact = g .exact;
     }

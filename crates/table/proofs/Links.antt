@@ -1,5 +1,5 @@
 -- Laws of a table's steps and links: a link stands in a step in use and leads to one. Assumes nothing.
---   Wired t     what these laws ask of a table: a part of `Sound`, which keeps nothing of bits, counters and strengths
+--   Wired t     what these laws ask of a table: a part of `Formed`, which keeps nothing of bits, counters and strengths
 use mathlib.Core.Path.{_≡_, ap}
 use mathlib.Core.Bool.{true, false, _&&_, not}
 use mathlib.Core.Logic.{_⊎_, ⊎-elim}
@@ -11,7 +11,7 @@ use borrow.Author.Tests.{eqb-true, eqb-false, eq-eqb, ne-eqb}
 use Rattle.finite.proofs.Bools.{and-intro, and-left, and-right, clash, test, not-true-false, not-false-true}
 use Rattle.finite.proofs.Below.{le-or-lt, any-at, any-intro}
 use Rattle.table.specs.Table.{Table, places, exitPlace, exitsOf, inUse, targetOf, linkBit, ownBit, holds, strong, leads, linked, stronglyLinked, countsAt}
-use Rattle.table.specs.Sound.{Shape, Blank, Sound}
+use Rattle.table.specs.Sound.{Shape, Blank, Formed, Sound}
 use Rattle.table.proofs.Places.{exit-place-outside}
 
 -- an exit that holds a link has a target other than 0, and the other way round
@@ -95,8 +95,11 @@ pub record Wired (t : Table) : Type 0 where
   pub targets : (i e : ℕ) → inUse t i ≡ true → e < exitsOf i → holds t i e ≡ true → inUse t (targetOf t i e) ≡ true
   pub free : (i : ℕ) → i < places → inUse t i ≡ false → Blank t i
 
+pub formed-wired : {t : Table} → Formed t → Wired t
+formed-wired g = record { shape = g .shape; most = g .most; above = g .above; targets = g .targets; free = g .free }
+
 pub sound-wired : {t : Table} → Sound t → Wired t
-sound-wired s = record { shape = s .shape; most = s .most; above = s .above; targets = s .targets; free = s .free }
+sound-wired s = formed-wired (s .formed)
 
 pub used-place : {t : Table} → Shape t → (i : ℕ) → inUse t i ≡ true → i < places
 unfolding inUse

@@ -19,12 +19,12 @@ use Rattle.finite.proofs.Bools.{clash, refute, test, same-test}
 use Rattle.finite.proofs.Below.{le-or-lt, eq-or-ne, any-ext, count-ext, length-tabulate, getD-tabulate, tabulate-ext, tabulate-set}
 use Rattle.table.specs.Table.{Table, exitsOf, cabinCount, inUse, kindOf, contentOf, cabinOf, targetOf, holds, leads, linked, stepsInUse, withLinks, withSteps}
 use Rattle.table.specs.Cabins.{charged, charge}
-use Rattle.table.specs.Sound.{contentFits}
+use Rattle.table.specs.Sound.{Formed, contentFits}
 use Rattle.table.specs.Calls.{freshTable, relink, withStep}
 use Rattle.table.specs.Plan.{Plan, PlanStep, planStep, planOf, stepOf, isStep, stepTarget, stepOfCabin, planInUse, planTarget, planHolds, planLinked, planCount, planCharge, freshPlan, retargeted, replan, withTarget, pruned}
-use Rattle.table.proofs.Links.{Wired, used-below, holder-used, target-holds}
+use Rattle.table.proofs.Links.{Wired, formed-wired, used-below, holder-used, target-holds}
 use Rattle.table.proofs.Relink.{relink-used, relink-kind, relink-content, relink-cabin, relink-target, relink-target-other}
-use Rattle.table.proofs.Formed.{Formed, formed-wired, formed-place, formed-below}
+use Rattle.table.proofs.Formed.{formed-place, formed-below}
 use Rattle.table.proofs.Edits.{getD-zeros, fresh-used, fresh-target, with-step-new, with-step-other, kind-new, kind-other, content-new, content-other, cabin-new, cabin-other}
 
 -- what a plan keeps of a step, by its parts

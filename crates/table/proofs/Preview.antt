@@ -25,9 +25,9 @@ use Rattle.table.specs.Answer.{Outcome, WriteOutcome, tooShort, refusalO
 use Rattle.table.specs.Calls.{relink}
 use Rattle.table.specs.Clear.{emptied, stops, doubtful, repairOf, repaired, cleared, clearRefusal}
 use Rattle.table.specs.Preview.{isFreed, wouldGo, previewRoom, previewRefusal, previewCall}
-use Rattle.table.proofs.Formed.{sound-formed, formed-wired, formed-place, formed-below}
+use Rattle.table.proofs.Formed.{formed-place, formed-below}
 use Rattle.finite.proofs.Reach.{reach-start, reach-closed}
-use Rattle.table.proofs.Links.{exit-strongly}
+use Rattle.table.proofs.Links.{formed-wired, exit-strongly}
 use Rattle.table.proofs.Relink.{relink-target-other}
 use Rattle.table.proofs.Spine.{sound-spine}
 use Rattle.table.proofs.Clear.{Cleared, reached-in-use, emptied-used, emptied-steps, emptied-strongly, goes-strong, formed-emptied, doubtful-at, freed-marked}
@@ -85,8 +85,8 @@ module _ (t : Table) (i e : ℕ) (s : Sound t) (g : ClearFits t i e) where
   pub go-fits : secondOf (cleared t i e .answer) ≤ previewRoom
   unfolding stepsInUse
   go-fits =
-      let most = sound-formed s .most in
-      let kept = sound-formed (done .sound) in
+      let most = s .formed .most in
+      let kept = done .sound .formed in
       let one-stays = count-pos (v .capacity) (inUse v) 0 (kept .least) (kept .alarm) in
       let all = count-le (t .capacity) (inUse t) in
       let parts = fall in
@@ -156,4 +156,4 @@ module _ (t : Table) (s : Sound t) (i e : ℕ) (g : ClearFits t i e) (h : stops 
   doubtful-links k j m =
       let d : k ≡ i → ⊥ = λ q. clash (rw q at m) (unfold emptied in holder-certain) in
       any-ext (exitsOf k) _ _
-      (λ f l. ap (λ (n : ℕ). not (eqb n 0) && eqb n j) (sym (relink-target-other t (s .shape) i e 0 0 (formed-place (sound-formed s) i (g .used)) (g .exit) k f l (λ q. d (q .0)))))
+      (λ f l. ap (λ (n : ℕ). not (eqb n 0) && eqb n j) (sym (relink-target-other t (s .formed .shape) i e 0 0 (formed-place (s .formed) i (g .used)) (g .exit) k f l (λ q. d (q .0)))))

@@ -12,11 +12,12 @@ use Rattle.finite.specs.Reach.{marked}
 use Rattle.finite.proofs.Bools.{and-right, clash, refute, test, not-true-false}
 use Rattle.finite.proofs.Below.{eq-or-ne, below-suc, rounds-induct}
 use Rattle.table.specs.Table.{Table, places, exitsOf, counters, counterPlace, inUse, kindOf, contentOf, ownBit, cabinOf, targetOf, linkBit, counterOf, holds, linked, countsAt, linksTo, withLinks, withSteps}
+use Rattle.table.specs.Sound.{Formed}
 use Rattle.table.specs.Calls.{relink}
 use Rattle.table.specs.Clear.{unlinked, blanked, eachDoubtful, release}
 use Rattle.table.proofs.Links.{target-holds, exit-linked}
 use Rattle.table.proofs.Relink.{counter-place-same, counter-place-below, relink-target, relink-bit, relink-target-other, relink-bit-other}
-use Rattle.table.proofs.Formed.{Formed, formed-place, formed-below, formed-relink, none-lead}
+use Rattle.table.proofs.Formed.{formed-place, formed-below, formed-relink, none-lead}
 
 -- the fields of the steps, which unlinking keeps
 pub record SameSteps (t u : Table) : Type 0 where
@@ -223,14 +224,9 @@ module _ (t : Table) (g : Formed t) (k : ℕ) (u : inUse t k ≡ true) (nonzero 
               cabin = blanked-cabin-other i d ∙ b .cabin;
             })
             (eq-or-ne i k);
+        counts = λ i c h x. let r = still i h in blanked-counter-other i c (r .0) x ∙ g .counts i c (r .1) x ∙ sym (blanked-links i c);
         cabins = λ i h. let r = still i h in rw (blanked-cabin-other i (r .0)) (g .cabins i (r .1));
         alarmCabin = blanked-cabin-other 0 (λ q. nonzero (sym q)) ∙ g .alarmCabin;
-        exact =
-            λ i c l x.
-            ⊎-elim
-            (λ (q : i ≡ k). rw q (blanked-counter c x ∙ sym (blanked-links k c ∙ none-lead t k c (λ a e y h z. alone a e y z))))
-            (λ d. blanked-counter-other i c d x ∙ g .exact i c l x ∙ sym (blanked-links i c))
-            (eq-or-ne i k);
       }
 
 -- What freeing the steps marked in d comes to. Two demands of the marks: they are of steps in use other than 0, and no link leads from a step

@@ -17,9 +17,10 @@ use Rattle.finite.proofs.Bools.{and-intro, and-left, and-right, or-right, clash
 use Rattle.finite.proofs.Below.{le-or-lt, eq-or-ne, any-at, any-intro, count-change, count-pos, lowest-passes, lowest-none}
 use Rattle.finite.proofs.Reach.{chain-map, chain-keeps, reach-sound, reach-complete}
 use Rattle.table.specs.Table.{Table, inUse, linked}
+use Rattle.table.specs.Sound.{Formed}
 use Rattle.table.specs.Clear.{Repair, wanted, restored, repair, size}
-use Rattle.table.proofs.Links.{linked-used, linked-below, strongly-linked}
-use Rattle.table.proofs.Formed.{Formed, formed-wired, formed-below}
+use Rattle.table.proofs.Links.{formed-wired, linked-used, linked-below, strongly-linked}
+use Rattle.table.proofs.Formed.{formed-below}
 use Rattle.table.proofs.Spine.{Spine, spine-chain, spine-ext, spine-more}
 use Rattle.table.proofs.Alike.{Alike, alike-trans, alike-used, alike-linked}
 use Rattle.table.proofs.Restore.{taken, take-joins}

@@ -11,11 +11,12 @@ use lib.Seq.{getD-set-same, getD-set-other, set-getD}
 use Rattle.finite.proofs.Bools.{clash, test}
 use Rattle.finite.proofs.Below.{eq-or-ne, below-suc, rounds-induct}
 use Rattle.table.specs.Table.{Table, exitPlace, exitsOf, inUse, ownBit, targetOf, linkBit, strong, linked, stronglyLinked, withLinks, withSteps}
+use Rattle.table.specs.Sound.{Formed}
 use Rattle.table.specs.Calls.{relink, weakBit}
 use Rattle.table.specs.Clear.{flipped, weakened, restored}
 use Rattle.table.proofs.Links.{holds-target, strong-holds, bit-strong, linked-exit, strongly-exit, exit-strongly}
 use Rattle.table.proofs.Relink.{relink-target, relink-bit, relink-bit-other}
-use Rattle.table.proofs.Formed.{Formed, formed-place, formed-relink, formed-flipped}
+use Rattle.table.proofs.Formed.{formed-place, formed-relink, formed-flipped}
 use Rattle.table.proofs.Spine.{Spine, Joins}
 use Rattle.table.proofs.Edits.{strong-same, weak-bit, relink-strong-other}
 use Rattle.table.proofs.Alike.{Alike, alike-refl, alike-trans, alike-used, alike-target, alike-holds}

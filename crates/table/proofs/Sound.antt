@@ -12,9 +12,9 @@ use Rattle.finite.proofs.Below.{all-at, all-intro}
 use Rattle.finite.proofs.Reach.{chain-head, reach-sound, reach-complete, chain-first}
 use Rattle.table.specs.Table.{Table, places, exitsOf, counters, inUse, holds, stronglyLinked}
 use Rattle.table.specs.Cabins.{charge, freeSteps}
-use Rattle.table.specs.Sound.{Shape, Blank, Sound, capacityFits, eachUsed, shapeTests, blankTests, ringless, soundTests, sound}
+use Rattle.table.specs.Sound.{Shape, Blank, Formed, Sound, capacityFits, eachUsed, shapeTests, blankTests, ringless, soundTests, sound}
 use Rattle.table.proofs.Cabins.{quotas-pairs, quotas-together, quotas-test, charges-limit, charges-reserve, charges-test}
-use Rattle.table.proofs.Links.{Wired, sound-wired, used-below, used-place, linked-below, strongly-linked}
+use Rattle.table.proofs.Links.{formed-wired, used-below, used-place, linked-below, strongly-linked}
 
 pub each-used-at : (t : Table) (p : ℕ → Bool) → eachUsed t p ≡ true → (i : ℕ) → i < places → inUse t i ≡ true → p i ≡ true
 unfolding eachUsed
@@ -83,74 +83,74 @@ unfolding capacityFits
 capacity-range c h = (leb-true 1 c (and-left (leb 1 c) _ h), leb-true c places (and-right (leb 1 c) _ h))
 
 module _ (t : Table) where
-  tests-wired : passes (soundTests t) ≡ true → Wired t
+  tests-formed : passes (soundTests t) ≡ true → Formed t
   unfolding soundTests capacityFits
-  tests-wired h =
+  tests-formed h =
       let at = passes-at (soundTests t) h in
       let shape = tests-shape t (at 0) in
       record {
         shape = shape;
+        least = leb-true _ _ (and-left (leb 1 (t .capacity)) _ (at 1));
         most = leb-true _ _ (and-right (leb 1 (t .capacity)) _ (at 1));
+        last = ltb-true _ _ (at 2);
         above = λ i g l. refute (inUse t i) (λ u. let b : i < t .capacity = ltb-true _ _ (each-used-at t _ (at 3) i l u) in omega arith);
+        alarm = at 4;
+        kinds = λ i u. each-used-at t _ (at 5) i (used-place shape i u) u;
+        own = λ i u. ltb-true _ _ (each-used-at t _ (at 6) i (used-place shape i u) u);
+        bits = λ i e u l. ltb-true _ _ (all-at (exitsOf i) _ (each-used-at t _ (at 7) i (used-place shape i u) u) e l);
         targets = λ i e u l g. implied (holds t i e) _ (all-at (exitsOf i) _ (each-used-at t _ (at 8) i (used-place shape i u) u) e l) g;
+        empty = λ i e u l g. eqb-true _ _ (otherwise (holds t i e) _ (all-at (exitsOf i) _ (each-used-at t _ (at 9) i (used-place shape i u) u) e l) g);
         free = λ i l f. tests-blank t i (otherwise (inUse t i) _ (all-at places _ (at 10) i l) f);
+        counts = λ i b u l. eqb-true _ _ (all-at counters _ (each-used-at t _ (at 11) i (used-place shape i u) u) b l);
+        cabins = λ i u. ltb-true _ _ (each-used-at t _ (at 15) i (used-place shape i u) u);
+        alarmCabin = eqb-true _ _ (at 16);
       }
 
   pub test-sound : sound t ≡ true → Sound t
-  unfolding sound soundTests capacityFits ringless
+  unfolding sound soundTests ringless
   test-sound h =
       let at = passes-at (soundTests t) h in
-      let w = tests-wired h in
-      let edge : (i j : ℕ) → stronglyLinked t i j ≡ true → j < t .capacity = λ i j s. linked-below w i j (strongly-linked t i j s) in
+      let g = tests-formed h in
+      let edge : (i j : ℕ) → stronglyLinked t i j ≡ true → j < t .capacity = λ i j s. linked-below (formed-wired g) i j (strongly-linked t i j s) in
       record {
-        shape = w .shape;
-        least = leb-true _ _ (and-left (leb 1 (t .capacity)) _ (at 1));
-        most = w .most;
-        last = ltb-true _ _ (at 2);
-        above = w .above;
-        alarm = at 4;
-        kinds = λ i u. each-used-at t _ (at 5) i (used-place (w .shape) i u) u;
-        own = λ i u. ltb-true _ _ (each-used-at t _ (at 6) i (used-place (w .shape) i u) u);
-        bits = λ i e u l. ltb-true _ _ (all-at (exitsOf i) _ (each-used-at t _ (at 7) i (used-place (w .shape) i u) u) e l);
-        targets = w .targets;
-        empty = λ i e u l g. eqb-true _ _ (otherwise (holds t i e) _ (all-at (exitsOf i) _ (each-used-at t _ (at 9) i (used-place (w .shape) i u) u) e l) g);
-        free = w .free;
-        counts = λ i b u l. eqb-true _ _ (all-at counters _ (each-used-at t _ (at 11) i (used-place (w .shape) i u) u) b l);
+        formed = g;
         acyclic =
             λ i n c.
             let r = chain-head (c .row) in
-            let ring = each-used-at t _ (at 12) i (used-place (w .shape) i (c .begins)) (c .begins) in
+            let ring = each-used-at t _ (at 12) i (used-place (g .shape) i (c .begins)) (c .begins) in
             let no = implied (stronglyLinked t i (r .0)) _ (all-at (t .capacity) _ ring (r .0) (edge i (r .0) (r .1))) (r .1) in
             clash (reach-complete (stronglyLinked t) (t .capacity) edge (edge i (r .0) (r .1)) (r .2)) (not-true-false _ no);
         reached =
             λ i u.
-            let r = reach-sound (stronglyLinked t) (t .capacity) 0 i (each-used-at t _ (at 13) i (used-place (w .shape) i u) u) in
-            (r .0, record { begins = at 4; row = r .1 });
-        pairs = quotas-pairs (t .capacity) (t .quotas) (at 14);
-        together = quotas-together (t .capacity) (t .quotas) (at 14);
-        cabins = λ i u. ltb-true _ _ (each-used-at t _ (at 15) i (used-place (w .shape) i u) u);
-        alarmCabin = eqb-true _ _ (at 16);
-        charges = charges-limit (t .quotas) (charge t) (freeSteps t) (at 17);
-        reserve = charges-reserve (t .quotas) (charge t) (freeSteps t) (at 17);
+            let r = reach-sound (stronglyLinked t) (t .capacity) 0 i (each-used-at t _ (at 13) i (used-place (g .shape) i u) u) in
+            (r .0, record { begins = g .alarm; row = r .1 });
+        shares =
+            record {
+              pairs = quotas-pairs (t .capacity) (t .quotas) (at 14);
+              together = quotas-together (t .capacity) (t .quotas) (at 14);
+              charges = charges-limit (t .quotas) (charge t) (freeSteps t) (at 17);
+              reserve = charges-reserve (t .quotas) (charge t) (freeSteps t) (at 17);
+            };
       }
 
   pub sound-test : Sound t → sound t ≡ true
   unfolding sound soundTests capacityFits ringless
   sound-test s =
-      let w = sound-wired s in
+      let g = s .formed in
+      let w = formed-wired g in
       let edge : (i j : ℕ) → stronglyLinked t i j ≡ true → j < t .capacity = λ i j h. linked-below w i j (strongly-linked t i j h) in
-      and-intro (shape-tests t (s .shape))
-      (and-intro (and-intro (le-leb _ _ (s .least)) (le-leb _ _ (s .most)))
-      (and-intro (lt-ltb _ _ (s .last))
+      and-intro (shape-tests t (g .shape))
+      (and-intro (and-intro (le-leb _ _ (g .least)) (le-leb _ _ (g .most)))
+      (and-intro (lt-ltb _ _ (g .last))
       (and-intro (each-used-intro t _ (λ i u. lt-ltb _ _ (used-below w i u)))
-      (and-intro (s .alarm)
-      (and-intro (each-used-intro t _ (s .kinds))
-      (and-intro (each-used-intro t _ (λ i u. lt-ltb _ _ (s .own i u)))
-      (and-intro (each-used-intro t _ (λ i u. all-intro (exitsOf i) _ (λ e l. lt-ltb _ _ (s .bits i e u l))))
-      (and-intro (each-used-intro t _ (λ i u. all-intro (exitsOf i) _ (λ e l. imply (holds t i e) _ (s .targets i e u l))))
-      (and-intro (each-used-intro t _ (λ i u. all-intro (exitsOf i) _ (λ e l. either (holds t i e) _ (λ f. eq-eqb _ _ (s .empty i e u l f)))))
-      (and-intro (all-intro places _ (λ i l. either (inUse t i) _ (λ f. blank-tests t i (s .free i l f))))
-      (and-intro (each-used-intro t _ (λ i u. all-intro counters _ (λ b l. eq-eqb _ _ (s .counts i b u l))))
+      (and-intro (g .alarm)
+      (and-intro (each-used-intro t _ (g .kinds))
+      (and-intro (each-used-intro t _ (λ i u. lt-ltb _ _ (g .own i u)))
+      (and-intro (each-used-intro t _ (λ i u. all-intro (exitsOf i) _ (λ e l. lt-ltb _ _ (g .bits i e u l))))
+      (and-intro (each-used-intro t _ (λ i u. all-intro (exitsOf i) _ (λ e l. imply (holds t i e) _ (g .targets i e u l))))
+      (and-intro (each-used-intro t _ (λ i u. all-intro (exitsOf i) _ (λ e l. either (holds t i e) _ (λ f. eq-eqb _ _ (g .empty i e u l f)))))
+      (and-intro (all-intro places _ (λ i l. either (inUse t i) _ (λ f. blank-tests t i (g .free i l f))))
+      (and-intro (each-used-intro t _ (λ i u. all-intro counters _ (λ b l. eq-eqb _ _ (g .counts i b u l))))
       (and-intro
       (each-used-intro t _
       (λ i u.
@@ -164,8 +164,8 @@ module _ (t : Table) where
       let c = reach-sound (stronglyLinked t) (t .capacity) j i r in
       s .acyclic i (c .0) (record { begins = u; row = chain-first h (c .1) })))))))
       (and-intro
-      (each-used-intro t _ (λ i u. let c = s .reached i u in reach-complete (stronglyLinked t) (t .capacity) edge (s .least) (c .1 .row)))
-      (and-intro (quotas-test (t .capacity) (t .quotas) (s .pairs) (s .together))
-      (and-intro (each-used-intro t _ (λ i u. lt-ltb _ _ (s .cabins i u)))
-      (and-intro (eq-eqb _ _ (s .alarmCabin))
-      (and-intro (charges-test (t .quotas) (charge t) (freeSteps t) (s .charges) (s .reserve)) refl)))))))))))))))))
+      (each-used-intro t _ (λ i u. let c = s .reached i u in reach-complete (stronglyLinked t) (t .capacity) edge (g .least) (c .1 .row)))
+      (and-intro (quotas-test (t .capacity) (t .quotas) (s .shares .pairs) (s .shares .together))
+      (and-intro (each-used-intro t _ (λ i u. lt-ltb _ _ (g .cabins i u)))
+      (and-intro (eq-eqb _ _ (g .alarmCabin))
+      (and-intro (charges-test (t .quotas) (charge t) (freeSteps t) (s .shares .charges) (s .shares .reserve)) refl)))))))))))))))))

@@ -18,10 +18,9 @@ use Rattle.finite.proofs.Bools.{clash, refute, or-left, or-right, or-elim}
 use Rattle.finite.proofs.Below.{eq-or-ne, count-le, count-more, count-mono, count-pos}
 use Rattle.finite.proofs.Reach.{chain-head, chain-raises, reach-sound, reach-complete, reach-start}
 use Rattle.table.specs.Table.{Table, inUse, stronglyLinked, stepsInUse, StrongChain}
-use Rattle.table.specs.Sound.{Sound}
-use Rattle.table.proofs.Links.{Wired, sound-wired, used-below, linked-used, linked-below, strongly-linked}
-use Rattle.table.proofs.Formed.{Formed, formed-wired, formed-place}
-use Rattle.table.proofs.Cabins.{Shares}
+use Rattle.table.specs.Sound.{Formed, Shares, Sound}
+use Rattle.table.proofs.Links.{Wired, formed-wired, sound-wired, used-below, linked-used, linked-below, strongly-linked}
+use Rattle.table.proofs.Formed.{formed-place}
 
 pub record Spine (t : Table) (K : ℕ → Bool) : Type 0 where
   pub rank : ℕ → ℕ
@@ -58,31 +57,14 @@ strong-below {t} w i j h = linked-below w i j (strongly-linked t i j h)
 pub spine-sound : {t : Table} → Formed t → Shares t → Spine t (inUse t) → Sound t
 spine-sound {t} g shares s =
     record {
-      shape = g .shape;
-      least = g .least;
-      most = g .most;
-      last = g .last;
-      above = g .above;
-      alarm = g .alarm;
-      kinds = g .kinds;
-      own = g .own;
-      bits = g .bits;
-      targets = g .targets;
-      empty = g .empty;
-      free = g .free;
-      counts = λ i b u l. g .exact i b (formed-place g i u) l;
+      formed = g;
       acyclic =
           λ i n c.
           let w = formed-wired g in
           let r = chain-raises (s .rank) (λ a b h. s .rising a b (strong-used w a b h .0) h) (c .row) in
           omega arith;
       reached = λ i u. let c = spine-chain s i u in (c .0, record { begins = g .alarm; row = c .1 });
-      pairs = shares .pairs;
-      together = shares .together;
-      cabins = g .cabins;
-      alarmCabin = g .alarmCabin;
-      charges = shares .charges;
-      reserve = shares .reserve;
+      shares = shares;
     }
 
 -- how many steps lead to i by strong chains, i itself among them: each strong link raises it
@@ -121,7 +103,7 @@ module _ {t : Table} (s : Sound t) where
       record {
         rank = ranked t;
         top = suc (t .capacity);
-        root = s .alarm;
+        root = s .formed .alarm;
         used = λ i u. u;
         low = λ i u. let c = count-le (t .capacity) (λ j. reaches (stronglyLinked t) (t .capacity) j i) in omega arith;
         rising = λ i j u h. ranked-rises i j h;

@@ -91,14 +91,14 @@ module _ {t : Table} (s : Sound t) (c : ℕ) (q : List ℕ) (fit : Roomy t c q) 
   -- a statement of each step of u, by the step of t that became it
   each : (P : ℕ → Type 0) → ((i : ℕ) → inUse t i ≡ true → P (newNumber t i)) → (k : ℕ) → inUse u k ≡ true → P k
   each P h k y =
-      let x = used-new-step w (s .alarm) (renumbered-follows r) k y in
+      let x = used-new-step w (s .formed .alarm) (renumbered-follows r) k y in
       subst P (x .2) (h (x .0) (x .1))
 
   f : Follows t u
   f = renumbered-follows r
 
   old-exit : (i e : ℕ) → e < exitsOf (newNumber t i) → e < exitsOf i
-  old-exit i e l = omega (arith, new-exits t (s .alarm) i)
+  old-exit i e l = omega (arith, new-exits t (s .formed .alarm) i)
 
   pub squeezed-wired : Wired u
   unfolding squeezed
@@ -113,7 +113,7 @@ module _ {t : Table} (s : Sound t) (c : ℕ) (q : List ℕ) (fit : Roomy t c q) 
             (λ i x b h.
             let o = old-exit i e b in
             rw (r .target i e x o)
-            (new-used-step w (s .alarm) f (targetOf t i e) (s .targets i e x o (sym (follow-holds w (s .alarm) f i e x o) ∙ h))))
+            (new-used-step w (s .formed .alarm) f (targetOf t i e) (s .formed .targets i e x o (sym (follow-holds w (s .formed .alarm) f i e x o) ∙ h))))
             k
             y
             l;
@@ -125,8 +125,8 @@ module _ {t : Table} (s : Sound t) (c : ℕ) (q : List ℕ) (fit : Roomy t c q) 
   fits-there i x =
       rw (r .kind i x, r .content i x)
       (⊎-elim
-      (λ (z : i ≡ 0). let q : newNumber t i ≡ i = ap (newNumber t) z ∙ new-zero t ∙ sym z in rw q (s .kinds i x))
-      (λ (d : i ≡ 0 → ⊥). kind-other (newNumber t i) (new-nonzero t (s .alarm) i d) ∙ sym (kind-other i d) ∙ s .kinds i x)
+      (λ (z : i ≡ 0). let q : newNumber t i ≡ i = ap (newNumber t) z ∙ new-zero t ∙ sym z in rw q (s .formed .kinds i x))
+      (λ (d : i ≡ 0 → ⊥). kind-other (newNumber t i) (new-nonzero t (s .formed .alarm) i d) ∙ sym (kind-other i d) ∙ s .formed .kinds i x)
       (eq-or-ne i 0))
     where
       kind-other : (k : ℕ) → (k ≡ 0 → ⊥) → kindFits k (kindOf t i) (contentOf t i) ≡ contentFits (kindOf t i) (contentOf t i)
@@ -137,7 +137,7 @@ module _ {t : Table} (s : Sound t) (c : ℕ) (q : List ℕ) (fit : Roomy t c q) 
     where
       ringless : (i : ℕ) → inUse t i ≡ true → Chain (stronglyLinked u) (newNumber t i) (newNumber t i) (suc n) → ⊥
       ringless i x y =
-          let b = follow-chain-back w (s .alarm) f x y in
+          let b = follow-chain-back w (s .formed .alarm) f x y in
           let e : b .0 ≡ i = new-once t (b .0) i (b .1) x (sym (b .2)) in
           s .acyclic i n (record { begins = x; row = rw e at (b .3) })
 
@@ -146,21 +146,21 @@ module _ {t : Table} (s : Sound t) (c : ℕ) (q : List ℕ) (fit : Roomy t c q) 
       each (λ k. (n : ℕ) × StrongChain u 0 k n)
       (λ i x.
       let q = s .reached i x in
-      let row = follow-chain w (s .alarm) f (s .alarm) (q .1 .row) in (
+      let row = follow-chain w (s .formed .alarm) f (s .formed .alarm) (q .1 .row) in (
         q .0,
-        record { begins = rw (new-zero t) at (new-used-step w (s .alarm) f 0 (s .alarm)); row = rw (new-zero t) at row },
+        record { begins = rw (new-zero t) at (new-used-step w (s .formed .alarm) f 0 (s .formed .alarm)); row = rw (new-zero t) at row },
       ))
 
   -- each cabin is charged what it was
   pub used-same : stepsInUse u ≡ stepsInUse t
-  used-same = follow-used w (s .alarm) f squeezed-wired
+  used-same = follow-used w (s .formed .alarm) f squeezed-wired
 
   pub charge-same : charge u ≡ charge t
   unfolding charge
   charge-same =
       fun-ext
       (λ d.
-      follow-count w (s .alarm) f squeezed-wired (charged t d) (charged u d)
+      follow-count w (s .formed .alarm) f squeezed-wired (charged t d) (charged u d)
       (λ i x. charged-there d i x)
       (λ i y. charged-used t d i y .0)
       (λ k y. charged-used u d k y .0))
@@ -173,7 +173,7 @@ module _ {t : Table} (s : Sound t) (c : ℕ) (q : List ℕ) (fit : Roomy t c q) 
           used-charged t d i x (λ e. z .1 (ap (newNumber t) e ∙ new-zero t)) (sym (r .cabin i x) ∙ z .2))
           (λ y.
           let z = charged-used t d i y in
-          used-charged u d (newNumber t i) (new-used-step w (s .alarm) f i x) (new-nonzero t (s .alarm) i (z .1)) (r .cabin i x ∙ z .2))
+          used-charged u d (newNumber t i) (new-used-step w (s .formed .alarm) f i x) (new-nonzero t (s .formed .alarm) i (z .1)) (r .cabin i x ∙ z .2))
 
   free-same : freeSteps u ≡ c - stepsInUse t
   unfolding freeSteps
@@ -184,44 +184,50 @@ module _ {t : Table} (s : Sound t) (c : ℕ) (q : List ℕ) (fit : Roomy t c q) 
   squeeze-sound charges =
       let shared : chargesFit q (charge u) (freeSteps u) ≡ true = ap₂ (chargesFit q) charge-same free-same ∙ charges in
       record {
-        shape = squeezed-shape t c q (list-size c q (fit .list));
-        least = fit .least;
-        most = fit .most;
-        last = last-below;
-        above = squeezed-wired .above;
-        alarm = rw (new-zero t) at (new-used-step w (s .alarm) f 0 (s .alarm));
-        kinds = each (λ k. kindFits k (kindOf u k) (contentOf u k) ≡ true) fits-there;
-        own = each (λ k. ownBit u k < 2) (λ i x. rw (r .own i x) (s .own i x));
-        bits =
-            λ k e y l.
-            each (λ k. e < exitsOf k → linkBit u k e < 2) (λ i x b. let o = old-exit i e b in rw (r .bit i e x o) (s .bits i e x o)) k y l;
-        targets = squeezed-wired .targets;
-        empty =
-            λ k e y l.
-            each (λ k. e < exitsOf k → holds u k e ≡ false → linkBit u k e ≡ 0)
-            (λ i x b h. let o = old-exit i e b in r .bit i e x o ∙ s .empty i e x o (sym (follow-holds w (s .alarm) f i e x o) ∙ h))
-            k
-            y
-            l;
-        free = blank;
-        counts =
-            λ k b y l.
-            each (λ k. counterOf u k b ≡ linksTo u k b)
-            (λ i x. r .counter i b x l ∙ s .counts i b x l ∙ sym (follow-links w (s .alarm) f squeezed-wired i b x))
-            k
-            y;
+        formed =
+            record {
+              shape = squeezed-shape t c q (list-size c q (fit .list));
+              least = fit .least;
+              most = fit .most;
+              last = last-below;
+              above = squeezed-wired .above;
+              alarm = rw (new-zero t) at (new-used-step w (s .formed .alarm) f 0 (s .formed .alarm));
+              kinds = each (λ k. kindFits k (kindOf u k) (contentOf u k) ≡ true) fits-there;
+              own = each (λ k. ownBit u k < 2) (λ i x. rw (r .own i x) (s .formed .own i x));
+              bits =
+                  λ k e y l.
+                  each (λ k. e < exitsOf k → linkBit u k e < 2) (λ i x b. let o = old-exit i e b in rw (r .bit i e x o) (s .formed .bits i e x o)) k y l;
+              targets = squeezed-wired .targets;
+              empty =
+                  λ k e y l.
+                  each (λ k. e < exitsOf k → holds u k e ≡ false → linkBit u k e ≡ 0)
+                  (λ i x b h. let o = old-exit i e b in r .bit i e x o ∙ s .formed .empty i e x o (sym (follow-holds w (s .formed .alarm) f i e x o) ∙ h))
+                  k
+                  y
+                  l;
+              free = blank;
+              counts =
+                  λ k b y l.
+                  each (λ k. counterOf u k b ≡ linksTo u k b)
+                  (λ i x. r .counter i b x l ∙ s .formed .counts i b x l ∙ sym (follow-links w (s .formed .alarm) f squeezed-wired i b x))
+                  k
+                  y;
+              cabins = each (λ k. cabinOf u k < cabinCount) (λ i x. rw (r .cabin i x) (s .formed .cabins i x));
+              alarmCabin = rw (new-zero t) at (r .cabin 0 (s .formed .alarm)) ∙ s .formed .alarmCabin;
+            };
         acyclic = acyclic;
         reached = reached;
-        pairs = quotas-pairs c q (list-quotas c q (fit .list));
-        together = quotas-together c q (list-quotas c q (fit .list));
-        cabins = each (λ k. cabinOf u k < cabinCount) (λ i x. rw (r .cabin i x) (s .cabins i x));
-        alarmCabin = rw (new-zero t) at (r .cabin 0 (s .alarm)) ∙ s .alarmCabin;
-        charges = charges-limit q (charge u) (freeSteps u) shared;
-        reserve = charges-reserve q (charge u) (freeSteps u) shared;
+        shares =
+            record {
+              pairs = quotas-pairs c q (list-quotas c q (fit .list));
+              together = quotas-together c q (list-quotas c q (fit .list));
+              charges = charges-limit q (charge u) (freeSteps u) shared;
+              reserve = charges-reserve q (charge u) (freeSteps u) shared;
+            };
       }
     where
       last-below : stepsInUse t - 1 < c
-      last-below = let a = new-below w 0 (s .alarm) in let b = fit .room in omega arith
+      last-below = let a = new-below w 0 (s .formed .alarm) in let b = fit .room in omega arith
 
   -- a squeeze can spoil nothing but that the charges fit
   pub squeeze-test : sound u ≡ chargesFit q (charge t) (c - stepsInUse t)
@@ -230,7 +236,7 @@ module _ {t : Table} (s : Sound t) (c : ℕ) (q : List ℕ) (fit : Roomy t c q) 
       (λ y.
       let v = test-sound u y in
       rw (← charge-same, ← free-same)
-      (charges-test q (charge u) (freeSteps u) (λ d l. unfold squeezed in v .charges d l) (unfold squeezed in v .reserve)))
+      (charges-test q (charge u) (freeSteps u) (λ d l. unfold squeezed in v .shares .charges d l) (unfold squeezed in v .shares .reserve)))
       (λ y. sound-test u (squeeze-sound y))
 
 module _ {t : Table} (s : Sound t) (c : ℕ) (q : List ℕ) where
@@ -326,11 +332,11 @@ module _ {t : Table} (s : Sound t) (c : ℕ) (q : List ℕ) (fit : Roomy t c q) 
       let w = sound-wired s in
       let r = squeezed-renumbered w c q in
       sym
-      (plan-step-used (squeezed t c q) (newNumber t i) (new-used-step w (s .alarm) (renumbered-follows r) i x)
+      (plan-step-used (squeezed t c q) (newNumber t i) (new-used-step w (s .formed .alarm) (renumbered-follows r) i x)
       ∙ ap some
       (unfold followed stepKept in
       step-path (r .kind i x) (r .content i x)
-      (ap (λ (n : ℕ). tabulate n (targetOf (squeezed t c q) (newNumber t i))) (new-exits t (s .alarm) i)
+      (ap (λ (n : ℕ). tabulate n (targetOf (squeezed t c q) (newNumber t i))) (new-exits t (s .formed .alarm) i)
       ∙ tabulate-ext (exitsOf i) _ _
       (λ e l. r .target i e x l ∙ sym (plan-rank t (targetOf t i e) (target-low w e l)))
       ∙ sym (map-tabulate (planRank (planOf t)) (exitsOf i) (targetOf t i)))
@@ -338,7 +344,7 @@ module _ {t : Table} (s : Sound t) (c : ℕ) (q : List ℕ) (fit : Roomy t c q) 
     where
       target-low : Wired t → (e : ℕ) → e < exitsOf i → targetOf t i e ≤ t .capacity
       target-low w e l =
-          ⊎-elim (λ (h : holds t i e ≡ true). let b = used-below w (targetOf t i e) (s .targets i e x l h) in omega arith)
+          ⊎-elim (λ (h : holds t i e ≡ true). let b = used-below w (targetOf t i e) (s .formed .targets i e x l h) in omega arith)
           (λ (h : holds t i e ≡ false). rw (empty-target t i e h) (omega arith))
           (test (holds t i e))
 

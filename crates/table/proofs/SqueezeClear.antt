@@ -19,9 +19,9 @@ use Rattle.table.specs.Calls.{relink}
 use Rattle.table.specs.Clear.{emptied, cleared, clearRefusal, clearCall}
 use Rattle.table.specs.Squeeze.{newNumber, squeezed, ClearsAlike}
 use Rattle.table.proofs.Places.{own-exit}
-use Rattle.table.proofs.Links.{Wired, sound-wired, used-place}
+use Rattle.table.proofs.Links.{Wired, formed-wired, sound-wired, used-place}
 use Rattle.table.proofs.Relink.{relink-target, relink-target-other, relink-bit, relink-bit-other}
-use Rattle.table.proofs.Formed.{at-exit, formed-wired}
+use Rattle.table.proofs.Formed.{at-exit}
 use Rattle.table.proofs.Clear.{reached-in-use, Cleared, emptied-used, emptied-steps, formed-emptied}
 use Rattle.table.proofs.Calls.{done, next, first-same, past-sound, clear-made, clear-refused, ClearFits, clear-fits, clear-cleared}
 use Rattle.table.proofs.Renumber.{new-zero, new-once, squeezed-renumbered}
@@ -55,13 +55,13 @@ module _ {t : Table} (s : Sound t) (c : ℕ) (q : List ℕ) (fit : SqueezeFits t
   f = renumbered-follows (squeezed-renumbered w c q)
 
   used′ : inUse u k ≡ true
-  used′ = new-used-step w (s .alarm) f i used
+  used′ = new-used-step w (s .formed .alarm) f i used
 
   refusal-same : clearRefusal u k e ≡ clearRefusal t i e
   unfolding clearRefusal
   refusal-same =
       past-sound v _
-      ∙ first-same (next (ap not (used′ ∙ sym used)) (λ _. next refl (λ l. next (ap not (follow-holds w (s .alarm) f i e used (own-exit i e (leb-false exits e l)))) (λ _. done))))
+      ∙ first-same (next (ap not (used′ ∙ sym used)) (λ _. next refl (λ l. next (ap not (follow-holds w (s .formed .alarm) f i e used (own-exit i e (leb-false exits e l)))) (λ _. done))))
       ∙ sym (past-sound s _)
 
   -- another exit of t is another one of u
@@ -70,14 +70,14 @@ module _ {t : Table} (s : Sound t) (c : ℕ) (q : List ℕ) (fit : SqueezeFits t
 
   -- an exit of a step is one of the step under its new number
   new-exit : (j g : ℕ) → g < exitsOf j → g < exitsOf (newNumber t j)
-  new-exit j g l = omega (arith, new-exits t (s .alarm) j)
+  new-exit j g l = omega (arith, new-exits t (s .formed .alarm) j)
 
   module _ (low : e < exitsOf i) where
     place : i < places
-    place = used-place (s .shape) i used
+    place = used-place (s .formed .shape) i used
 
     place′ : k < places
-    place′ = used-place (v .shape) k used′
+    place′ = used-place (v .formed .shape) k used′
 
     -- the emptied exit is empty in both, and every other one is as it was
     target-there : (j g : ℕ) → inUse t j ≡ true → g < exitsOf j → targetOf (emptied u k e) (newNumber t j) g ≡ newNumber t (targetOf (emptied t i e) j g)
@@ -85,20 +85,20 @@ module _ {t : Table} (s : Sound t) (c : ℕ) (q : List ℕ) (fit : SqueezeFits t
     target-there j g x l =
         ⊎-elim
         (λ (q : (j ≡ i) × (g ≡ e)).
-        rw (q .0, q .1, relink-target t (s .shape) i e 0 0 place low) (relink-target u (v .shape) k e 0 0 place′ (new-exit i e low) ∙ sym (new-zero t)))
+        rw (q .0, q .1, relink-target t (s .formed .shape) i e 0 0 place low) (relink-target u (v .formed .shape) k e 0 0 place′ (new-exit i e low) ∙ sym (new-zero t)))
         (λ d.
-        rw (relink-target-other t (s .shape) i e 0 0 place low j g l d)
-        (relink-target-other u (v .shape) k e 0 0 place′ (new-exit i e low) (newNumber t j) g (new-exit j g l) (apart j g x d) ∙ f .target j g x l))
+        rw (relink-target-other t (s .formed .shape) i e 0 0 place low j g l d)
+        (relink-target-other u (v .formed .shape) k e 0 0 place′ (new-exit i e low) (newNumber t j) g (new-exit j g l) (apart j g x d) ∙ f .target j g x l))
         (at-exit i e j g)
 
     bit-there : (j g : ℕ) → inUse t j ≡ true → g < exitsOf j → linkBit (emptied u k e) (newNumber t j) g ≡ linkBit (emptied t i e) j g
     unfolding emptied
     bit-there j g x l =
         ⊎-elim
-        (λ (q : (j ≡ i) × (g ≡ e)). rw (q .0, q .1, relink-bit t (s .shape) i e 0 0 place low) (relink-bit u (v .shape) k e 0 0 place′ (new-exit i e low)))
+        (λ (q : (j ≡ i) × (g ≡ e)). rw (q .0, q .1, relink-bit t (s .formed .shape) i e 0 0 place low) (relink-bit u (v .formed .shape) k e 0 0 place′ (new-exit i e low)))
         (λ d.
-        rw (relink-bit-other t (s .shape) i e 0 0 place low j g l d)
-        (relink-bit-other u (v .shape) k e 0 0 place′ (new-exit i e low) (newNumber t j) g (new-exit j g l) (apart j g x d) ∙ f .bit j g x l))
+        rw (relink-bit-other t (s .formed .shape) i e 0 0 place low j g l d)
+        (relink-bit-other u (v .formed .shape) k e 0 0 place′ (new-exit i e low) (newNumber t j) g (new-exit j g l) (apart j g x d) ∙ f .bit j g x l))
         (at-exit i e j g)
 
     emptied-follows : Follows (emptied t i e) (emptied u k e)
@@ -123,7 +123,7 @@ module _ {t : Table} (s : Sound t) (c : ℕ) (q : List ℕ) (fit : SqueezeFits t
     wired′ = formed-wired (formed-emptied u v k e (h .used) (h .exit) (h .filled))
 
     alarm : inUse (emptied t i e) 0 ≡ true
-    alarm = emptied-used t i e 0 ∙ s .alarm
+    alarm = emptied-used t i e 0 ∙ s .formed .alarm
 
     follows : Follows (emptied t i e) (emptied u k e)
     follows = emptied-follows (g .exit)
@@ -159,7 +159,7 @@ module _ {t : Table} (s : Sound t) (c : ℕ) (q : List ℕ) (fit : SqueezeFits t
         ∙ follow-count wired alarm follows wired′ (inUse (cleared t i e .table)) (inUse (cleared u k e .table))
         (λ j x. b .used (newNumber (emptied t i e) j) ∙ follow-reach wired alarm follows wired′ j x ∙ sym (a .used j))
         (λ j y. reached-in-use wired alarm j (sym (a .used j) ∙ y))
-        (λ j y. reached-in-use wired′ (emptied-used u k e 0 ∙ v .alarm) j (sym (b .used j) ∙ y))
+        (λ j y. reached-in-use wired′ (emptied-used u k e 0 ∙ v .formed .alarm) j (sym (b .used j) ∙ y))
         ∙ ap (λ (n : ℕ). count n (inUse (cleared t i e .table))) (sym (a .capacity))
 
     freed-same : clear-cleared v k e h .1 ≡ clear-cleared s i e g .1
@@ -169,7 +169,7 @@ module _ {t : Table} (s : Sound t) (c : ℕ) (q : List ℕ) (fit : SqueezeFits t
         let m = steps-same in
         let n = emptied-steps t i e in
         let n′ = emptied-steps u k e in
-        let o = follow-used w (s .alarm) f (sound-wired v) in
+        let o = follow-used w (s .formed .alarm) f (sound-wired v) in
         omega arith
 
     pub clears-made : ClearsAlike t (cleared t i e) (cleared u k e)
@@ -187,5 +187,5 @@ module _ {t : Table} (s : Sound t) (c : ℕ) (q : List ℕ) (fit : SqueezeFits t
       rw (clear-made t i e z, clear-made u k e z′) (clears-made (clear-fits t i e z) (clear-fits u k e z′)))
       (λ (d : clearRefusal t i e ≡ 0 → ⊥).
       rw (clear-refused t i e d, clear-refused u k e (λ y. d (sym refusal-same ∙ y)))
-      (record { answer = ap Refused refusal-same; kept = λ j x. new-used-step w (s .alarm) f j x ∙ sym x }))
+      (record { answer = ap Refused refusal-same; kept = λ j x. new-used-step w (s .formed .alarm) f j x ∙ sym x }))
       (eq-or-ne (clearRefusal t i e) 0)

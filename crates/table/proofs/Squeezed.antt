@@ -110,12 +110,12 @@ module _ {t : Table} (s : Sound t) (c : ℕ) (q : List ℕ) (fit : SqueezeFits t
   target-stays i e x l =
       ap (newNumber u) (r .target i e x l)
       ∙ stays (newNumber t (targetOf t i e))
-      (⊎-elim (λ (h : holds t i e ≡ true). let b = new-below w (targetOf t i e) (s .targets i e x l h) in omega arith)
+      (⊎-elim (λ (h : holds t i e ≡ true). let b = new-below w (targetOf t i e) (s .formed .targets i e x l h) in omega arith)
       (λ (h : holds t i e ≡ false). rw (empty-target t i e h, new-zero t) (omega arith))
       (test (holds t i e)))
 
   pub squeeze-twice : (d : ℕ) (l : List ℕ) → squeezed (squeezed t c q) d l ≡ squeezed t d l
-  squeeze-twice d l = squeezed-same t u d l (s .alarm) r used moved-same target-stays
+  squeeze-twice d l = squeezed-same t u d l (s .formed .alarm) r used moved-same target-stays
 
   pub squeeze-refusal-same : (d : ℕ) (l : List ℕ) → squeezeRefusal u d l ≡ squeezeRefusal t d l
   unfolding squeezeRefusal
@@ -145,7 +145,7 @@ module _ {t : Table} (s : Sound t) (c : ℕ) (q : List ℕ) (fit : SqueezeFits t
     after-under = rw (contact-under i x)
 
     holds-under : exitOf t i results < exits → holds u (newNumber t i) (exitOf u (newNumber t i) results) ≡ holds t i (exitOf t i results)
-    holds-under l = rw exit-under (follow-holds w (s .alarm) f i (exitOf t i results) x (own-exit i _ l))
+    holds-under l = rw exit-under (follow-holds w (s .formed .alarm) f i (exitOf t i results) x (own-exit i _ l))
 
   Fit : List ℕ → Type 0
   Fit results = (k : ℕ) → k < length results → getD results k 0 < exits
@@ -197,7 +197,7 @@ module _ {t : Table} (s : Sound t) (c : ℕ) (q : List ℕ) (fit : SqueezeFits t
       let n = length-set trace moves j in
       let target : targetOf u (newNumber t i) (exitOf u (newNumber t i) results) ≡ newNumber t j = rw (exit-under i results x) (r .target i _ x (own-exit i _ e)) in
       try-move u (newNumber t i) moves (renumbered moves trace) results left (none-under i results x ∙ h) (holds-under i results x e ∙ g)
-      ∙ rw (target, after-under i results x, renumbered-set moves j trace (omega arith)) (f (s .targets i _ x (own-exit i _ e) g) (after-fit i results fit) (omega arith))
+      ∙ rw (target, after-under i results x, renumbered-set moves j trace (omega arith)) (f (s .formed .targets i _ x (own-exit i _ e) g) (after-fit i results fit) (omega arith))
 
   trial-under : (i moves left : ℕ) (trace results : List ℕ) → Under i moves left trace results (tryFrom t i moves left trace results)
   unfolding underNumbers triedUnder movesOf
@@ -225,7 +225,7 @@ module _ {t : Table} (s : Sound t) (c : ℕ) (q : List ℕ) (fit : SqueezeFits t
   trial-made-under limit results trace z =
       let a = trial-fit t limit results trace z in
       rw (trial-made t limit results trace z, trial-made u limit results trace (trial-refusal-same limit results trace ∙ z))
-      (rw (new-zero t) at (trial-under 0 0 limit trace results (s .alarm) (results-at results (a .0)) (let b = a .1 in omega arith)))
+      (rw (new-zero t) at (trial-under 0 0 limit trace results (s .formed .alarm) (results-at results (a .0)) (let b = a .1 in omega arith)))
 
   pub squeeze-trial : (limit : ℕ) (results trace : List ℕ) → trialCall u limit results trace ≡ underNumbers (newNumber t) (trialCall t limit results trace)
   unfolding underNumbers triedUnder movesOf

@@ -1,5 +1,9 @@
 -- Sound (well formed: the invariant), document 01, "A table is sound when", and document 02, W5. Assumes nothing.
---   Sound t      the statement: 01's clauses in their order, then W5's, and before them that the arrays have their lengths and that bits are 0 or 1
+--   Shape t      the arrays have their lengths
+--   Blank t i    all fields of step i are zero or empty
+--   Formed t     the part that looks at fields alone: 01's clauses up to the counters, in their order, bits that are 0 or 1, and W5's cabins
+--   Shares t     W5's other clauses: the list of guarantees and limits, and the charges
+--   Sound t      the statement: a formed table, 01's clauses on strong links, and the shares
 --   sound t      the test, which computes; `test-sound` and `sound-test` of the proofs join the two
 --   contentFits capacityFits   the ranges of contents, by kind, and of capacities: one place for each
 use mathlib.Core.Path.{_≡_}
@@ -52,7 +56,8 @@ pub record Blank (t : Table) (i : ℕ) : Type 0 where
   pub counts : (b : ℕ) → b < counters → counterOf t i b ≡ 0
   pub cabin : cabinOf t i ≡ 0
 
-pub record Sound (t : Table) : Type 0 where
+-- a table whose fields are in order, whatever its strong links and its charges: each edit of one exit or one bit keeps it
+pub record Formed (t : Table) : Type 0 where
   pub shape : Shape t
   -- "the capacity is in range, the last number given is below it, and no step at or above it is in use"
   pub least : 1 ≤ t .capacity
@@ -70,18 +75,25 @@ pub record Sound (t : Table) : Type 0 where
   pub free : (i : ℕ) → i < places → inUse t i ≡ false → Blank t i
   -- "both counters of every step in use are exact"
   pub counts : (i b : ℕ) → inUse t i ≡ true → b < counters → counterOf t i b ≡ linksTo t i b
-  -- "strong links form no ring, and each step in use but 0 is reached from 0 by strong links alone"
-  pub acyclic : (i n : ℕ) → StrongChain t i i (suc n) → ⊥
-  pub reached : (i : ℕ) → inUse t i ≡ true → (n : ℕ) × StrongChain t 0 i n
-  -- W5. "such a list": guarantee at most limit, guarantees together at most capacity less 1
-  pub pairs : (c : ℕ) → c < cabinCount → guaranteeOf (t .quotas) c ≤ limitOf (t .quotas) c
-  pub together : total cabinCount (guaranteeOf (t .quotas)) ≤ t .capacity - 1
-  -- "cabins 0 to 7 and zero at step 0"
+  -- W5. "cabins 0 to 7 and zero at step 0"
   pub cabins : (i : ℕ) → inUse t i ≡ true → cabinOf t i < cabinCount
   pub alarmCabin : cabinOf t 0 ≡ 0
+
+-- W5: the list of guarantees and limits, and the charges within it
+pub record Shares (t : Table) : Type 0 where
+  -- "such a list": guarantee at most limit, guarantees together at most capacity less 1
+  pub pairs : (c : ℕ) → c < cabinCount → guaranteeOf (t .quotas) c ≤ limitOf (t .quotas) c
+  pub together : total cabinCount (guaranteeOf (t .quotas)) ≤ t .capacity - 1
   -- "charges within limits, free steps not fewer than the unmet guarantees together"
   pub charges : (c : ℕ) → c < cabinCount → charge t c ≤ limitOf (t .quotas) c
   pub reserve : total cabinCount (unmet (t .quotas) (charge t)) ≤ freeSteps t
+
+pub record Sound (t : Table) : Type 0 where
+  pub formed : Formed t
+  -- "strong links form no ring, and each step in use but 0 is reached from 0 by strong links alone"
+  pub acyclic : (i n : ℕ) → StrongChain t i i (suc n) → ⊥
+  pub reached : (i : ℕ) → inUse t i ≡ true → (n : ℕ) × StrongChain t 0 i n
+  pub shares : Shares t
 
 -- the test p is passed by each step in use
 unfoldable pub eachUsed : Table → (ℕ → Bool) → Bool
@@ -116,7 +128,7 @@ blankTests t i =
 unfoldable pub ringless : Table → ℕ → Bool
 ringless t i = all (t .capacity) (λ j. not (stronglyLinked t i j) || not (reaches (stronglyLinked t) (t .capacity) j i))
 
--- the clauses of `Sound`, in its order
+-- the clauses of `Sound` in the documents' order, which has W5's cabins among the shares
 unfoldable pub soundTests : Table → List Bool
 soundTests t =
     passes (shapeTests t) ∷

@@ -20,16 +20,17 @@ use Rattle.finite.proofs.Below.{eq-or-ne, any-at, any-intro, count-pos, count-s
 use Rattle.finite.proofs.Reach.{chain-keeps, reach-sound, reach-closed, reach-start}
 use Rattle.finite.proofs.Select.{tabulate-entries}
 use Rattle.table.specs.Table.{Table, places, counters, exitPlace, exitsOf, exitPlaces, holderAt, exitAt, counterPlace, inUse, ownBit, targetOf, linkBit, counterOf, strong, linked, stronglyLinked}
-use Rattle.table.specs.Sound.{Sound}
+use Rattle.table.specs.Sound.{Formed, Sound}
 use Rattle.table.specs.Clear.{emptied, heldStrongly, stops, doubtful, wanted}
 use Rattle.table.proofs.Places.{exit-place-below, exit-place-step, exit-at-below}
-use Rattle.table.proofs.Links.{holds-target, target-holds, bit-strong, strong-bit, linked-exit, exit-linked, linked-used, strongly-linked}
+use Rattle.table.proofs.Links.{formed-wired, holds-target, target-holds, bit-strong, strong-bit, linked-exit, exit-linked, linked-used, strongly-linked}
 use Rattle.table.proofs.Relink.{counter-place-below, relink-target, relink-target-other}
-use Rattle.table.proofs.Formed.{Formed, sound-formed, formed-wired, formed-place, formed-below}
+use Rattle.table.proofs.Formed.{formed-place, formed-below}
 use Rattle.table.proofs.Spine.{sound-spine}
 use Rattle.table.proofs.Edits.{getD-zeros, relink-strongly-other}
 use Rattle.table.proofs.Clear.{formed-emptied, goes-strong, emptied-used, emptied-fewer, emptied-strongly, doubtful-at}
-use Rattle.withdraw.specs.Search.{slotAt, ownSlot, otherSlot, lands, isMarked, landing, landingKept, rest, Ranged, Exact, Search, Withdrawn, stillLinked}
+use Rattle.words.specs.Marks.{isMarked}
+use Rattle.withdraw.specs.Search.{slotAt, ownSlot, otherSlot, lands, landing, landingKept, rest, Ranged, Exact, Search, Withdrawn, stillLinked}
 use Rattle.withdraw.specs.Withdraw.{Losing, candidate}
 use Rattle.withdraw.proofs.Slots.{own-slot-above, own-slot-below, own-slot-place, exit-here, link-lands, lands-link, landing-some, landing-linked, formed-ranged, formed-exact}
 use Rattle.withdraw.proofs.Laws.{AtZero, search-begin, search-mark, mark-here, marked-next}
@@ -62,19 +63,19 @@ module _ (t : Table) (i e : ℕ) (o : Losing t i e) where
   losing-formed = formed-emptied t s i e (o .fits .used) (o .fits .exit) (o .fits .filled)
 
   start-used : inUse t start ≡ true
-  start-used = s .targets i e (o .fits .used) (o .fits .exit) (o .fits .filled)
+  start-used = s .formed .targets i e (o .fits .used) (o .fits .exit) (o .fits .filled)
 
   pub start-low : start < places
-  start-low = formed-place (sound-formed s) start start-used
+  start-low = formed-place (s .formed) start start-used
 
   start-above : 0 < start
   start-above = let d = holds-target t i e (o .fits .filled) in omega arith
 
   pub ranged : Ranged t
-  ranged = formed-ranged t (sound-formed s)
+  ranged = formed-ranged t (s .formed)
 
   exact : Exact t (t .counts)
-  exact = formed-exact t (sound-formed s)
+  exact = formed-exact t (s .formed)
 
   used-place : (j : ℕ) → inUse u j ≡ true → j < places
   used-place j y = formed-place losing-formed j y
@@ -98,7 +99,7 @@ module _ (t : Table) (i e : ℕ) (o : Losing t i e) where
   spared-above = let a = own-slot-above t start start-above in omega arith
 
   spared-place : spared < length (t .counts)
-  spared-place = rw (s .shape .counts) (own-slot-below t ranged start start-low)
+  spared-place = rw (s .formed .shape .counts) (own-slot-below t ranged start start-low)
 
   -- no other step has it for its own
   own-other : (j : ℕ) → (j ≡ start → ⊥) → ownSlot t j ≡ spared → ⊥
@@ -108,7 +109,7 @@ module _ (t : Table) (i e : ℕ) (o : Losing t i e) where
   begin : AtZero t (t .counts) spared (set (t .counts) spared 0) zeros (λ q. 0) start
   begin =
       let dry = getD-set-same (t .counts) spared 0 0 spared-place in
-      search-begin t (t .counts) spared (set (t .counts) spared 0) zeros start (length-set (t .counts) spared 0 ∙ s .shape .counts) refl
+      search-begin t (t .counts) spared (set (t .counts) spared 0) zeros start (length-set (t .counts) spared 0 ∙ s .formed .shape .counts) refl
       (getD-zeros places) start-low (λ q c. getD-set-other (t .counts) spared q 0 0 (c spared-above)) (λ d. dry) (λ j c d. own-other j c)
       (λ d. dry) (λ x c. absurd (c refl))
 
@@ -129,7 +130,7 @@ module _ (t : Table) (i e : ℕ) (o : Losing t i e) where
         ∙ ⊎-elim (λ (q : j ≡ start). rw q start-used)
         (λ p.
         let l = landing-linked t ranged j (p .1) in
-        linked-used (formed-wired (sound-formed s)) (l .0) j (strongly-linked t (l .0) j (l .1)) .1)
+        linked-used (formed-wired (s .formed)) (l .0) j (strongly-linked t (l .0) j (l .1)) .1)
         (marked-new j m)
 
     marked-above : (j : ℕ) → isMarked marks j ≡ true → 0 < j
@@ -190,8 +191,8 @@ module _ (t : Table) (i e : ℕ) (o : Losing t i e) where
     doubt-list : marks ≡ tabulate places (λ j. one (marked (doubtful u) j))
     doubt-list =
         sym
-        (tabulate-entries places _ marks 0 (ended .marks-size)
-        (λ j l. ap one (sym (marked-doubtful j)) ∙ mark-one marks j (ended .binary j)))
+        (tabulate-entries places _ marks 0 (ended .ledger .marks-size)
+        (λ j l. ap one (sym (marked-doubtful j)) ∙ mark-one marks j (ended .ledger .binary j)))
 
     -- A marked step k: what is left of its other counter are the links to it from steps that are not marked.
     module _ (k : ℕ) (m : isMarked marks k ≡ true) where
@@ -228,7 +229,7 @@ module _ (t : Table) (i e : ℕ) (o : Losing t i e) where
           let has : linkBit t i e ≡ 1 - ownBit t k = rw (q .0, q .1) at bit in
           let is = strong-bit t i e (goes-strong t i e (o .goes)) in
           omega arith in
-          let stays = relink-target-other t (s .shape) i e 0 0 (formed-place (sound-formed s) i (o .fits .used)) (o .fits .exit) a f lf other ∙ to in (
+          let stays = relink-target-other t (s .formed .shape) i e 0 0 (formed-place (s .formed) i (o .fits .used)) (o .fits .exit) a f lf other ∙ to in (
             a,
             not-true-false _ (and-right (lands (slotAt t) (p .0) (otherSlot t k)) _ (p .2)),
             exit-linked u a k f lf (target-holds u a f (λ z. link .0 (sym stays ∙ z))) stays,
@@ -241,17 +242,17 @@ module _ (t : Table) (i e : ℕ) (o : Losing t i e) where
           let x = linked-exit u a k l in
           let f = x .0 in
           let la = used-place a (linked-used (formed-wired losing-formed) a k l .0) in
-          let li = formed-place (sound-formed s) i (o .fits .used) in
+          let li = formed-place (s .formed) i (o .fits .used) in
           let other : (a ≡ i) × (f ≡ e) → ⊥ =
           λ q.
-          let gone = relink-target t (s .shape) i e 0 0 li (o .fits .exit) in
+          let gone = relink-target t (s .formed .shape) i e 0 0 li (o .fits .exit) in
           holds-target u a f (x .2) (ap₂ (targetOf u) (q .0) (q .1) ∙ gone) in
-          let to : targetOf t a f ≡ k = sym (relink-target-other t (s .shape) i e 0 0 li (o .fits .exit) a f (x .1) other) ∙ x .3 in
+          let to : targetOf t a f ≡ k = sym (relink-target-other t (s .formed .shape) i e 0 0 li (o .fits .exit) a f (x .1) other) ∙ x .3 in
           let nonzero : k ≡ 0 → ⊥ = λ y. holds-target u a f (x .2) (x .3 ∙ y) in
           let weak : linkBit t a f ≡ ownBit t k → ⊥ =
           λ y.
           let yes = bit-strong t a f (target-holds t a f (λ v. nonzero (sym to ∙ v))) (y ∙ sym (ap (ownBit t) to)) in
-          let leads = relink-strongly-other t (sound-formed s) i e 0 0 (o .fits .used) (o .fits .exit) a k f (x .1) other yes to in
+          let leads = relink-strongly-other t (s .formed) i e 0 0 (o .fits .used) (o .fits .exit) a k f (x .1) other yes to in
           clash m (strong-unmarked a k n leads) in
           let low = ranged .bits (exitPlace a f) in
           let own = ranged .own k in

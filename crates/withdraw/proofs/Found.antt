@@ -15,7 +15,8 @@ use Rattle.finite.proofs.Bools.{and-left, and-right, clash, not-true-false}
 use Rattle.finite.proofs.Below.{count-some}
 use Rattle.table.specs.Table.{Table, places, exitPlaces, holderAt, counters, stronglyLinked}
 use Rattle.table.proofs.Edits.{getD-zeros}
-use Rattle.withdraw.specs.Search.{slotAt, ownSlot, lands, isMarked, landing, landingKept, rest, Ranged, Exact, Search, Withdrawn, Spans}
+use Rattle.words.specs.Marks.{isMarked}
+use Rattle.withdraw.specs.Search.{slotAt, ownSlot, lands, landing, landingKept, rest, Ranged, Exact, Search, Withdrawn, Spans}
 use Rattle.withdraw.proofs.Slots.{lands-alarm, strong-lands, lands-strong, own-slot-above, own-slot-below}
 use Rattle.withdraw.proofs.Laws.{AtZero, search-begin, search-mark, mark-here, marked-next}
 
@@ -47,15 +48,15 @@ module _ (t : Table) (r : Ranged t) (size : length (t .counts) ≡ places * coun
 module _ (t : Table) (r : Ranged t) (counts : List ℕ) (x : Exact t counts) (spared : ℕ) (left marks : List ℕ)
     (s : Search t counts spared left marks (λ q. 0)) where
   pub up-marked : (i j : ℕ) → i < places → stronglyLinked t i j ≡ true → isMarked marks j ≡ true → (ownSlot t j ≡ spared → ⊥) →
-      (isMarked marks i ≡ true) × (s .rank i < s .rank j)
+      (isMarked marks i ≡ true) × (s .ledger .rank i < s .ledger .rank j)
   up-marked i j l h m c =
       let a = strong-lands t i j l h in
-      let up = s .rising x (a .0) j (a .1) (a .3) m c in
-      (subst (λ (k : ℕ). isMarked marks k ≡ true) (a .2) (up .0), subst (λ (k : ℕ). s .rank k < s .rank j) (a .2) (up .1))
+      let up = s .ledger .rising x (a .0) j (a .1) (a .3) m c in
+      (subst (λ (k : ℕ). isMarked marks k ≡ true) (a .2) (up .0), subst (λ (k : ℕ). s .ledger .rank k < s .ledger .rank j) (a .2) (up .1))
 
   -- what is left of a counter are the links of the steps that are not marked
   pub left-kept : (q : ℕ) → 0 < q → q < places * counters → (q ≡ spared → ⊥) → getD left q 0 ≡ landingKept (slotAt t) marks q
-  left-kept q d l c = let e = s .account (inr x) q d l c in let same = x q l in omega arith
+  left-kept q d l c = let e = s .ledger .account (inr x) q d l c in let same = x q l in omega arith
 
   pub kept-parent : (j : ℕ) → 0 < j → j < places → isMarked marks j ≡ false → 0 < landing (slotAt t) (ownSlot t j) →
       (i : ℕ) × (isMarked marks i ≡ false) × (stronglyLinked t i j ≡ true)
@@ -66,7 +67,7 @@ module _ (t : Table) (r : Ranged t) (counts : List ℕ) (x : Exact t counts) (sp
       let above = own-slot-above t j d in
       let same = x q low in
       let some = s .busy j d l m (omega arith) in
-      let c : q ≡ spared → ⊥ = λ e. let z : getD left q 0 ≡ 0 = ap (λ (y : ℕ). getD left y 0) e ∙ s .dry (omega arith) in omega arith in
+      let c : q ≡ spared → ⊥ = λ e. let z : getD left q 0 ≡ 0 = ap (λ (y : ℕ). getD left y 0) e ∙ s .ledger .dry (omega arith) in omega arith in
       let e = left-kept q (omega arith) low c in
       let kept : 0 < landingKept (slotAt t) marks q = omega arith in
       let a = count-some (exitPlaces places) (λ p. lands (slotAt t) p q && not (isMarked marks (holderAt p))) kept in (

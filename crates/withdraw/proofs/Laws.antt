@@ -23,25 +23,14 @@ use Rattle.finite.proofs.Loops.{count-zero}
 use Rattle.table.specs.Table.{Table, places, counters, exitPlace, exitsOf, exitPlaces, holderAt, counterPlace, ownBit}
 use Rattle.table.proofs.Places.{count-exits}
 use Rattle.table.proofs.Relink.{counter-place-below}
-use Rattle.withdraw.specs.Search.{slotAt, ownSlot, lands, isMarked, landing, landingKept, at, rest, Ranged, Exact, Accounted, Search, Pending, Withdrawn, unmarked}
+use Rattle.words.specs.Marks.{isMarked}
+use Rattle.withdraw.specs.Search.{slotAt, ownSlot, lands, landing, landingKept, at, rest, Ranged, Exact, Accounted, Ledger, Search, Pending, Withdrawn, unmarked}
 use Rattle.withdraw.proofs.Slots.{lands-target, lands-intro, landing-zero, slot-empty, slot-link, own-slot-above, own-slot-place}
 
 -- Marking a step k that has no strong link left: its own exits become pending.
 pub record AtZero (t : Table) (counts : List ℕ) (spared : ℕ) (left marks : List ℕ) (pending : ℕ → ℕ) (k : ℕ) : Type 0 where
-  pub left-size : length left ≡ places * counters
-  pub marks-size : length marks ≡ places
-  pub binary : (j : ℕ) → getD marks j 0 < 2
-  pub account : Accounted t counts left → (q : ℕ) → 0 < q → q < places * counters → (q ≡ spared → ⊥) →
-      getD left q 0 + landing (slotAt t) q ≡ getD counts q 0 + landingKept (slotAt t) marks q + pending q
-  pub dry : 0 < spared → getD left spared 0 ≡ 0
-  pub quiet : (j : ℕ) → 0 < j → isMarked marks j ≡ true → getD left (ownSlot t j) 0 ≡ 0
-  pub busy : (j : ℕ) → 0 < j → j < places → (j ≡ k → ⊥) → isMarked marks j ≡ false → 0 < getD counts (ownSlot t j) 0 → 0 < getD left (ownSlot t j) 0
-  pub clean : Exact t counts → spared ≡ 0 → getD left 0 0 ≡ 0
-  pub rank : ℕ → ℕ
-  pub top : ℕ
-  pub below : (j : ℕ) → isMarked marks j ≡ true → rank j < top
-  pub rising : Exact t counts → (p j : ℕ) → p < exitPlaces places → lands (slotAt t) p (ownSlot t j) ≡ true → isMarked marks j ≡ true →
-      (ownSlot t j ≡ spared → ⊥) → (isMarked marks (holderAt p) ≡ true) × (rank (holderAt p) < rank j)
+  pub ledger : Ledger t counts spared left marks pending
+  pub others : (j : ℕ) → 0 < j → j < places → (j ≡ k → ⊥) → isMarked marks j ≡ false → 0 < getD counts (ownSlot t j) 0 → 0 < getD left (ownSlot t j) 0
   pub low : k < places
   pub fresh : isMarked marks k ≡ false
   pub zero : 0 < k → getD left (ownSlot t k) 0 ≡ 0
@@ -83,19 +72,23 @@ module _ (t : Table) where
   pub search-ext : {counts : List ℕ} {spared : ℕ} {left marks : List ℕ} {a b : ℕ → ℕ} → ((q : ℕ) → a q ≡ b q) →
       Search t counts spared left marks a → Search t counts spared left marks b
   search-ext {counts} {spared} {left} {marks} f s =
+      let g = s .ledger in
       record {
-        left-size = s .left-size;
-        marks-size = s .marks-size;
-        binary = s .binary;
-        account = λ z q d l c. s .account z q d l c ∙ ap (λ (x : ℕ). getD counts q 0 + landingKept (slotAt t) marks q + x) (f q);
-        dry = s .dry;
-        quiet = s .quiet;
+        ledger =
+            record {
+              left-size = g .left-size;
+              marks-size = g .marks-size;
+              binary = g .binary;
+              account = λ z q d l c. g .account z q d l c ∙ ap (λ (x : ℕ). getD counts q 0 + landingKept (slotAt t) marks q + x) (f q);
+              dry = g .dry;
+              quiet = g .quiet;
+              clean = g .clean;
+              rank = g .rank;
+              top = g .top;
+              low = g .low;
+              rising = g .rising;
+            };
         busy = s .busy;
-        clean = s .clean;
-        rank = s .rank;
-        top = s .top;
-        low = s .low;
-        rising = s .rising;
       }
 
   pub search-skip : (counts : List ℕ) (spared : ℕ) (left marks : List ℕ) (p : ℕ) → slotAt t p ≡ 0 → (pending : ℕ → ℕ) →
@@ -105,20 +98,23 @@ module _ (t : Table) where
   -- One link, which counts in the counter at place k.
   module _ (counts : List ℕ) (spared : ℕ) (left marks : List ℕ) (p k : ℕ) (here : slotAt t p ≡ k) (high : counters ≤ k)
       (low : k < places * counters) (pending : ℕ → ℕ) (s : Search t counts spared left marks (λ q. pending q + at (slotAt t) p q)) where
+    g : Ledger t counts spared left marks (λ q. pending q + at (slotAt t) p q)
+    g = s .ledger
+
     account-here : Accounted t counts left → (k ≡ spared → ⊥) →
         getD left k 0 + landing (slotAt t) k ≡ getD counts k 0 + landingKept (slotAt t) marks k + pending k + 1
-    account-here z c = let a = at-same (slotAt t) p k here (omega arith) in let e = s .account z k (omega arith) low c in omega arith
+    account-here z c = let a = at-same (slotAt t) p k here (omega arith) in let e = g .account z k (omega arith) low c in omega arith
 
     account-there : Accounted t counts left → (q : ℕ) → 0 < q → q < places * counters → (q ≡ spared → ⊥) → (q ≡ k → ⊥) →
         getD left q 0 + landing (slotAt t) q ≡ getD counts q 0 + landingKept (slotAt t) marks q + pending q
-    account-there z q d l c n = s .account z q d l c ∙ (let a = at-other (slotAt t) p k q here n in omega arith)
+    account-there z q d l c n = g .account z q d l c ∙ (let a = at-other (slotAt t) p k q here n in omega arith)
 
     -- with exact counters this one is not 0, unless it is spared
     left-some : Exact t counts → (k ≡ spared → ⊥) → 0 < getD left k 0
     left-some x c = let e = account-here (inr x) c in let y = x k low in omega arith
 
     set-here : (x : ℕ) → getD (set left k x) k 0 ≡ x
-    set-here x = getD-set-same left k x 0 (rw (s .left-size) low)
+    set-here x = getD-set-same left k x 0 (rw (g .left-size) low)
 
     set-there : (x q : ℕ) → (q ≡ k → ⊥) → getD (set left k x) q 0 ≡ getD left q 0
     set-there x q c = getD-set-other left k q x 0 c
@@ -133,36 +129,39 @@ module _ (t : Table) where
     pub search-over : getD left k 0 ≡ 0 → Search t counts spared (set left 0 1) marks pending
     search-over z =
         record {
-          left-size = length-set left 0 1 ∙ s .left-size;
-          marks-size = s .marks-size;
-          binary = s .binary;
-          account =
-              λ a q d l c.
-              ⊎-elim
-              (λ (e : getD (set left 0 1) 0 0 ≡ 0).
-              let o : getD (set left 0 1) 0 0 ≡ 1 = getD-set-same left 0 1 0 (rw (s .left-size) (omega arith)) in
-              absurd (omega arith))
-              (λ x.
-              let n : q ≡ k → ⊥ = λ (e : q ≡ k). let some = left-some x (λ y. c (e ∙ y)) in omega arith in
-              let o = over-there q (λ (e : q ≡ 0). omega arith) in
-              let b = account-there (inr x) q d l c n in
-              omega arith)
-              a;
-          dry = λ d. over-there spared (λ e. omega arith) ∙ s .dry d;
-          quiet = λ j d m. over-there (ownSlot t j) (λ e. let a = own-slot-above t j d in omega arith) ∙ s .quiet j d m;
+          ledger =
+              record {
+                left-size = length-set left 0 1 ∙ g .left-size;
+                marks-size = g .marks-size;
+                binary = g .binary;
+                account =
+                    λ a q d l c.
+                    ⊎-elim
+                    (λ (e : getD (set left 0 1) 0 0 ≡ 0).
+                    let o : getD (set left 0 1) 0 0 ≡ 1 = getD-set-same left 0 1 0 (rw (g .left-size) (omega arith)) in
+                    absurd (omega arith))
+                    (λ x.
+                    let n : q ≡ k → ⊥ = λ (e : q ≡ k). let some = left-some x (λ y. c (e ∙ y)) in omega arith in
+                    let o = over-there q (λ (e : q ≡ 0). omega arith) in
+                    let b = account-there (inr x) q d l c n in
+                    omega arith)
+                    a;
+                dry = λ d. over-there spared (λ e. omega arith) ∙ g .dry d;
+                quiet = λ j d m. over-there (ownSlot t j) (λ e. let a = own-slot-above t j d in omega arith) ∙ g .quiet j d m;
+                clean = λ x o. let n = left-some x (λ e. omega arith) in absurd (omega arith);
+                rank = g .rank;
+                top = g .top;
+                low = g .low;
+                rising = g .rising;
+              };
           busy = λ j d l m b. rw (over-there (ownSlot t j) (λ e. let a = own-slot-above t j d in omega arith)) (s .busy j d l m b);
-          clean = λ x o. let n = left-some x (λ e. omega arith) in absurd (omega arith);
-          rank = s .rank;
-          top = s .top;
-          low = s .low;
-          rising = s .rising;
         }
 
     -- the counter falls to n
     module _ (n : ℕ) (e : n + 1 ≡ getD left k 0) where
       -- it is not the spared one, which is 0
       unspared : k ≡ spared → ⊥
-      unspared c = let a : getD left k 0 ≡ 0 = ap (λ (x : ℕ). getD left x 0) c ∙ s .dry (omega arith) in omega arith
+      unspared c = let a : getD left k 0 ≡ 0 = ap (λ (x : ℕ). getD left x 0) c ∙ g .dry (omega arith) in omega arith
 
       accounted-before : Accounted t counts (set left k n) → Accounted t counts left
       accounted-before = ⊎-elim (λ z. inl (sym (set-first n) ∙ z)) (λ x. inr x)
@@ -175,40 +174,37 @@ module _ (t : Table) where
           (λ (c : q ≡ k → ⊥). let a = account-there (accounted-before z) q d l f c in let b = set-there n q c in omega arith)
           (eq-or-ne q k)
 
-      lower-dry : 0 < spared → getD (set left k n) spared 0 ≡ 0
-      lower-dry d = set-there n spared (λ c. unspared (sym c)) ∙ s .dry d
-
       -- it is not that of a marked step's own bit
       lower-unmarked : (j : ℕ) → 0 < j → isMarked marks j ≡ true → ownSlot t j ≡ k → ⊥
-      lower-unmarked j d m q = let a : getD left k 0 ≡ 0 = sym (ap (λ (x : ℕ). getD left x 0) q) ∙ s .quiet j d m in omega arith
+      lower-unmarked j d m q = let a : getD left k 0 ≡ 0 = sym (ap (λ (x : ℕ). getD left x 0) q) ∙ g .quiet j d m in omega arith
 
-      lower-quiet : (j : ℕ) → 0 < j → isMarked marks j ≡ true → getD (set left k n) (ownSlot t j) 0 ≡ 0
-      lower-quiet j d m = set-there n (ownSlot t j) (lower-unmarked j d m) ∙ s .quiet j d m
-
-      lower-clean : Exact t counts → spared ≡ 0 → getD (set left k n) 0 0 ≡ 0
-      lower-clean x o = set-first n ∙ s .clean x o
+      lower-ledger : Ledger t counts spared (set left k n) marks pending
+      lower-ledger =
+          record {
+            left-size = length-set left k n ∙ g .left-size;
+            marks-size = g .marks-size;
+            binary = g .binary;
+            account = lower-account;
+            dry = λ d. set-there n spared (λ c. unspared (sym c)) ∙ g .dry d;
+            quiet = λ j d m. set-there n (ownSlot t j) (lower-unmarked j d m) ∙ g .quiet j d m;
+            clean = λ x o. set-first n ∙ g .clean x o;
+            rank = g .rank;
+            top = g .top;
+            low = g .low;
+            rising = g .rising;
+          }
 
       -- a step that loses its last strong link is not passed over
       pub search-lower : ((j : ℕ) → n ≡ 0 → ownSlot t j ≡ k → ⊥) → Search t counts spared (set left k n) marks pending
       search-lower more =
           record {
-            left-size = length-set left k n ∙ s .left-size;
-            marks-size = s .marks-size;
-            binary = s .binary;
-            account = lower-account;
-            dry = lower-dry;
-            quiet = lower-quiet;
+            ledger = lower-ledger;
             busy =
                 λ j d l m b.
                 ⊎-elim
                 (λ (c : ownSlot t j ≡ k). rw (c, set-here n) (⊎-elim (λ z. absurd (more j z c)) (λ (z : n ≡ 0 → ⊥). omega arith) (eq-or-ne n 0)))
                 (λ (c : ownSlot t j ≡ k → ⊥). rw (set-there n (ownSlot t j) c) (s .busy j d l m b))
                 (eq-or-ne (ownSlot t j) k);
-            clean = lower-clean;
-            rank = s .rank;
-            top = s .top;
-            low = s .low;
-            rising = s .rising;
           }
 
       -- the last strong link of step j: it has none left, and no other step is touched
@@ -217,18 +213,8 @@ module _ (t : Table) where
       unfolding landingKept
       last-zero z j d l q only =
           record {
-            left-size = length-set left k n ∙ s .left-size;
-            marks-size = s .marks-size;
-            binary = s .binary;
-            account = lower-account;
-            dry = lower-dry;
-            quiet = lower-quiet;
-            busy = λ i di li c m b. rw (set-there n (ownSlot t i) (λ y. c (only i y))) (s .busy i di li m b);
-            clean = lower-clean;
-            rank = s .rank;
-            top = s .top;
-            below = s .low;
-            rising = s .rising;
+            ledger = lower-ledger;
+            others = λ i di li c m b. rw (set-there n (ownSlot t i) (λ y. c (only i y))) (s .busy i di li m b);
             low = l;
             fresh = refute _ (λ m. lower-unmarked j d m q);
             zero = λ o. rw q (set-here n ∙ z);
@@ -252,7 +238,7 @@ module _ {t : Table} {counts : List ℕ} {spared : ℕ} {left marks : List ℕ} 
   h = slotAt t
 
   mark-place : k < length marks
-  mark-place = rw (s .marks-size) (s .low)
+  mark-place = rw (s .ledger .marks-size) (s .low)
 
   pub mark-here : isMarked (set marks k 1) k ≡ true
   unfolding isMarked
@@ -308,52 +294,56 @@ module _ {t : Table} {counts : List ℕ} {spared : ℕ} {left marks : List ℕ} 
 
   -- the rank of the marked steps, with the new one above them
   raised : ℕ → ℕ
-  raised j = elim (eqb j k) [ true ↦ s .top | false ↦ s .rank j ]
+  raised j = elim (eqb j k) [ true ↦ s .ledger .top | false ↦ s .ledger .rank j ]
 
-  raised-here : raised k ≡ s .top
+  raised-here : raised k ≡ s .ledger .top
   unfolding raised
   raised-here = rw (eq-eqb k k refl, raised)
 
-  raised-there : (j : ℕ) → isMarked marks j ≡ true → raised j ≡ s .rank j
+  raised-there : (j : ℕ) → isMarked marks j ≡ true → raised j ≡ s .ledger .rank j
   unfolding raised
   raised-there j m = let e : eqb j k ≡ false = refute (eqb j k) (λ q. clash m (rw (eqb-true j k q) (s .fresh))) in rw (e, raised)
 
   pub search-mark : Search t counts spared left (set marks k 1) (λ q. pending q + rest h k 0 q)
   search-mark =
+      let g = s .ledger in
       record {
-        left-size = s .left-size;
-        marks-size = length-set marks k 1 ∙ s .marks-size;
-        binary =
-            λ j.
-            ⊎-elim
-            (λ (q : j ≡ k). rw (q, getD-set-same marks k 1 0 mark-place) (omega arith))
-            (λ c. rw (getD-set-other marks k j 1 0 c) (s .binary j))
-            (eq-or-ne j k);
-        account = λ z q d l c. s .account z q d l c ∙ (let f = kept-falls q in omega arith);
-        dry = s .dry;
-        quiet = λ j d m. ⊎-elim (λ (q : j ≡ k). rw q (s .zero (rw q at d))) (λ o. s .quiet j d o) (marked-next j m);
+        ledger =
+            record {
+              left-size = g .left-size;
+              marks-size = length-set marks k 1 ∙ g .marks-size;
+              binary =
+                  λ j.
+                  ⊎-elim
+                  (λ (q : j ≡ k). rw (q, getD-set-same marks k 1 0 mark-place) (omega arith))
+                  (λ c. rw (getD-set-other marks k j 1 0 c) (g .binary j))
+                  (eq-or-ne j k);
+              account = λ z q d l c. g .account z q d l c ∙ (let f = kept-falls q in omega arith);
+              dry = g .dry;
+              quiet = λ j d m. ⊎-elim (λ (q : j ≡ k). rw q (s .zero (rw q at d))) (λ o. g .quiet j d o) (marked-next j m);
+              clean = g .clean;
+              rank = raised;
+              top = suc (g .top);
+              low =
+                  λ j m.
+                  ⊎-elim (λ (q : j ≡ k). rw (q, raised-here) (omega arith))
+                  (λ o. rw (raised-there j o) (let l = g .low j o in omega arith))
+                  (marked-next j m);
+              rising =
+                  λ x q j l t m c.
+                  ⊎-elim
+                  (λ (e : j ≡ k).
+                  let o = s .sources x (rw e at c) q l (rw e at t) in
+                  (mark-grows (holderAt q) o, rw (e, raised-here, raised-there (holderAt q) o) (g .low (holderAt q) o)))
+                  (λ o.
+                  let r = g .rising x q j l t o c in
+                  (mark-grows (holderAt q) (r .0), rw (raised-there (holderAt q) (r .0), raised-there j o) (r .1)))
+                  (marked-next j m);
+            };
         busy =
             λ j d l m b.
             let c : j ≡ k → ⊥ = λ q. clash mark-here (rw q at m) in
-            s .busy j d l c (sym (mark-there j c) ∙ m) b;
-        clean = s .clean;
-        rank = raised;
-        top = suc (s .top);
-        low =
-            λ j m.
-            ⊎-elim (λ (q : j ≡ k). rw (q, raised-here) (omega arith))
-            (λ o. rw (raised-there j o) (let l = s .below j o in omega arith))
-            (marked-next j m);
-        rising =
-            λ x q j l t m c.
-            ⊎-elim
-            (λ (e : j ≡ k).
-            let o = s .sources x (rw e at c) q l (rw e at t) in
-            (mark-grows (holderAt q) o, rw (e, raised-here, raised-there (holderAt q) o) (s .below (holderAt q) o)))
-            (λ o.
-            let r = s .rising x q j l t o c in
-            (mark-grows (holderAt q) (r .0), rw (raised-there (holderAt q) (r .0), raised-there j o) (r .1)))
-            (marked-next j m);
+            s .others j d l c (sym (mark-there j c) ∙ m) b;
       }
 
   -- one more is marked
@@ -526,18 +516,21 @@ pub search-begin : (t : Table) (counts : List ℕ) (spared : ℕ) (left marks : 
     AtZero t counts spared left marks (λ q. 0) k
 search-begin t counts spared left marks k ll lm none low same dry only z alone =
     record {
-      left-size = ll;
-      marks-size = lm;
-      binary = λ j. rw (none j) (omega arith);
-      account = λ e q d l c. let a = kept-all q in let b = same q (λ o. c) in omega arith;
-      dry = dry;
-      quiet = λ j d m. clash m (unmarked-at j);
-      busy = λ j d l c m b. rw (same (ownSlot t j) (only j c)) b;
-      clean = λ x o. same 0 (λ d e. omega arith) ∙ x 0 (omega arith) ∙ landing-zero (slotAt t);
-      rank = λ j. 0;
-      top = 0;
-      below = λ j m. clash m (unmarked-at j);
-      rising = λ x p j l y m. clash m (unmarked-at j);
+      ledger =
+          record {
+            left-size = ll;
+            marks-size = lm;
+            binary = λ j. rw (none j) (omega arith);
+            account = λ e q d l c. let a = kept-all q in let b = same q (λ o. c) in omega arith;
+            dry = dry;
+            quiet = λ j d m. clash m (unmarked-at j);
+            clean = λ x o. same 0 (λ d e. omega arith) ∙ x 0 (omega arith) ∙ landing-zero (slotAt t);
+            rank = λ j. 0;
+            top = 0;
+            low = λ j m. clash m (unmarked-at j);
+            rising = λ x p j l y m. clash m (unmarked-at j);
+          };
+      others = λ j d l c m b. rw (same (ownSlot t j) (only j c)) b;
       low = low;
       fresh = unmarked-at k;
       zero = z;

@@ -19,11 +19,11 @@ use Rattle.finite.proofs.Bools.{and-intro, and-left, and-right, refute, test, s
 use Rattle.finite.proofs.Below.{le-or-lt, eq-or-ne, count-ext, count-none, count-pos, count-some}
 use Rattle.finite.proofs.Loops.{count-add}
 use Rattle.table.specs.Table.{Table, places, counters, exitPlace, exitsOf, exitPlaces, holderAt, exitAt, counterPlace, inUse, ownBit, targetOf, linkBit, counterOf, stronglyLinked, countsAt, linksTo}
-use Rattle.table.specs.Sound.{Shape}
+use Rattle.table.specs.Sound.{Shape, Formed}
 use Rattle.table.proofs.Places.{exit-place-below, exit-place-step, exit-at-below, exit-place-split}
-use Rattle.table.proofs.Links.{counts-here, counts-there, target-holds, holder-used, strong-holds, strong-bit, bit-strong, holds-target, strongly-exit, exit-strongly}
+use Rattle.table.proofs.Links.{formed-wired, counts-here, counts-there, target-holds, holder-used, strong-holds, strong-bit, bit-strong, holds-target, strongly-exit, exit-strongly}
 use Rattle.table.proofs.Relink.{counter-place-same, counter-place-below}
-use Rattle.table.proofs.Formed.{Formed, formed-wired, formed-below}
+use Rattle.table.proofs.Formed.{formed-counts, formed-below}
 use Rattle.words.proofs.Formed.{target-place}
 use Rattle.withdraw.specs.Search.{slotAt, ownSlot, lands, landing, Ranged, Exact}
 
@@ -228,4 +228,4 @@ module _ (t : Table) (g : Formed t) where
       let b = q % counters in
       let x : b < counters = omega arith in
       subst (λ (p : ℕ). getD (t .counts) p 0 ≡ landing (slotAt t) p) (counter-place-split q)
-      (g .exact j b (omega arith) x ∙ sym (landing-links t formed-ranged (g .most) none-above j b x))
+      (formed-counts g j b (omega arith) x ∙ sym (landing-links t formed-ranged (g .most) none-above j b x))

@@ -6,9 +6,10 @@
 --   at h p, rest h i e   the links of one place, and of the exits of step i from e on, as numbers for each counter
 --   Exact t counts    every counter is the number of links that count in it
 --   Accounted t counts left   the counters can be accounted for
---   Search t counts spared left marks pending   `left` is what is left of `counts`: every counter has lost the links of the marked steps that are
+--   Ledger t counts spared left marks pending   `left` is what is left of `counts`: every counter has lost the links of the marked steps that are
 --                     not pending. Counter 0, in which no link counts, is set once a counter would go below 0. Of the counter at place `spared`,
 --                     which is 0 from the beginning, no account is kept; place 0 is that of no step, so 0 spares none
+--   Search ..         and a step that is not marked has a strong link left, if it had one
 --   Withdrawn         what a call hands back: with the extra links no longer pending
 --   stillLinked t left marks k   step k is marked and not all of its weak links are withdrawn
 use mathlib.Core.Path.{_≡_}
@@ -20,6 +21,7 @@ use lib.ListN.{length, getD}
 use lib.Dec.{eqb}
 use Rattle.finite.specs.Below.{one, all, count}
 use Rattle.table.specs.Table.{Table, places, counters, exitPlace, exitsOf, exitPlaces, holderAt, counterPlace, ownBit}
+use Rattle.words.specs.Marks.{isMarked}
 
 unfoldable pub slotAt : Table → ℕ → ℕ
 slotAt t p = cond (eqb (getD (t .targets) p 0) 0) 0 (counterPlace (getD (t .targets) p 0) (getD (t .bits) p 0))
@@ -32,9 +34,6 @@ otherSlot t j = counterPlace j (1 - ownBit t j)
 
 unfoldable pub lands : (ℕ → ℕ) → ℕ → ℕ → Bool
 lands h p q = not (eqb q 0) && eqb (h p) q
-
-unfoldable pub isMarked : List ℕ → ℕ → Bool
-isMarked marks i = eqb (getD marks i 0) 1
 
 unfoldable pub landing : (ℕ → ℕ) → ℕ → ℕ
 landing h q = count (exitPlaces places) (λ p. lands h p q)
@@ -61,7 +60,8 @@ Exact t counts = (q : ℕ) → q < places * counters → getD counts q 0 ≡ lan
 abbrev pub Accounted : Table → List ℕ → List ℕ → Type 0
 Accounted t counts left = (getD left 0 0 ≡ 0) ⊎ Exact t counts
 
-pub record Search (t : Table) (counts : List ℕ) (spared : ℕ) (left marks : List ℕ) (pending : ℕ → ℕ) : Type 0 where
+-- all that a search keeps but that a step not marked has a strong link left
+pub record Ledger (t : Table) (counts : List ℕ) (spared : ℕ) (left marks : List ℕ) (pending : ℕ → ℕ) : Type 0 where
   pub left-size : length left ≡ places * counters
   pub marks-size : length marks ≡ places
   pub binary : (j : ℕ) → getD marks j 0 < 2
@@ -70,7 +70,6 @@ pub record Search (t : Table) (counts : List ℕ) (spared : ℕ) (left marks : L
       getD left q 0 + landing (slotAt t) q ≡ getD counts q 0 + landingKept (slotAt t) marks q + pending q
   pub dry : 0 < spared → getD left spared 0 ≡ 0
   pub quiet : (j : ℕ) → 0 < j → isMarked marks j ≡ true → getD left (ownSlot t j) 0 ≡ 0
-  pub busy : (j : ℕ) → 0 < j → j < places → isMarked marks j ≡ false → 0 < getD counts (ownSlot t j) 0 → 0 < getD left (ownSlot t j) 0
   -- with exact counters none goes below 0 but the spared one, and the steps are marked in the order of a rank
   pub clean : Exact t counts → spared ≡ 0 → getD left 0 0 ≡ 0
   pub rank : ℕ → ℕ
@@ -78,6 +77,10 @@ pub record Search (t : Table) (counts : List ℕ) (spared : ℕ) (left marks : L
   pub low : (j : ℕ) → isMarked marks j ≡ true → rank j < top
   pub rising : Exact t counts → (p j : ℕ) → p < exitPlaces places → lands (slotAt t) p (ownSlot t j) ≡ true → isMarked marks j ≡ true →
       (ownSlot t j ≡ spared → ⊥) → (isMarked marks (holderAt p) ≡ true) × (rank (holderAt p) < rank j)
+
+pub record Search (t : Table) (counts : List ℕ) (spared : ℕ) (left marks : List ℕ) (pending : ℕ → ℕ) : Type 0 where
+  pub ledger : Ledger t counts spared left marks pending
+  pub busy : (j : ℕ) → 0 < j → j < places → isMarked marks j ≡ false → 0 < getD counts (ownSlot t j) 0 → 0 < getD left (ownSlot t j) 0
 
 -- for some links still pending beside the extra ones
 abbrev pub Pending : Table → List ℕ → List ℕ → List ℕ → (ℕ → ℕ) → Type 0

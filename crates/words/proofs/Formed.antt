@@ -12,9 +12,10 @@ use lib.ListN.{getD, List·getD-eq-default}
 use Rattle.finite.proofs.Bools.{test}
 use Rattle.finite.proofs.Below.{le-or-lt, count-le, count-pos}
 use Rattle.table.specs.Table.{Table, places, counters, exitPlace, exitsOf, exitPlaces, counterPlace, inUse, targetOf, linkBit, counterOf, holds, countsAt, linksTo}
+use Rattle.table.specs.Sound.{Formed}
 use Rattle.table.proofs.Places.{exit-place-below}
-use Rattle.table.proofs.Links.{counts-here, empty-target}
-use Rattle.table.proofs.Formed.{Formed, formed-wired, formed-place, formed-below, lead-used}
+use Rattle.table.proofs.Links.{formed-wired, counts-here, empty-target}
+use Rattle.table.proofs.Formed.{lead-used, formed-counts, formed-place, formed-below}
 use Rattle.words.specs.Words.{Linked, Relinkable}
 
 module _ {t : Table} (g : Formed t) where
@@ -41,7 +42,7 @@ module _ {t : Table} (g : Formed t) where
             let y : 0 < linksTo t j b =
             count-pos (exitPlaces (t .capacity)) (countsAt t j b) (exitPlace i e) (exit-place-below i e (t .capacity) l (formed-below g i u))
             (counts-here t j b (exitPlace i e) d refl refl) in
-            rw (g .exact j b place bit) y;
+            rw (formed-counts g j b place bit) y;
       }
 
   pub formed-room : (q : ℕ) → getD (t .counts) q 0 < 65535
@@ -53,7 +54,7 @@ module _ {t : Table} (g : Formed t) where
       omega arith)
       (λ (l : q < places * counters).
       let split : q / counters * counters + q % counters ≡ q = omega arith in
-      let exact = g .exact (q / counters) (q % counters) (omega arith) (omega arith) in
+      let exact = formed-counts g (q / counters) (q % counters) (omega arith) (omega arith) in
       let most = count-le (exitPlaces (t .capacity)) (countsAt t (q / counters) (q % counters)) in
       let here : getD (t .counts) q 0 ≡ _ = rw split at exact in
       omega (arith, g .most))

@@ -4,7 +4,6 @@ use mathlib.Core.Path.{refl, _∙_, ap}
 use native.Mathlib.Omega.{arith}
 use borrow.Author.Needs.{needs}
 use Rattle.table.specs.Answer.{Outcome}
-use Rattle.table.proofs.Formed.{sound-formed}
 use Rattle.words.specs.Words.{tableOf, Relinkable}
 use Rattle.words.proofs.Formed.{formed-relinkable}
 use Rattle.withdraw.specs.Withdraw.{Losing}
@@ -26,7 +25,7 @@ losing : (c : tie.Else1) → let a = begun (c .before) .args in Losing (tableOf 
 losing c = let s = begun (c .before) in goes-losing (s .pre .0) (s .pre .1) (c .before .goes-on .ensures) (c .if1 .left)
 
 relinkable : (s : tie.Start) → Relinkable (tableOf (s .args .t .now)) (s .args .i) (s .args .e) 0 0
-relinkable s = formed-relinkable (sound-formed (s .pre .0)) (s .args .i) (s .args .e) 0 0 (s .pre .1 .used) (s .pre .1 .exit) (omega arith) (omega arith)
+relinkable s = formed-relinkable (s .pre .0 .formed) (s .args .i) (s .args .e) 0 0 (s .pre .1 .used) (s .pre .1 .exit) (omega arith) (omega arith)
 
 returns : tie.Need-returns
 returns c = let x = c .before .before in stopped _ _ _ (goes-not (x .before .goes-on .ensures) (x .if1 .taken)) (c .relink .ensures)

@@ -3,7 +3,8 @@ use mathlib.Core.Path.{_≡_, sym, _∙_, ap, ap₂}
 use Prim.Native.Nat.{_<_}
 use borrow.Author.Needs.{needs}
 use Rattle.table.specs.Table.{places, targetOf, linkBit, ownBit, counterOf}
-use Rattle.table.proofs.Formed.{Formed, sound-formed, formed-place}
+use Rattle.table.specs.Sound.{Formed}
+use Rattle.table.proofs.Formed.{formed-place}
 use Rattle.words.specs.Words.{tableOf}
 use Rattle.words.proofs.Formed.{target-place}
 use Rattle.clearing.proofs.Outcomes.{weak-stops, last-goes}
@@ -11,7 +12,7 @@ use Rattle.clearing.proofs.goes_on.Statement.{statement}
 use Rattle.clearing.proofs.goes_on.Tie as tie
 
 formed : (s : tie.Start) → Formed (tableOf (s .args .t .now))
-formed s = sound-formed (s .pre .0)
+formed s = s .pre .0 .formed
 
 place : (s : tie.Start) → s .args .i < places
 place s = formed-place (formed s) (s .args .i) (s .pre .1 .used)

@@ -5,7 +5,6 @@ use native.Mathlib.Omega.{arith}
 use borrow.Author.Needs.{needs}
 use Rattle.table.specs.Table.{places}
 use Rattle.table.specs.Clear.{emptied}
-use Rattle.table.proofs.Formed.{sound-formed}
 use Rattle.words.specs.Words.{tableOf}
 use Rattle.withdraw.specs.Withdraw.{Losing}
 use Rattle.withdraw.proofs.Doubtful.{losing-formed}
@@ -44,7 +43,7 @@ size : (c : tie.After-wide) → c .wide .result ≡ tableOf (begun (found (sized
 size c = c .wide .ensures ∙ c .before .capacity .ensures
 
 below : (c : tie.After-wide) → c .wide .result ≤ places
-below c = omega (arith, size c, sound-formed (losing (found (sized c)) .sound) .most)
+below c = omega (arith, size c, losing (found (sized c)) .sound .formed .most)
 
 returns : tie.Need-returns
 returns c = let s = begun (c .before) in foreseen-none _ _ _ (s .pre .0) (s .pre .1) (goes-not (c .before .goes-on .ensures) (c .if1 .taken)) _
@@ -53,7 +52,7 @@ keep-steps-requires : tie.Need-keep-steps-requires
 keep-steps-requires c κs =
     let w = counted (c .before .before) in
     let o = losing (found (sized w)) in
-    (sound-formed (o .sound), (_, settles o (searched (sized w)) (size w)))
+    (o .sound .formed, (_, settles o (searched (sized w)) (size w)))
 
 -- what the marks that are left say
 facts : (k : tie.After-keep-steps) →

@@ -60,7 +60,7 @@ table : (c : tie.Else1) → tableOf (c .before .take-image .last .0) ≡ imageTa
 table c =
     let bs = startOf c .args .bytes .now in
     let s = test-sound (imageTable bs) (accepted-sound bs (taken c)) in
-    ap tableOf (c .before .take-image .ensures .1 (not-false-true _ (c .if1 .left))) ∙ table-words (imageTable bs) (s .shape)
+    ap tableOf (c .before .take-image .ensures .1 (not-false-true _ (c .if1 .left))) ∙ table-words (imageTable bs) (s .formed .shape)
 
 sure : (c : tie.Else1) → sound (tableOf (c .before .take-image .last .0)) ≡ true
 sure c = ap sound (table c) ∙ accepted-sound _ (taken c)

@@ -8,7 +8,6 @@ use Rattle.table.specs.declared.Answer.the-variants.{Given}
 use Rattle.table.specs.Table.{places}
 use Rattle.table.specs.Sound.{Sound}
 use Rattle.table.specs.Calls.{addRefusal, addTable, addCall}
-use Rattle.table.proofs.Formed.{sound-formed}
 use Rattle.table.proofs.Edits.{number-given, formed-with-step, with-step-kept}
 use Rattle.table.proofs.Calls.{AddFits, add-fits}
 use Rattle.words.specs.Words.{tableOf}
@@ -37,7 +36,7 @@ number-place : (c : tie.After-number-given) → c .number-given .result < places
 number-place c =
     let c1 = c .before .before in
     let s = sound-table c1 in
-    rw (c .number-given .ensures) (omega (arith, number-given s (fits c1 .room) .2, s .most))
+    rw (c .number-given .ensures) (omega (arith, number-given s (fits c1 .room) .2, s .formed .most))
 
 returns : tie.Need-returns
 unfolding addCall
@@ -46,7 +45,7 @@ returns c =
     (refused-answer e _ _ (c .if1 .taken), refused-words e _ _ (c .before .before .before .sized .ensures) (c .if1 .taken))
 
 number-given-requires : tie.Need-number-given-requires
-number-given-requires c κs = let s = sound-table (c .before) in (s .most, omega (arith, s .last, s .most))
+number-given-requires c κs = let s = sound-table (c .before) in (s .formed .most, omega (arith, s .formed .last, s .formed .most))
 
 relink-requires : tie.Need-relink-requires
 relink-requires c κs =
@@ -57,8 +56,8 @@ relink-requires c κs =
     let f = fits c1 in
     let g = number-given s (f .room) in
     let n = at .number-given .ensures in
-    let formed = formed-with-step _ (sound-formed s) _ (a .kind) (a .content) (a .cabin) (g .2) (g .1) (g .0) (f .fits) (f .shared) in
-    let kept = with-step-kept _ (sound-formed s) _ (a .kind) (a .content) (a .cabin) (g .2) (g .1) (g .0) (f .fits) (f .shared) (a .holder) (f .used) in
+    let formed = formed-with-step _ (s .formed) _ (a .kind) (a .content) (a .cabin) (g .2) (g .1) (g .0) (f .fits) (f .shared) in
+    let kept = with-step-kept _ (s .formed) _ (a .kind) (a .content) (a .cabin) (g .2) (g .1) (g .0) (f .fits) (f .shared) (a .holder) (f .used) in
     rw (c .before .before .before .take-step .ensures .table, c .wide2 .ensures, c .before .wide .ensures)
     (formed-relinkable (rw n formed) (a .holder) (a .exit) (at .number-given .result) 0 (rw n kept) (f .exit) (number-place at) (omega arith))
 

@@ -15,7 +15,7 @@ unfolding countsCall
 returns c = refused-answer (c .before .table-refusal .ensures) _ _ (c .if1 .taken)
 
 count-used-requires : tie.Need-count-used-requires
-count-used-requires c κs = table-passed _ (sym (c .before .table-refusal .ensures) ∙ c .if1 .left) .most
+count-used-requires c κs = table-passed _ (sym (c .before .table-refusal .ensures) ∙ c .if1 .left) .formed .most
 
 sub-t6 : tie.Need-sub-t6
 unfolding stepsInUse

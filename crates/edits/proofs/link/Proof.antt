@@ -9,7 +9,6 @@ use Rattle.table.specs.Table.{counters, inUse, ownBit, targetOf}
 use Rattle.table.specs.Sound.{Sound}
 use Rattle.table.specs.Calls.{weakBit, linkRefusal, linkTable, linkCall}
 use Rattle.table.proofs.Links.{used-place}
-use Rattle.table.proofs.Formed.{sound-formed}
 use Rattle.table.proofs.Calls.{LinkFits, link-fits}
 use Rattle.words.specs.Words.{tableOf}
 use Rattle.words.proofs.Refusals.{accepted-sound, refused-answer, refused-words, given-answer, given-words}
@@ -43,7 +42,7 @@ target-used : (c : tie.After-target-at) →
 target-used c =
     let c1 = c .before .before .before .before in
     let f = fits c1 in
-    rw (target c) (sound-table c1 .targets _ _ (f .used) (f .exit) (f .filled))
+    rw (target c) (sound-table c1 .formed .targets _ _ (f .used) (f .exit) (f .filled))
 
 -- the bit of its own that this step has
 own : (c : tie.After-own-at) →
@@ -55,7 +54,7 @@ own c = c .own-at .ensures ∙ rw (c .before .wide3 .ensures)
 own-bit : (c : tie.After-own-at) → c .own-at .result < counters
 own-bit c =
     let at = c .before .before .before in
-    rw (own c) (sound-table (at .before .before .before .before) .own _ (target-used at))
+    rw (own c) (sound-table (at .before .before .before .before) .formed .own _ (target-used at))
 
 returns : tie.Need-returns
 unfolding linkCall
@@ -67,12 +66,12 @@ target-at-requires : tie.Need-target-at-requires
 target-at-requires c κs =
     let c1 = c .before .before .before in
     let f = fits c1 in
-    rw (c .wide2 .ensures, c .before .wide .ensures) (used-place (sound-table c1 .shape) _ (f .used), f .exit)
+    rw (c .wide2 .ensures, c .before .wide .ensures) (used-place (sound-table c1 .formed .shape) _ (f .used), f .exit)
 
 own-at-requires : tie.Need-own-at-requires
 own-at-requires c κs =
     let at = c .before .before in
-    rw (c .wide3 .ensures) (used-place (sound-table (at .before .before .before .before) .shape) _ (target-used at))
+    rw (c .wide3 .ensures) (used-place (sound-table (at .before .before .before .before) .formed .shape) _ (target-used at))
 
 sub-weak : tie.Need-sub-weak
 sub-weak c = omega (arith, own-bit c)
@@ -84,10 +83,10 @@ relink-requires c κs =
     let c1 = at .before .before .before .before in
     let s = sound-table c1 in
     let f = fits c1 in
-    let place = used-place (s .shape) _ (target-used at) in
+    let place = used-place (s .formed .shape) _ (target-used at) in
     let bit = own-bit o in
     rw (c .wide5 .ensures, c .before .wide4 .ensures)
-    (formed-relinkable (sound-formed s) _ _ _ _ (f .second-used) (f .second-exit) place (omega arith))
+    (formed-relinkable (s .formed) _ _ _ _ (f .second-used) (f .second-exit) place (omega arith))
 
 returns-2 : tie.Need-returns-2
 unfolding linkCall linkTable weakBit

@@ -26,7 +26,7 @@ fields-of-requires : tie.Need-fields-of-requires
 unfolding readRefusal nonzero
 fields-of-requires c κs =
     let z = accepted (c .before) in
-    rw (c .wide .ensures) (used-place (accepted-sound _ _ z .shape) _ (not-false-true _ (first-zero _ z refl 1)))
+    rw (c .wide .ensures) (used-place (accepted-sound _ _ z .formed .shape) _ (not-false-true _ (first-zero _ z refl 1)))
 
 returns-2 : tie.Need-returns-2
 unfolding readCall

@@ -46,7 +46,7 @@ unfolding first
 returns-2 c = sym (past-exit (c .before .before) ∙ rw (said-false (c .before .content-fits .ensures) (c .if2 .taken)))
 
 count-used-requires : tie.Need-count-used-requires
-count-used-requires c κs = c .before .before .before .before .pre .most
+count-used-requires c κs = c .before .before .before .before .pre .formed .most
 
 returns-3 : tie.Need-returns-3
 unfolding first

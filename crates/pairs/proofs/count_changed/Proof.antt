@@ -23,7 +23,7 @@ abbrev μ-loop : tie.MeasureT-loop
 
 loop-holds : tie.Need-loop-holds Inv-loop μ-loop
 loop-holds c =
-    let most = test-sound _ (c .before .before .pre .0) .most in
+    let most = test-sound _ (c .before .before .pre .0) .formed .most in
     (omega arith, omega (arith, c .wide .ensures, c .before .capacity .ensures, most), sym (count-zero _))
 
 differs-requires : tie.Need-differs-requires Inv-loop μ-loop

@@ -44,7 +44,7 @@ loop-holds c =
 differs-requires : tie.Need-differs-requires Inv-loop μ-loop
 differs-requires c κs =
     let inv = c .before .loop .inv in
-    (omega (arith, c .loop-test .taken, inv .1, test-sound _ (inv .2 .0) .most), inv .2)
+    (omega (arith, c .loop-test .taken, inv .1, test-sound _ (inv .2 .0) .formed .most), inv .2)
 
 -- the pair of a step that changed has room
 room : (c : tie.Then1 Inv-loop μ-loop) → let l = c .before .before .before in l .loop .at + 2 * recordLength ≤ length (l .loop .part)

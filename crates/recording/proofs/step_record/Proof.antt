@@ -19,10 +19,10 @@ module _ {t : Table} (s : Sound t) (i : ℕ) (l : i < places) where
   bit-low : (e : ℕ) → e < 4 → linkBit t i e < 2
   bit-low e h =
       let o = own-exit i e h in
-      ⊎-elim (λ u. s .bits i e u o) (λ u. let z = s .free i l u .bits e o in omega arith) (test (inUse t i))
+      ⊎-elim (λ u. s .formed .bits i e u o) (λ u. let z = s .formed .free i l u .bits e o in omega arith) (test (inUse t i))
 
   own-low : ownBit t i < 2
-  own-low = ⊎-elim (λ u. s .own i u) (λ u. let z = s .free i l u .own in omega arith) (test (inUse t i))
+  own-low = ⊎-elim (λ u. s .formed .own i u) (λ u. let z = s .formed .free i l u .own in omega arith) (test (inUse t i))
 
 pack-requires : tie.Need-pack-requires
 pack-requires c κs =

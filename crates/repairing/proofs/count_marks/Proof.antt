@@ -6,13 +6,13 @@ use native.Mathlib.Omega.{arith}
 use Rattle.finite.specs.Below.{count}
 use Rattle.finite.proofs.Below.{count-le}
 use Rattle.finite.proofs.Loops.{count-zero, count-hit, count-miss}
-use Rattle.repairing.specs.Repairing.{isOne}
-use Rattle.repairing.proofs.Laws.{is-one, not-one, size-marks}
+use Rattle.words.specs.Marks.{isMarked}
+use Rattle.repairing.proofs.Laws.{one-marked, not-marked, size-marks}
 use Rattle.repairing.proofs.count_marks.Statement.{statement}
 use Rattle.repairing.proofs.count_marks.Tie as tie
 
 abbrev Inv-loop : tie.InvT-loop
-Inv-loop n doubt marks₀ k₀ marks k = (k ≤ n) × (marks ≡ count k (isOne doubt))
+Inv-loop n doubt marks₀ k₀ marks k = (k ≤ n) × (marks ≡ count k (isMarked doubt))
 
 abbrev μ-loop : tie.MeasureT-loop
 μ-loop n doubt marks₀ k₀ marks k = n - k
@@ -23,22 +23,22 @@ loop-holds c = (omega arith, sym (count-zero _))
 add-marks : tie.Need-add-marks Inv-loop μ-loop
 add-marks c =
     let d = c .before .before .before .before .args .doubt .now in
-    omega (arith, count-le (c .before .before .before .loop .k) (isOne d))
+    omega (arith, count-le (c .before .before .before .loop .k) (isMarked d))
 
 loop-again : tie.Need-loop-again Inv-loop μ-loop
 loop-again c =
     let k = c .before .before .before .loop .k in
     let d = c .before .before .before .before .args .doubt .now in
     ⊎-elim
-    (λ w. omega (arith, count-hit k (isOne d) (is-one d k (w .0 .taken))))
-    (λ w. omega (arith, count-miss k (isOne d) (not-one d k (w .0 .left))))
+    (λ w. omega (arith, count-hit k (isMarked d) (one-marked d k (w .0 .taken))))
+    (λ w. omega (arith, count-miss k (isMarked d) (not-marked d k (w .0 .left))))
     (c .if1 .came)
 
 returns : tie.Need-returns Inv-loop μ-loop
 returns c =
     let d = c .before .before .args .doubt .now in
     let e : c .before .loop .k ≡ c .before .before .args .n = omega arith in
-    c .before .loop .inv .1 ∙ ap (λ (k : ℕ). count k (isOne d)) e ∙ sym (size-marks (c .before .before .args .n) d)
+    c .before .loop .inv .1 ∙ ap (λ (k : ℕ). count k (isMarked d)) e ∙ sym (size-marks (c .before .before .args .n) d)
 
 pub count-marks-spec : {M : Type 1} → statement M
 count-marks-spec =

@@ -10,7 +10,7 @@ use Rattle.table.specs.Clear.{blanked, eachDoubtful, release}
 use Rattle.words.specs.Words.{tableOf, Becomes}
 use Rattle.words.proofs.Becomes.{becomes-none, becomes-next, becomes-then}
 use Rattle.repairing.specs.Repairing.{asMarks}
-use Rattle.repairing.proofs.Laws.{is-one, not-one, marks-at, eachRound, each-go, each-stay, each-done}
+use Rattle.repairing.proofs.Laws.{one-marked, not-marked, marks-at, eachRound, each-go, each-stay, each-done}
 use Rattle.repairing.proofs.Repairs.{able-most}
 use Rattle.repairing.proofs.free_steps.Statement.{statement}
 use Rattle.repairing.proofs.free_steps.Tie as tie
@@ -31,12 +31,12 @@ loop-again c =
     (λ w. (
       omega arith,
       l .inv .1,
-      rw (w .3) (becomes-next (eachRound d blanked) (l .inv .2) (each-go d blanked (l .k) (m ∙ is-one _ _ (w .0 .taken)) (w .2 .ensures))),
+      rw (w .3) (becomes-next (eachRound d blanked) (l .inv .2) (each-go d blanked (l .k) (m ∙ one-marked _ _ (w .0 .taken)) (w .2 .ensures))),
     ))
     (λ w. (
       omega arith,
       l .inv .1,
-      rw (w .1) (becomes-next (eachRound d blanked) (l .inv .2) (each-stay d blanked (l .t) (l .k) (m ∙ not-one _ _ (w .0 .left)))),
+      rw (w .1) (becomes-next (eachRound d blanked) (l .inv .2) (each-stay d blanked (l .t) (l .k) (m ∙ not-marked _ _ (w .0 .left)))),
     ))
     (c .if1 .came)
 

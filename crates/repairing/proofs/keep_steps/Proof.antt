@@ -5,7 +5,8 @@ use native.Mathlib.Omega.{arith}
 use Rattle.finite.specs.Below.{count}
 use Rattle.table.specs.Table.{Table, places}
 use Rattle.words.specs.Words.{tableOf}
-use Rattle.repairing.specs.Repairing.{isOne, Settling}
+use Rattle.words.specs.Marks.{isMarked}
+use Rattle.repairing.specs.Repairing.{Settling}
 use Rattle.repairing.proofs.Repairs.{Followed, able-most, candidate-doubtful, marks-fall, followed-begins, followed-skip, followed-turn, followed-done}
 use Rattle.repairing.proofs.keep_steps.Statement.{statement}
 use Rattle.repairing.proofs.keep_steps.Tie as tie
@@ -15,7 +16,7 @@ Inv-loop t n doubt₀ wanted₀ next₀ doubt wanted next =
     (next ≤ n) × ((u : Table) → Settling (tableOf t) u n doubt₀ wanted₀ → Followed n (tableOf t) u doubt₀ doubt wanted next)
 
 abbrev μ-loop : tie.MeasureT-loop
-μ-loop t n doubt₀ wanted₀ next₀ doubt wanted next = 129 * count n (isOne doubt) + (n - next)
+μ-loop t n doubt₀ wanted₀ next₀ doubt wanted next = 129 * count n (isMarked doubt) + (n - next)
 
 -- the repair of the table that the caller knows
 known : (c : tie.At-loop Inv-loop μ-loop) →

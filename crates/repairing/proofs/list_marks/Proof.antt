@@ -10,14 +10,14 @@ use Rattle.finite.specs.Below.{count}
 use Rattle.finite.proofs.Below.{count-le}
 use Rattle.finite.proofs.Loops.{count-zero, count-hit, count-miss}
 use Rattle.finite.proofs.Select.{count-rises}
-use Rattle.repairing.specs.Repairing.{isOne}
-use Rattle.repairing.proofs.Laws.{is-one, not-one, size-marks, written, written-none, written-hit, written-miss}
+use Rattle.words.specs.Marks.{isMarked}
+use Rattle.repairing.proofs.Laws.{one-marked, not-marked, size-marks, written, written-none, written-hit, written-miss}
 use Rattle.repairing.proofs.list_marks.Statement.{statement}
 use Rattle.repairing.proofs.list_marks.Tie as tie
 
 abbrev Inv-loop : tie.InvT-loop
 Inv-loop n doubt buffer₀ at₀ k₀ buffer at k =
-    (k ≤ n) × (at ≡ count k (isOne doubt)) × (length buffer ≡ length buffer₀) × (buffer ≡ written k (isOne doubt) buffer₀)
+    (k ≤ n) × (at ≡ count k (isMarked doubt)) × (length buffer ≡ length buffer₀) × (buffer ≡ written k (isMarked doubt) buffer₀)
 
 abbrev μ-loop : tie.MeasureT-loop
 μ-loop n doubt buffer₀ at₀ k₀ buffer at k = n - k
@@ -26,32 +26,32 @@ abbrev μ-loop : tie.MeasureT-loop
 room : (c : tie.In-loop Inv-loop μ-loop) →
     let s = c .before .before in
     let k = c .before .loop .k in
-    getD (s .args .doubt .now) k 0 ≡ 1 → count k (isOne (s .args .doubt .now)) < length (s .args .buffer .now)
+    getD (s .args .doubt .now) k 0 ≡ 1 → count k (isMarked (s .args .doubt .now)) < length (s .args .buffer .now)
 room c h =
     let s = c .before .before in
     let d = s .args .doubt .now in
     let k = c .before .loop .k in
-    omega (arith, count-rises (isOne d) k (s .args .n) (c .loop-test .taken) (is-one d k h), s .pre .1)
+    omega (arith, count-rises (isMarked d) k (s .args .n) (c .loop-test .taken) (one-marked d k h), s .pre .1)
 
 loop-again : tie.Need-loop-again Inv-loop μ-loop
 loop-again c =
     let l = c .before .before .before .loop in
     let a = c .before .before .before .before .args in
     let d = a .doubt .now in
-    let p = isOne d in
+    let p = isMarked d in
     let b = a .buffer .now in
     ⊎-elim
     (λ w.
     let h = w .0 .taken in (
       omega arith,
-      omega (arith, count-hit (l .k) p (is-one d (l .k) h)),
+      omega (arith, count-hit (l .k) p (one-marked d (l .k) h)),
       rw (w .1) (length-set (l .buffer) _ _ ∙ l .inv .2),
       w .1
           ∙ ap₂ (λ (bytes : List ℕ) (i : ℕ). set bytes i (l .k)) (l .inv .3) (l .inv .1)
-          ∙ written-hit p b (l .k) (is-one d (l .k) h) (room (c .before .before) h),
+          ∙ written-hit p b (l .k) (one-marked d (l .k) h) (room (c .before .before) h),
     ))
     (λ w.
-    let h = not-one d (l .k) (w .0 .left) in (
+    let h = not-marked d (l .k) (w .0 .left) in (
       omega arith,
       omega (arith, count-miss (l .k) p h),
       rw (w .1) (l .inv .2),
@@ -63,7 +63,7 @@ returns : tie.Need-returns Inv-loop μ-loop
 returns c =
     let l = c .before .loop in
     let a = c .before .before .args in
-    let p = isOne (a .doubt .now) in
+    let p = isMarked (a .doubt .now) in
     let e : l .k ≡ a .n = omega arith in (
       l .inv .1 ∙ ap (λ (k : ℕ). count k p) e ∙ sym (size-marks (a .n) (a .doubt .now)),
       l .inv .3 ∙ ap (λ (k : ℕ). written k p (a .buffer .now)) e,
@@ -80,10 +80,10 @@ list-marks-spec =
     (λ c. omega arith)
     (λ c. omega arith)
     (λ c. omega (arith, room (c .before .before) (c .if1 .taken)))
-    (λ c. omega (arith, count-le (c .before .before .before .loop .k) (isOne (c .before .before .before .before .args .doubt .now))))
+    (λ c. omega (arith, count-le (c .before .before .before .loop .k) (isMarked (c .before .before .before .before .args .doubt .now))))
     (λ c. omega arith)
     (λ c. omega arith)
     loop-again
-    (λ c. omega (arith, count-le (c .before .loop .k) (isOne (c .before .before .args .doubt .now))))
+    (λ c. omega (arith, count-le (c .before .loop .k) (isMarked (c .before .before .args .doubt .now))))
     (λ c. c .before .loop .inv .2)
     returns)

@@ -6,9 +6,10 @@ use native.Mathlib.Omega.{arith}
 use lib.ListN.{length}
 use Rattle.finite.specs.Below.{count}
 use Rattle.table.specs.Table.{linked}
-use Rattle.table.proofs.Formed.{Formed}
+use Rattle.table.specs.Sound.{Formed}
 use Rattle.words.specs.Words.{tableOf}
-use Rattle.repairing.specs.Repairing.{isOne, Candidates}
+use Rattle.words.specs.Marks.{isMarked}
+use Rattle.repairing.specs.Repairing.{Candidates}
 use Rattle.repairing.proofs.Repairs.{Progress, able-most, able-standing, able-restored, candidate-doubtful, candidates-skip, marks-fall, progress-begins, turn, progress-done}
 use Rattle.repairing.proofs.repair_steps.Statement.{statement}
 use Rattle.repairing.proofs.repair_steps.Tie as tie
@@ -18,7 +19,7 @@ Inv-loop t₀ n doubt₀ wanted₀ low₀ t doubt wanted low =
     (low ≤ n) × (length t ≡ length t₀) × Progress n (tableOf t₀) doubt₀ (tableOf t) doubt × Candidates n (linked (tableOf t)) doubt wanted low
 
 abbrev μ-loop : tie.MeasureT-loop
-μ-loop t₀ n doubt₀ wanted₀ low₀ t doubt wanted low = 129 * count n (isOne doubt) + (n - low)
+μ-loop t₀ n doubt₀ wanted₀ low₀ t doubt wanted low = 129 * count n (isMarked doubt) + (n - low)
 
 loop-holds : tie.Need-loop-holds Inv-loop μ-loop
 loop-holds c = (omega arith, refl, progress-begins (c .pre .0), c .pre .1)

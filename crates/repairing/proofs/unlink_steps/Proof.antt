@@ -9,7 +9,7 @@ use Rattle.table.specs.Clear.{unlinked}
 use Rattle.words.specs.Words.{tableOf, Becomes}
 use Rattle.words.proofs.Becomes.{becomes-none, becomes-next}
 use Rattle.repairing.specs.Repairing.{asMarks, Repairable}
-use Rattle.repairing.proofs.Laws.{is-one, not-one, marks-at, eachRound, each-go, each-stay, each-done}
+use Rattle.repairing.proofs.Laws.{one-marked, not-marked, marks-at, eachRound, each-go, each-stay, each-done}
 use Rattle.repairing.proofs.Repairs.{able-most, able-standing, able-unlinked, able-after}
 use Rattle.repairing.proofs.unlink_steps.Statement.{statement}
 use Rattle.repairing.proofs.unlink_steps.Tie as tie
@@ -37,12 +37,12 @@ loop-again c =
     (λ w. (
       omega arith,
       rw (w .3) (able-after (w .2 .ensures) (able-unlinked (l .inv .1) (l .k) low (w .0 .taken))),
-      rw (w .3) (becomes-next (eachRound d unlinked) (l .inv .2) (each-go d unlinked (l .k) (m ∙ is-one _ _ (w .0 .taken)) (w .2 .ensures))),
+      rw (w .3) (becomes-next (eachRound d unlinked) (l .inv .2) (each-go d unlinked (l .k) (m ∙ one-marked _ _ (w .0 .taken)) (w .2 .ensures))),
     ))
     (λ w. (
       omega arith,
       rw (w .1) (l .inv .1),
-      rw (w .1) (becomes-next (eachRound d unlinked) (l .inv .2) (each-stay d unlinked (l .t) (l .k) (m ∙ not-one _ _ (w .0 .left)))),
+      rw (w .1) (becomes-next (eachRound d unlinked) (l .inv .2) (each-stay d unlinked (l .t) (l .k) (m ∙ not-marked _ _ (w .0 .left)))),
     ))
     (c .if1 .came)
 

@@ -131,7 +131,7 @@ recount-requires c κs =
     let inv = l .loop .inv in
     let s = test-sound (tableOf (l .before .before .before .before .args .t .now)) (inv .2) in
     subst (λ (t : Table). (t .capacity ≤ places) × ((p : ℕ) → getD (t .bits) p 0 < 2)) (sym (inv .0 .table))
-    (rw (after-capacity _ s (bytesAt l) (inv .0 .done)) (s .most), after-bits _ s (bytesAt l) (inv .0 .done))
+    (rw (after-capacity _ s (bytesAt l) (inv .0 .done)) (s .formed .most), after-bits _ s (bytesAt l) (inv .0 .done))
 
 returns : tie.Need-returns Inv-loop μ-loop
 unfolding rebuilt recordSize

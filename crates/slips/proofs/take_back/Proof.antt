@@ -92,7 +92,7 @@ taken-framed t bs x =
     subst Framed (x .same)
     (record {
       size = l ∙ ap (λ (k : ℕ). 6 + 44 * k) (sym n);
-      numbers = λ k h. let a = slip-low (slipStep bs) (slipExit bs) u t k h in let m = x .sound .most in omega arith;
+      numbers = λ k h. let a = slip-low (slipStep bs) (slipExit bs) u t k h in let m = x .sound .formed .most in omega arith;
     })
 
 returns-2 : tie.Need-returns-2

@@ -9,7 +9,6 @@ use borrow.Author.Needs.{needs}
 use Rattle.table.specs.Table.{Table, places, inUse}
 use Rattle.table.specs.Sound.{Sound}
 use Rattle.table.proofs.Links.{sound-wired}
-use Rattle.table.proofs.Formed.{sound-formed}
 use Rattle.words.specs.Words.{words, tableOf}
 use Rattle.words.proofs.Laws.{shape-table}
 use Rattle.squeezing.proofs.Laws.{Staged, staged-none, staged-free, staged-in-use, staged-movable, staged-moved, staged-done}
@@ -34,14 +33,14 @@ capacity l = l .before .wide .ensures ∙ l .before .before .capacity .ensures
 
 -- the step at hand is a place
 place : (c : tie.In-loop Inv-loop μ-loop) → c .before .loop .i < places
-place c = omega (arith, capacity (c .before), sound-table (c .before) .most)
+place c = omega (arith, capacity (c .before), sound-table (c .before) .formed .most)
 
 -- and is in use as it was
 used : (c : tie.After-in-use Inv-loop μ-loop) →
     let l = c .before .before .before in c .in-use .result ≡ inUse (given l) (l .loop .i)
 used c =
     let l = c .before .before .before in
-    c .in-use .ensures ∙ staged-in-use (sound-formed (sound-table l)) (l .loop .inv .2) (place (c .before .before))
+    c .in-use .ensures ∙ staged-in-use (sound-table l .formed) (l .loop .inv .2) (place (c .before .before))
 
 loop-holds : tie.Need-loop-holds Inv-loop μ-loop
 loop-holds c = (omega arith, c .before .before .before .before .before .sized .ensures, staged-none _)
@@ -50,7 +49,7 @@ move-step-requires : tie.Need-move-step-requires Inv-loop μ-loop
 move-step-requires c κs =
     let u = c .before .before .before in
     let l = u .before .before .before in
-    staged-movable (sound-formed (sound-table l)) (l .loop .inv .2) (place (u .before .before)) _
+    staged-movable (sound-table l .formed) (l .loop .inv .2) (place (u .before .before)) _
     (l .before .before .before .before .new-numbers .ensures) (sym (used u) ∙ c .before .before .if1 .taken)
 
 loop-again : tie.Need-loop-again Inv-loop μ-loop
@@ -65,7 +64,7 @@ loop-again c =
       omega arith,
       ap length (w .4) ∙ w .3 .ensures .size ∙ inv .1,
       rw (w .4, w .3 .ensures .table)
-          (staged-moved (sound-formed sound) (inv .2) p _ (l .before .before .before .before .new-numbers .ensures) (sym (used u) ∙ w .0 .taken)
+          (staged-moved (sound .formed) (inv .2) p _ (l .before .before .before .before .new-numbers .ensures) (sym (used u) ∙ w .0 .taken)
           (shape-table _ (inv .1))),
     ))
     (λ w. (

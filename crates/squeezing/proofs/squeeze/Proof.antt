@@ -29,7 +29,7 @@ sub-put-numbers : tie.Need-sub-put-numbers
 sub-put-numbers c =
     let used = c .before .before .before in
     let s = sound-table (used .before .before) in
-    omega (arith, used .count-used .ensures, new-below (sound-wired s) 0 (s .alarm))
+    omega (arith, used .count-used .ensures, new-below (sound-wired s) 0 (s .formed .alarm))
 
 returns-2 : tie.Need-returns-2
 unfolding squeezeCall squeezed squeezedSteps withNumbers
@@ -61,7 +61,7 @@ squeeze-spec =
     (λ c κs. search needs)
     (λ c κs. search needs)
     returns
-    (λ c κs. sound-table (c .before) .most)
+    (λ c κs. sound-table (c .before) .formed .most)
     (λ c κs. sound-table (c .before .before .before))
     sub-put-numbers
     (λ c κs. search needs)

@@ -12,7 +12,6 @@ use Rattle.table.specs.Cabins.{listFits, chargesFit, charge}
 use Rattle.table.specs.Sound.{Sound, capacityFits, sound}
 use Rattle.table.specs.Answer.{first}
 use Rattle.table.specs.Squeeze.{squeezed, squeezeRefusal}
-use Rattle.table.proofs.Formed.{sound-formed}
 use Rattle.table.proofs.Cabins.{formed-charges}
 use Rattle.table.proofs.Sound.{capacity-range, sound-test, test-sound}
 use Rattle.table.proofs.Squeeze.{does-not-fit}
@@ -56,7 +55,7 @@ fits {t} s c q a b =
     does-not-fit s c q (ap not a) (ap not b)
     ∙ ap (λ (x : Bool). x || not (chargesFit q (charge t) (c - stepsInUse t))) few
     ∙ either (leb (stepsInUse t) c) (chargesFit q (charge t) (c - stepsInUse t))
-    ∙ sym (ap not (shares-charges c (stepsInUse t) q (charge t) (formed-charges (sound-formed s))))
+    ∙ sym (ap not (shares-charges c (stepsInUse t) q (charge t) (formed-charges (s .formed))))
   where
     few : ltb c (stepsInUse t) ≡ not (leb (stepsInUse t) c)
     few =

@@ -9,7 +9,6 @@ use Rattle.table.specs.Table.{places, kindOf, targetOf}
 use Rattle.table.specs.Trial.{tryFrom}
 use Rattle.table.proofs.Places.{own-exit}
 use Rattle.words.specs.Words.{tableOf}
-use Rattle.table.proofs.Formed.{sound-formed}
 use Rattle.words.proofs.Formed.{target-place}
 use Rattle.trials.proofs.Laws.{Chosen, contact-chosen, other-chosen, Followed, followed-spent, followed-open, followed-stopped, followed-move}
 use Rattle.trials.proofs.follow.Statement.{statement}
@@ -69,7 +68,7 @@ found c = c .target-at .ensures ∙ rw (c .before .wide2 .ensures)
 found-place : (c : tie.After-target-at Inv-loop μ-loop) → c .target-at .result < places
 found-place c =
     let k = c .before .before .before .before .before in
-    rw (found c) (target-place (sound-formed (k .before .before .before .pre .0)) _ _ (own-exit (k .loop .step) _ (chosen (c .before .before) .below)))
+    rw (found c) (target-place (k .before .before .before .pre .0 .formed) _ _ (own-exit (k .loop .step) _ (chosen (c .before .before) .below)))
 
 returns : tie.Need-returns Inv-loop μ-loop
 returns c =

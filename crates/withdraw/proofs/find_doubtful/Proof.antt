@@ -3,7 +3,7 @@ use mathlib.Core.Path.{_≡_, _∙_, ap, ap₂}
 use Prim.Native.Nat.{ℕ, _+_, _*_, _<_}
 use borrow.Author.Needs.{needs}
 use Rattle.table.specs.Table.{Table, places, counters, counterPlace, ownBit, targetOf}
-use Rattle.table.proofs.Formed.{sound-formed, formed-place}
+use Rattle.table.proofs.Formed.{formed-place}
 use Rattle.words.specs.Words.{tableOf}
 use Rattle.withdraw.specs.Search.{ownSlot}
 use Rattle.withdraw.proofs.Slots.{own-slot-below}
@@ -81,7 +81,7 @@ pub find-doubtful-spec : {M : Type 1} → statement M
 find-doubtful-spec =
     tie.close
     (tie.spec
-    (λ c κs. (formed-place (sound-formed (c .pre .0 .sound)) _ (c .pre .0 .fits .used), c .pre .0 .fits .exit))
+    (λ c κs. (formed-place (c .pre .0 .sound .formed) _ (c .pre .0 .fits .used), c .pre .0 .fits .exit))
     (λ c κs. search needs)
     (λ c κs. search needs)
     (λ c. search needs)

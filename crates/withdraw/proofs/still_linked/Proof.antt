@@ -9,7 +9,8 @@ use borrow.Author.Tests.{eq-eqb, ne-eqb}
 use lib.ListN.{getD}
 use lib.Dec.{eqb}
 use Rattle.table.specs.Table.{Table, counters, counterPlace, ownBit}
-use Rattle.withdraw.specs.Search.{otherSlot, isMarked, stillLinked}
+use Rattle.words.specs.Marks.{isMarked}
+use Rattle.withdraw.specs.Search.{otherSlot, stillLinked}
 use Rattle.withdraw.proofs.still_linked.Statement.{statement}
 use Rattle.withdraw.proofs.still_linked.Tie as tie
 

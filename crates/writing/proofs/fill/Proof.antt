@@ -37,7 +37,7 @@ size c =
     c .image-size .ensures ∙ ap (imageSize (editionOf (s .args .newer))) (c .before .count-used .ensures)
 
 count-used-requires : tie.Need-count-used-requires
-count-used-requires c κs = test-sound (tableOf (c .before .args .t .now)) (c .before .pre) .most
+count-used-requires c κs = test-sound (tableOf (c .before .args .t .now)) (c .before .pre) .formed .most
 
 returns : tie.Need-returns
 returns c =

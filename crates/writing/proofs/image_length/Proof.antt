@@ -30,7 +30,7 @@ returns c =
     rw (ne-eqb _ 0 (λ z. c .if1 .taken (e ∙ z)), e)
 
 count-used-requires : tie.Need-count-used-requires
-count-used-requires c κs = table-passed _ (passed c) .most
+count-used-requires c κs = table-passed _ (passed c) .formed .most
 
 cast-t6 : tie.Need-cast-t6
 cast-t6 c = omega (arith, size c, image-small writtenEdition _ (table-passed _ (passed (c .before .before))))

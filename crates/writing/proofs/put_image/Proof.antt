@@ -41,7 +41,7 @@ editionAt l = editionOf (startAt l .args .newer)
 low : (c : tie.In-loop Inv-loop μ-loop) → c .before .loop .i < 128
 low c =
     let inv = c .before .loop .inv in
-    omega (arith, c .loop-test .taken, inv .1, test-sound (tableAt (c .before)) (inv .2) .most)
+    omega (arith, c .loop-test .taken, inv .1, test-sound (tableAt (c .before)) (inv .2) .formed .most)
 
 -- the record of a step in use has room
 room : (c : tie.Then1 Inv-loop μ-loop) →
@@ -152,7 +152,7 @@ returns c =
     let i : l .loop .i ≡ t .capacity = omega (arith, inv .0, inv .1, c .loop-test .left) in
     let w : Written v t (h .put-header .last .0) bytes at (t .capacity) = rw i at (inv .6) in
     let header = rw (q .before .capacity .ensures, h .before .before .last .ensures, q .quotas-of .ensures) at (h .put-header .ensures) in
-    written-all v t _ (s .args .buffer .now) bytes at (s .args .steps) w (s .pre .1) (test-sound t (inv .2) .shape .quotas) header
+    written-all v t _ (s .args .buffer .now) bytes at (s .args .steps) w (s .pre .1) (test-sound t (inv .2) .formed .shape .quotas) header
 
 pub put-image-spec : {M : Type 1} → statement M
 put-image-spec =
