@@ -9,11 +9,11 @@
 use mathlib.Core.Path.{_≡_, refl, sym, _∙_, ap}
 use mathlib.Core.Bool.{Bool, true, false, not, cond}
 use mathlib.Core.Logic.{⊎-elim}
-use mathlib.Core.List.{List, _∷_}
+use mathlib.Core.List.{List, [], _∷_}
 use Prim.Native.Nat.{ℕ, zero, suc, _+_, _-_, _≤_, _<_}
 use native.Mathlib.Omega.{arith}
 use lib.Dec.{eqb, leb, ltb}
-use borrow.Author.Tests.{eq-eqb, ne-eqb, leb-false, lt-leb, ltb-true}
+use borrow.Author.Tests.{eq-eqb, ne-eqb, lt-leb, ltb-true}
 use Rattle.finite.specs.Below.{find}
 use Rattle.finite.proofs.Bools.{test, refute, not-true-false, not-false-true}
 use Rattle.finite.proofs.Below.{find-hit, find-miss}
@@ -23,7 +23,7 @@ use Rattle.table.specs.Answer.{notInUse, badExit, exitEmpty, first}
 use Rattle.table.specs.Calls.{after, fillTests, linkRefusal}
 use Rattle.table.specs.Clear.{clearConditions, clearRefusal}
 use Rattle.table.proofs.Links.{used-place}
-use Rattle.table.proofs.Calls.{nonzero, first-zero, first-append}
+use Rattle.table.proofs.Calls.{nonzero, first-passed, exit-fits, first-append}
 use Rattle.table.proofs.Sound.{sound-test}
 use Rattle.edits.specs.Parts.{exitRefusal}
 
@@ -64,9 +64,7 @@ unused-above {t} s i l = refute (inUse t i) (λ h. let p = used-place s i h in o
 -- the conditions 3 and 4 at the head of an order: passed, or stopped at
 pub exit-passed : (t : Table) (i e : ℕ) → exitRefusal t i e ≡ 0 → (inUse t i ≡ true) × (e < exits)
 unfolding exitRefusal nonzero
-exit-passed t i e z =
-    let at = first-zero _ z refl in
-    (not-false-true _ (at 0), leb-false exits e (at 1))
+exit-passed t i e z = exit-fits t i e [] (first-passed _ z refl) .0
 
 pub exit-stopped : (t : Table) (i e : ℕ) (xs : List (Bool × ℕ)) → (exitRefusal t i e ≡ 0 → ⊥) →
     exitRefusal t i e ≡ first ((not (inUse t i), notInUse) ∷ (leb exits e, badExit) ∷ xs)
