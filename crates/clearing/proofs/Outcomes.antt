@@ -21,14 +21,13 @@ use Rattle.table.specs.declared.Answer.the-variants.{Refused, Given}
 use Rattle.table.specs.Table.{Table, places, counterPlace, inUse, ownBit, targetOf, linkBit, counterOf, strong, linked, stronglyLinked, withLinks}
 use Rattle.table.specs.Sound.{Formed, Sound}
 use Rattle.table.specs.Answer.{WriteOutcome, tooShort, first}
-use Rattle.table.specs.Calls.{lowered, raised, relink}
+use Rattle.table.specs.Calls.{HoldFits, lowered, raised, relink}
 use Rattle.table.specs.Clear.{Repair, emptied, heldStrongly, stops, doubtful, repair, repairOf, unlinked, blanked, eachDoubtful, release, size, repaired, cleared, clearRefusal}
 use Rattle.table.specs.Clear
 use Rattle.table.specs.Preview.{isFreed, wouldGo, previewRoom, previewRefusal, previewCall}
 use Rattle.table.proofs.Links.{holds-target, bit-strong}
 use Rattle.table.proofs.Relink.{counter-place-below}
 use Rattle.table.proofs.Edits.{weak-bit}
-use Rattle.table.proofs.Calls.{ClearFits}
 use Rattle.table.proofs.Preview.{preview-order, preview-made, preview-refused-as, go-length, go-fits, go-none, go-marked, doubtful-links}
 use Rattle.words.specs.Words.{Becomes}
 use Rattle.words.specs.Marks.{isMarked}
@@ -153,7 +152,7 @@ same-size : (t : Table) (i e : ℕ) {n : ℕ} → n ≡ t .capacity → n ≡ em
 same-size t i e q = q ∙ (unfold emptied relink withLinks in refl)
 
 -- Rule 1, on the table as it is: the exit is the last strong link to its target where the counter says less than 2.
-module _ (t : Table) (s : Sound t) (i e : ℕ) (g : ClearFits t i e) where
+module _ (t : Table) (s : Sound t) (i e : ℕ) (g : HoldFits t i e) where
   abbrev target : ℕ
   target = targetOf t i e
 
@@ -188,7 +187,7 @@ module _ (t : Table) (s : Sound t) (i e : ℕ) (g : ClearFits t i e) where
           (le-or-lt 2 n)
 
 -- what its answer says
-pub goes-losing : {t : Table} {i e : ℕ} {b : Bool} → Sound t → ClearFits t i e → b ≡ not (stops t i e) → not b ≡ false → Losing t i e
+pub goes-losing : {t : Table} {i e : ℕ} {b : Bool} → Sound t → HoldFits t i e → b ≡ not (stops t i e) → not b ≡ false → Losing t i e
 goes-losing {b = b} s g q h = record { sound = s; fits = g; goes = not-true-false _ (sym q ∙ not-false-true b h) }
 
 pub goes-not : {answer stop : Bool} → answer ≡ not stop → not answer ≡ true → stop ≡ true
@@ -236,7 +235,7 @@ module _ {t : Table} {i e n : ℕ} {doubt wanted doubt′ : List ℕ} (f : Fores
   s : Sound t
   s = f .losing .sound
 
-  g : ClearFits t i e
+  g : HoldFits t i e
   g = f .losing .fits
 
   size-after : n ≡ after .capacity
@@ -275,7 +274,7 @@ module _ {t : Table} {i e n : ℕ} {doubt wanted doubt′ : List ℕ} (f : Fores
       ∙ ap (λ (ms : List ℕ). ms ++ drop (length ms) buffer) numbers
 
 -- where rule 1 stops, nothing would go
-pub foreseen-none : (t : Table) (i e : ℕ) → Sound t → ClearFits t i e → stops t i e ≡ true → (buffer : List ℕ) →
+pub foreseen-none : (t : Table) (i e : ℕ) → Sound t → HoldFits t i e → stops t i e ≡ true → (buffer : List ℕ) →
     (Given 0 0 ≡ cleared t i e .answer) × (buffer ≡ wouldGo t i e ++ drop (length (wouldGo t i e)) buffer)
 foreseen-none t i e s g h buffer =
     (rw h, ap (λ (ms : List ℕ). ms ++ drop (length ms) buffer) (sym (go-none t i e s g h)))

@@ -5,9 +5,9 @@ ghost use mathlib.Core.List.{_++_};
 ghost use Prim.Native.Nat.{_≤_};
 ghost use lib.ListN.{length, drop};
 ghost use Rattle.table.specs.Sound.{Sound};
+ghost use Rattle.table.specs.Calls.{HoldFits};
 ghost use Rattle.table.specs.Clear.{stops, repaired, cleared, clearRefusal, clearCall};
 ghost use Rattle.table.specs.Preview.{wouldGo, previewRoom, previewCall};
-ghost use Rattle.table.proofs.Calls.{ClearFits};
 ghost use Rattle.words.specs.Words.{tableOf, wordsOf, Becomes};
 ghost use Rattle.clearing.specs.Clearing.{Searched};
 use table::Answer;
@@ -20,7 +20,7 @@ const PREVIEW_ROOM: usize = 127;
 // Rule 1: whether a clearing of exit e of step i, which holds a link, goes on: the link is strong, and its target has no other strong link.
 // This is the test of `DeletePtr` in source paper 001.
 fn goes_on(t: &[u16; WORDS], i: usize, e: usize) -> bool
-    requires { ⌜ Sound (tableOf (now t)) × ClearFits (tableOf (now t)) i e ⌝ }
+    requires { ⌜ Sound (tableOf (now t)) × HoldFits (tableOf (now t)) i e ⌝ }
     ensures { λ r. ⌜ r ≡ not (stops (tableOf (now (t .entry))) i e) ⌝ }
 {
     let j = words::wide(words::target_at(t, i, e));
@@ -54,7 +54,7 @@ fn repair_table(
 
 // The four rules: exit e of step i, which holds a link, is cleared. The search looks at the table as it is, and then the exit is emptied.
 pub fn clear_exit(t: &mut [u16; WORDS], i: usize, e: usize) -> Answer
-    requires { ⌜ Sound (tableOf (now t)) × ClearFits (tableOf (now t)) i e ⌝ }
+    requires { ⌜ Sound (tableOf (now t)) × HoldFits (tableOf (now t)) i e ⌝ }
     ensures answer { λ r. ⌜ r ≡ cleared (tableOf (now (t .entry))) i e .answer ⌝ }
     ensures table { λ r. ⌜ Becomes (now (t .entry)) (now (t .exit)) (cleared (tableOf (now (t .entry))) i e .table) ⌝ }
 {
@@ -71,7 +71,7 @@ pub fn clear_exit(t: &mut [u16; WORDS], i: usize, e: usize) -> Answer
 
 // The same, and the table stays as it is: the steps that the clearing would free are written to the start of the buffer. Gives back both counts.
 fn preview_exit(t: &[u16; WORDS], i: usize, e: usize, buffer: &mut [u8]) -> Answer
-    requires { ⌜ Sound (tableOf (now t)) × ClearFits (tableOf (now t)) i e × (previewRoom ≤ length (now buffer)) ⌝ }
+    requires { ⌜ Sound (tableOf (now t)) × HoldFits (tableOf (now t)) i e × (previewRoom ≤ length (now buffer)) ⌝ }
     ensures answer { λ r. ⌜ r ≡ cleared (tableOf (now (t .entry))) i e .answer ⌝ }
     ensures written { λ r. ⌜ now (buffer .exit) ≡
         wouldGo (tableOf (now (t .entry))) i e ++ drop (length (wouldGo (tableOf (now (t .entry))) i e)) (now (buffer .entry)) ⌝ }

@@ -19,7 +19,7 @@ use Rattle.table.specs.Table.{Table, inUse, cabinOf, stepsInUse, withLinks}
 use Rattle.table.specs.Cabins.{guaranteeOf, limitOf, atLimit, noneToSpare, charged, charge, freeSteps}
 use Rattle.table.specs.Sound.{Sound}
 use Rattle.table.specs.Answer.{Outcome, notSound, notInUse, badExit, exitFilled, exitEmpty, badKind, notKeyLine, full, cabinAtLimit, stepsReserved, badCabins, first, unless, refusalOf, secondOf}
-use Rattle.table.specs.Calls.{numberGiven, relink, addConditions, addRefusal, addCall, linkTable, linkCall}
+use Rattle.table.specs.Calls.{HoldFits, numberGiven, relink, addConditions, addRefusal, addCall, linkTable, linkCall}
 use Rattle.table.specs.Clear.{emptied, cleared, clearRefusal, clearCall}
 use Rattle.table.specs.Preview.{previewCall}
 use Rattle.table.specs.Squeeze.{squeezeRefusal, squeezeCall}
@@ -27,7 +27,7 @@ use Rattle.table.proofs.Links.{formed-wired}
 use Rattle.table.proofs.Cabins.{formed-charges, guarantee-free, charged-used, used-charged, Adds, charge-more, charge-stays}
 use Rattle.table.proofs.Edits.{number-given, adds}
 use Rattle.table.proofs.Clear.{Cleared, reached-in-use, emptied-used, emptied-steps, formed-emptied}
-use Rattle.table.proofs.Calls.{unless-zero, unless-refused, unless-refusal, past-sound, add-fits, ClearFits, clear-fits, clear-cleared}
+use Rattle.table.proofs.Calls.{unless-zero, unless-refused, unless-refusal, past-sound, add-fits, clear-fits, clear-cleared}
 use Rattle.table.proofs.Squeeze.{squeeze-fits, charge-same, used-same}
 use Rattle.image.specs.Image.{writeCall}
 use Rattle.image.specs.Slip.{clearSlipRefusal, clearSlipCall, slipStep, slipExit, rebuilt, takeBackRefusal, takeBackCall}
@@ -73,7 +73,7 @@ module _ {t : Table} (s : Sound t) where
       let n = numberGiven (t .capacity) (t .last) (λ k. not (inUse t k)) in
       unfold saidBy in
       made _ _ _
-      (adds t s holder e kind content cabin n (f .used) (f .exit) (f .empty) (f .fits) (f .shared) (f .limit) (f .spare) (g .2) (g .1) (g .0)))
+      (adds t s holder e kind content cabin n (f .fill .used) (f .fill .exit) (f .fill .empty) (f .fits) (f .shared) (f .limit) (f .spare) (g .2) (g .1) (g .0)))
     where
       made : (u : Table) (n cabin : ℕ) → Adds t u n cabin → Counts cabin t (number n) u
       made u n cabin a = record { each = charged-more; steps = λ m q. let x = more in omega arith }
@@ -108,7 +108,7 @@ module _ {t : Table} (s : Sound t) where
 
   -- the steps that a clearing frees leave their cabins' charges
   module _ (i e : ℕ) (z : clearRefusal t i e ≡ 0) where
-    g : ClearFits t i e
+    g : HoldFits t i e
     g = clear-fits t i e z
 
     v : Table

@@ -17,7 +17,7 @@ use Rattle.table.specs.declared.Answer.the-variants.{Refused, Given}
 use Rattle.table.specs.Table.{Table}
 use Rattle.table.specs.Sound.{Sound}
 use Rattle.table.specs.Answer.{Outcome, WriteOutcome, tooShort, slipNotAccepted, first, unless, refusalOf, secondOf, triedRefusal}
-use Rattle.table.specs.Calls.{addCall, linkCall, readCall}
+use Rattle.table.specs.Calls.{HoldFits, addCall, linkCall, readCall}
 use Rattle.table.specs.Trial.{trialCall}
 use Rattle.table.specs.Clear.{cleared, clearRefusal, clearCall}
 use Rattle.table.specs.Preview.{previewRoom, previewRefusal, previewCall}
@@ -26,7 +26,7 @@ use Rattle.table.proofs.Links.{sound-wired}
 use Rattle.table.proofs.Plan.{plan-capacity, plan-count}
 use Rattle.table.proofs.Clear.{emptied-steps}
 use Rattle.table.proofs.Trials.{trial-refusal-given}
-use Rattle.table.proofs.Calls.{done, next, first-same, nonzero, first-append, past-sound, unless-zero, unless-refused, add-refusal, link-refusal, clear-refusal, into-refusal, read-refusal, trial-refusal, add-fits, link-fits, ClearFits, clear-fits, number-plan, add-sound, add-plan, link-sound, link-plan, clear-cleared, clear-plan}
+use Rattle.table.proofs.Calls.{done, next, first-same, nonzero, first-append, past-sound, unless-zero, unless-refused, add-refusal, link-refusal, clear-refusal, into-refusal, read-refusal, trial-refusal, add-fits, link-fits, clear-fits, number-plan, add-sound, add-plan, link-sound, link-plan, clear-cleared, clear-plan}
 use Rattle.table.proofs.Preview.{preview-made, preview-refused-as, preview-accepted}
 use Rattle.table.specs.Squeeze.{squeezeCall}
 use Rattle.table.proofs.Squeeze.{squeeze-fits, squeeze-sound, squeeze-plan, squeeze-refusal}
@@ -127,7 +127,7 @@ module _ {t : Table} (s : Sound t) where
       })
 
   -- what a clearing frees is the fall in the plan's steps
-  plan-fall : (i e : ℕ) (g : ClearFits t i e) → clear-cleared s i e g .1 ≡ planFall (planOf t) i e
+  plan-fall : (i e : ℕ) (g : HoldFits t i e) → clear-cleared s i e g .1 ≡ planFall (planOf t) i e
   plan-fall i e g =
       let c = clear-cleared s i e g .3 in
       let before = plan-count (sound-wired s) in

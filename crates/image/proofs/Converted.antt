@@ -22,7 +22,7 @@ use Rattle.table.specs.Sound.{Sound}
 use Rattle.table.specs.Answer.{tooShort, notAccepted, needsEdition2, first}
 use Rattle.table.proofs.Sound.{sound-test}
 use Rattle.table.proofs.Links.{sound-wired, used-below}
-use Rattle.table.proofs.Calls.{nonzero, first-zero}
+use Rattle.table.proofs.Calls.{nonzero, passed-next, first-passed}
 use Rattle.image.specs.Image.{Edition, edition1, edition2, headerKindOf, image, imageLength, put, roomTests, editionIn, imageTable, accepted}
 use Rattle.image.specs.Convert.{hasSoleQuotas, sayable, convertConditions, convertRefusal, convertCall}
 use Rattle.image.proofs.Written.{image-edition}
@@ -85,13 +85,15 @@ pub record Converts (v : Edition) (bs : List ℕ) (room : ℕ) : Type 0 where
 pub refusal-converts : (v : Edition) (bs : List ℕ) (room : ℕ) → convertRefusal v bs room ≡ 0 → Converts v bs room
 unfolding convertRefusal nonzero
 refusal-converts v bs room z =
-    let at = first-zero (convertConditions v bs room) z refl in
-    let a = not-false-true (accepted bs) (at 0) in
+    let taken = passed-next (first-passed (convertConditions v bs room) z refl) in
+    let other = passed-next (taken .1) in
+    let says = passed-next (other .1) in
+    let a = not-false-true (accepted bs) (taken .0) in
     record {
       taken = a;
-      other = λ e. eqb-false _ _ (at 1) (ap headerKindOf e);
-      says = sayable-says v (imageTable bs) (accepted-table bs a) (not-false-true _ (at 2));
-      fits = ltb-false room _ (at 3);
+      other = λ e. eqb-false _ _ (other .0) (ap headerKindOf e);
+      says = sayable-says v (imageTable bs) (accepted-table bs a) (not-false-true _ (says .0));
+      fits = ltb-false room _ (passed-next (says .1) .0);
     }
 
 -- the refusal, case by case

@@ -27,7 +27,7 @@ use Rattle.table.specs.Plan.{Plan, planOf, planStep}
 use Rattle.table.proofs.Links.{formed-wired}
 use Rattle.table.proofs.Sound.{test-sound, sound-test}
 use Rattle.table.proofs.Clear.{reached-in-use, emptied-used, emptied-steps, formed-emptied}
-use Rattle.table.proofs.Calls.{nonzero, first-zero, unless-zero, unless-refusal, clear-made, cleared-given, clear-refusal-given, clear-fits, clear-cleared, into-order, into-accepted}
+use Rattle.table.proofs.Calls.{nonzero, passed-next, first-passed, table-fits, unless-zero, unless-refusal, clear-made, cleared-given, clear-refusal-given, clear-fits, clear-cleared, into-order, into-accepted}
 use Rattle.table.proofs.Same.{table-same, same-table}
 use Rattle.image.specs.Image.{edition2, stepFieldsOf, withRecord, counted}
 use Rattle.image.specs.Slip.{changed, slip, slipLength, clearSlipRefusal, clearSlipCall, slipStep, slipExit, slipCount, oldPlace, fieldsAt, present, rebuilt, clearedAgain, retraced, takeBackConditions, takeBackRefusal, takeBackCall, planRecord, planTakenBack}
@@ -248,15 +248,16 @@ module _ (t : Table) (bs : List ℕ) where
   pub accepted-taken : takeBackRefusal t bs ≡ 0 → Taken t bs
   unfolding takeBackRefusal retraced nonzero
   accepted-taken z =
-      let at = first-zero (takeBackConditions t bs) z refl in
-      let r = not-false-true _ (at 3) in
+      let found = passed-next (table-fits t _ (first-passed (takeBackConditions t bs) z refl) .1) in
+      let sound = passed-next (found .1) in
+      let r = not-false-true _ (passed-next (sound .1) .0) in
       let both = and-left (eqb (refusalOf (clearedAgain t bs .answer)) 0 && sameTable (clearedAgain t bs .table) t) _ r in
       let fits = again-fits (and-left (eqb (refusalOf (clearedAgain t bs .answer)) 0) _ both) in
       let o = ap (λ (o : Outcome). o .table) (again-made fits) in
       let q : cleared u step exit .table ≡ t =
       sym o ∙ table-same (clearedAgain t bs .table) t (and-right (eqb (refusalOf (clearedAgain t bs .answer)) 0) _ both) in
       record {
-        sound = test-sound u (not-false-true _ (at 2));
+        sound = test-sound u (not-false-true _ (sound .0));
         fits = fits;
         table = q;
         same =

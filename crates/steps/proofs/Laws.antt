@@ -5,17 +5,16 @@
 use mathlib.Core.Path.{_≡_, refl, sym, _∙_}
 use mathlib.Core.Bool.{Bool, true, false, not}
 use mathlib.Core.Logic.{⊎-elim}
-use mathlib.Core.List.{List, _∷_}
+use mathlib.Core.List.{List, [], _∷_}
 use Prim.Native.Nat.{ℕ, _≤_, _<_}
 use native.Mathlib.Omega.{arith}
 use lib.Dec.{leb}
-use borrow.Author.Tests.{leb-false}
 use Rattle.finite.proofs.Bools.{test, refute, not-true-false, not-false-true}
 use Rattle.table.specs.Table.{Table, places, exits, inUse}
 use Rattle.table.specs.Sound.{Shape}
 use Rattle.table.specs.Answer.{notInUse, badExit, first}
 use Rattle.table.proofs.Links.{used-place}
-use Rattle.table.proofs.Calls.{nonzero, first-zero}
+use Rattle.table.proofs.Calls.{nonzero, first-passed, exit-fits}
 use Rattle.steps.specs.Refusals.{exitRefusal}
 
 -- a Bool that code found, and tested by `!`
@@ -32,9 +31,7 @@ unused-above {t} s i l = refute (inUse t i) (λ h. let p = used-place s i h in o
 -- the conditions 3 and 4 at the head of an order: passed, or stopped at
 pub exit-passed : (t : Table) (i e : ℕ) → exitRefusal t i e ≡ 0 → (inUse t i ≡ true) × (e < exits)
 unfolding exitRefusal nonzero
-exit-passed t i e z =
-    let at = first-zero _ z refl in
-    (not-false-true _ (at 0), leb-false exits e (at 1))
+exit-passed t i e z = exit-fits t i e [] (first-passed _ z refl) .0
 
 pub exit-stopped : (t : Table) (i e : ℕ) (xs : List (Bool × ℕ)) → (exitRefusal t i e ≡ 0 → ⊥) →
     exitRefusal t i e ≡ first ((not (inUse t i), notInUse) ∷ (leb exits e, badExit) ∷ xs)

@@ -1,17 +1,19 @@
 -- Each call on a sound table, for any arguments: it is refused as its plan says, and where it is accepted the table handed back is sound and
 -- its plan is the plan's call. Assumes nothing.
---   first-zero first-append   no condition of an order holds; two orders, one after the other
+--   Passed xs       no condition of the order xs holds; first-passed, where its refusal is 0
+--   first-append    two orders, one after the other
+--   table-fits exit-fits hold-fits fill-fits   what the conditions that calls share say where none holds, and that the rest of the order is passed
 --   add-refusal link-refusal clear-refusal read-refusal trial-refusal   the table's refusal is the plan's
 --   read-refused trial-refused   what a refused read and a refused trial do
---   Accepted..      the conditions of an accepted call, as facts
+--   FillFits AddFits LinkFits   the conditions of an accepted call, as facts; HoldFits, of the definitions, is that of a clearing
 use mathlib.Core.Path.{_≡_, refl, sym, _∙_, ap, ap₂}
 use mathlib.Core.Bool.{Bool, true, false, _&&_, not, cond}
 use mathlib.Core.Logic.{⊎-elim}
 use mathlib.Core.List.{List, [], _∷_, _++_}
 use mathlib.Core.Option.{some}
-use Prim.Native.Nat.{ℕ, zero, suc, _-_, _<_}
+use Prim.Native.Nat.{ℕ, _-_, _<_}
 use native.Mathlib.Omega.{arith}
-use lib.ListN.{length, getD, set, replicate}
+use lib.ListN.{length, set, replicate}
 use lib.Dec.{eqb}
 use borrow.Author.Tests.{eqb-false, eq-eqb, ne-eqb, leb-false}
 use Rattle.finite.proofs.Bools.{and-left, and-right, test, not-true-false, not-false-true}
@@ -20,9 +22,9 @@ use Rattle.table.specs.declared.Answer.the-variants.{Given, Refused}
 use Rattle.table.specs.declared.Tried.the-variants.{Refused as TrialRefused}
 use Rattle.table.specs.Table.{Table, exits, exitsOf, cabinCount, inUse, targetOf, holds, stepsInUse}
 use Rattle.table.specs.Cabins.{atLimit, noneToSpare, charge, freeSteps}
-use Rattle.table.specs.Sound.{Sound, contentFits, sound}
-use Rattle.table.specs.Answer.{Outcome, notSound, tooShort, first, refusalOf, unless}
-use Rattle.table.specs.Calls.{numberGiven, withStep, addRefusal, addTable, weakBit, linkRefusal, linkTable, noFields, readRefusal, readCall}
+use Rattle.table.specs.Sound.{Sound, contentFits}
+use Rattle.table.specs.Answer.{Outcome, tooShort, first, refusalOf, unless}
+use Rattle.table.specs.Calls.{tableTests, exitTests, fillTests, holdTests, HoldFits, numberGiven, addConditions, addRefusal, withStep, addTable, linkConditions, linkRefusal, weakBit, linkTable, noFields, readConditions, readRefusal, readCall}
 use Rattle.table.specs.Trial.{tryFrom, trialRefusal, trialCall}
 use Rattle.table.specs.Clear.{emptied, stops, repairOf, repaired, clearConditions, cleared, clearRefusal, clearCall}
 use Rattle.table.specs.Plan.{Plan, planOf, planNumber, replan, withTarget, planAdd, planLink, pruned, planClear, planAddRefusal, planLinkRefusal, planHoldTests, planClearRefusal, planClearIntoRefusal, planReadRefusal, planTrialRefusal}
@@ -56,15 +58,22 @@ cond-zero : (c : Bool) (n r : ℕ) → not (eqb n 0) ≡ true → cond c n r ≡
 cond-zero true n r d q = absurd (eqb-false n 0 (not-true-false _ d) q)
 cond-zero false n r d q = (refl, q)
 
+-- an order of which no condition holds
+pub data Passed : List (Bool × ℕ) → Type 0 where
+  end : Passed []
+  past : {c : Bool} {n : ℕ} {xs : List (Bool × ℕ)} → c ≡ false → Passed xs → Passed ((c, n) ∷ xs)
+
+-- the next condition, and those after it
+pub passed-next : {c : Bool} {n : ℕ} {xs : List (Bool × ℕ)} → Passed ((c, n) ∷ xs) → (c ≡ false) × Passed xs
+passed-next (past q p) = (q, p)
+
 -- where the refusal is 0, no condition holds
-pub first-zero : (xs : List (Bool × ℕ)) → first xs ≡ 0 → nonzero xs ≡ true → (k : ℕ) → getD xs k (false, 0) .0 ≡ false
+pub first-passed : (xs : List (Bool × ℕ)) → first xs ≡ 0 → nonzero xs ≡ true → Passed xs
 unfolding first nonzero
-first-zero [] z d k = refl
-first-zero (x ∷ xs) z d zero = cond-zero (x .0) (x .1) (first xs) (and-left (not (eqb (x .1) 0)) (nonzero xs) d) z .0
-first-zero (x ∷ xs) z d (suc k) =
-    first-zero xs (cond-zero (x .0) (x .1) (first xs) (and-left (not (eqb (x .1) 0)) (nonzero xs) d) z .1)
-    (and-right (not (eqb (x .1) 0)) (nonzero xs) d)
-    k
+first-passed [] z d = end
+first-passed (x ∷ xs) z d =
+    let here = cond-zero (x .0) (x .1) (first xs) (and-left (not (eqb (x .1) 0)) (nonzero xs) d) z in
+    past (here .0) (first-passed xs (here .1) (and-right (not (eqb (x .1) 0)) (nonzero xs) d))
 
 -- two orders, one after the other
 pub first-append : (xs ys : List (Bool × ℕ)) → nonzero xs ≡ true → first (xs ++ ys) ≡ cond (eqb (first xs) 0) (first ys) (first xs)
@@ -117,9 +126,44 @@ pub clear-refusal-given : (t : Table) (i e : ℕ) → refusalOf (clearCall t i e
 unfolding clearCall
 clear-refusal-given t i e = unless-refusal (clearRefusal t i e) t (cleared t i e) (cleared-given t i e)
 
-pub clear-sound : (t : Table) (i e : ℕ) → clearRefusal t i e ≡ 0 → Sound t
+-- The conditions that calls share. Each law takes its own from the front of an order and hands on the rest.
+pub table-fits : (t : Table) (xs : List (Bool × ℕ)) → Passed (tableTests t ++ xs) → Sound t × Passed xs
+table-fits t xs (past s p) = (test-sound t (not-false-true _ s), p)
+
+pub exit-fits : (t : Table) (i e : ℕ) (xs : List (Bool × ℕ)) → Passed (exitTests t i e ++ xs) → ((inUse t i ≡ true) × (e < exits)) × Passed xs
+exit-fits t i e xs (past u (past l p)) = ((not-false-true _ u, leb-false exits e l), p)
+
+pub hold-fits : (t : Table) (i e : ℕ) (xs : List (Bool × ℕ)) → Passed (holdTests t i e ++ xs) → HoldFits t i e × Passed xs
+hold-fits t i e xs p =
+    let exit = exit-fits t i e _ p in
+    let filled = passed-next (exit .1) in
+    (record { used = exit .0 .0; exit = own-exit i e (exit .0 .1); filled = not-false-true _ (filled .0) }, filled .1)
+
+-- an exit that can be filled
+pub record FillFits (t : Table) (i e : ℕ) : Type 0 where
+  pub used : inUse t i ≡ true
+  pub exit : e < exitsOf i
+  pub empty : holds t i e ≡ false
+
+pub fill-fits : (t : Table) (i e : ℕ) (xs : List (Bool × ℕ)) → Passed (fillTests t i e ++ xs) → FillFits t i e × Passed xs
+fill-fits t i e xs p =
+    let exit = exit-fits t i e _ p in
+    let empty = passed-next (exit .1) in
+    (record { used = exit .0 .0; exit = own-exit i e (exit .0 .1); empty = empty .0 }, empty .1)
+
+clear-passed : (t : Table) (i e : ℕ) → clearRefusal t i e ≡ 0 → Sound t × Passed (holdTests t i e)
 unfolding clearRefusal nonzero
-clear-sound t i e z = test-sound t (not-false-true _ (first-zero (clearConditions t i e) z refl 0))
+clear-passed t i e z = table-fits t _ (first-passed (clearConditions t i e) z refl)
+
+pub clear-sound : (t : Table) (i e : ℕ) → clearRefusal t i e ≡ 0 → Sound t
+clear-sound t i e z = clear-passed t i e z .0
+
+pub clear-fits : (t : Table) (i e : ℕ) → clearRefusal t i e ≡ 0 → HoldFits t i e
+clear-fits t i e z = hold-fits t i e [] (clear-passed t i e z .1) .0
+
+pub read-fits : (t : Table) (i : ℕ) → readRefusal t i ≡ 0 → inUse t i ≡ true
+unfolding readRefusal nonzero
+read-fits t i z = not-false-true _ (passed-next (table-fits t _ (first-passed (readConditions t i) z refl) .1) .0)
 
 -- A clearing that needs room in a lent buffer: 11 after its refusals.
 module _ (t : Table) (i e : ℕ) (short : Bool) where
@@ -159,8 +203,8 @@ module _ {t : Table} (s : Sound t) where
   w : Wired t
   w = sound-wired s
 
-  -- a sound table passes the first condition of every order
-  pub past-sound : (xs : List (Bool × ℕ)) → first ((not (sound t), notSound) ∷ xs) ≡ first xs
+  -- a sound table passes what every order begins with
+  pub past-sound : (xs : List (Bool × ℕ)) → first (tableTests t ++ xs) ≡ first xs
   unfolding first
   past-sound xs = rw (sound-test t s)
 
@@ -217,60 +261,41 @@ module _ {t : Table} (s : Sound t) where
 -- the conditions of an accepted call
 pub record AddFits (t : Table) (holder e kind content cabin : ℕ) : Type 0 where
   pub shared : cabin < cabinCount
-  pub used : inUse t holder ≡ true
-  pub exit : e < exitsOf holder
-  pub empty : holds t holder e ≡ false
+  pub fill : FillFits t holder e
   pub fits : contentFits kind content ≡ true
   pub room : stepsInUse t ≡ t .capacity → ⊥
   pub limit : atLimit (t .quotas) (charge t) cabin ≡ false
   pub spare : noneToSpare (t .quotas) (charge t) (freeSteps t) cabin ≡ false
 
 pub record LinkFits (t : Table) (source e second f : ℕ) : Type 0 where
-  pub used : inUse t source ≡ true
-  pub exit : e < exitsOf source
-  pub filled : holds t source e ≡ true
-  pub second-used : inUse t second ≡ true
-  pub second-exit : f < exitsOf second
-  pub empty : holds t second f ≡ false
-
-pub record ClearFits (t : Table) (i e : ℕ) : Type 0 where
-  pub used : inUse t i ≡ true
-  pub exit : e < exitsOf i
-  pub filled : holds t i e ≡ true
+  pub hold : HoldFits t source e
+  pub fill : FillFits t second f
 
 pub add-fits : (t : Table) (holder e kind content cabin : ℕ) → addRefusal t holder e kind content cabin ≡ 0 → AddFits t holder e kind content cabin
 unfolding addRefusal nonzero
 add-fits t holder e kind content cabin z =
-    let at = first-zero _ z refl in
+    let table = table-fits t _ (first-passed (addConditions t holder e kind content cabin) z refl) in
+    let shared = passed-next (table .1) in
+    let fill = fill-fits t holder e _ (shared .1) in
+    let fits = passed-next (fill .1) in
+    let room = passed-next (fits .1) in
+    let limit = passed-next (room .1) in
+    let spare = passed-next (limit .1) in
     record {
-      shared = leb-false cabinCount cabin (at 1);
-      used = not-false-true _ (at 2);
-      exit = own-exit holder e (leb-false exits e (at 3));
-      empty = at 4;
-      fits = not-false-true _ (at 5);
-      room = eqb-false _ _ (at 6);
-      limit = at 7;
-      spare = at 8;
+      shared = leb-false cabinCount cabin (shared .0);
+      fill = fill .0;
+      fits = not-false-true _ (fits .0);
+      room = eqb-false _ _ (room .0);
+      limit = limit .0;
+      spare = spare .0;
     }
 
 pub link-fits : (t : Table) (source e second f : ℕ) → linkRefusal t source e second f ≡ 0 → LinkFits t source e second f
 unfolding linkRefusal nonzero
 link-fits t source e second f z =
-    let at = first-zero _ z refl in
-    record {
-      used = not-false-true _ (at 1);
-      exit = own-exit source e (leb-false exits e (at 2));
-      filled = not-false-true _ (at 3);
-      second-used = not-false-true _ (at 4);
-      second-exit = own-exit second f (leb-false exits f (at 5));
-      empty = at 6;
-    }
-
-pub clear-fits : (t : Table) (i e : ℕ) → clearRefusal t i e ≡ 0 → ClearFits t i e
-unfolding clearRefusal nonzero
-clear-fits t i e z =
-    let at = first-zero _ z refl in
-    record { used = not-false-true _ (at 1); exit = own-exit i e (leb-false exits e (at 2)); filled = not-false-true _ (at 3) }
+    let table = table-fits t _ (first-passed (linkConditions t source e second f) z refl) in
+    let hold = hold-fits t source e _ (table .1) in
+    record { hold = hold .0; fill = fill-fits t second f [] (hold .1) .0 }
 
 module _ {t : Table} (s : Sound t) where
   pub number-plan : numberGiven (t .capacity) (t .last) (λ k. not (inUse t k)) ≡ planNumber (planOf t)
@@ -287,15 +312,15 @@ module _ {t : Table} (s : Sound t) where
     pub add-sound : Sound (addTable t holder e kind content cabin n)
     add-sound =
         let g = number-given s (f .room) in
-        sound-add t s holder e kind content cabin n (f .used) (f .exit) (f .empty) (f .fits) (f .shared) (f .limit) (f .spare) (g .2) (g .1) (g .0)
+        sound-add t s holder e kind content cabin n (f .fill .used) (f .fill .exit) (f .fill .empty) (f .fits) (f .shared) (f .limit) (f .spare) (g .2) (g .1) (g .0)
 
     pub add-plan : planOf (addTable t holder e kind content cabin n) ≡ planAdd (planOf t) holder e kind content cabin
     unfolding addTable planAdd
     add-plan =
         let g = number-given s (f .room) in
         let formed = formed-with-step t (s .formed) n kind content cabin (g .2) (g .1) (g .0) (f .fits) (f .shared) in
-        let kept = with-step-kept t (s .formed) n kind content cabin (g .2) (g .1) (g .0) (f .fits) (f .shared) holder (f .used) in
-        plan-relink (withStep t n kind content cabin) formed holder e n 0 kept (f .exit)
+        let kept = with-step-kept t (s .formed) n kind content cabin (g .2) (g .1) (g .0) (f .fits) (f .shared) holder (f .fill .used) in
+        plan-relink (withStep t n kind content cabin) formed holder e n 0 kept (f .fill .exit)
         ∙ ap (λ (p : Plan). withTarget p holder e n) (plan-with-step t (s .formed) n kind content cabin (g .2) (g .1) (g .0) (f .fits) (f .shared))
         ∙ ap
         (λ (m : ℕ).
@@ -304,15 +329,15 @@ module _ {t : Table} (s : Sound t) where
 
   module _ (source e second f : ℕ) (g : LinkFits t source e second f) where
     pub link-sound : Sound (linkTable t source e second f)
-    link-sound = sound-link t s source e second f (g .used) (g .exit) (g .filled) (g .second-used) (g .second-exit) (g .empty)
+    link-sound = sound-link t s source e second f (g .hold .used) (g .hold .exit) (g .hold .filled) (g .fill .used) (g .fill .exit) (g .fill .empty)
 
     pub link-plan : planOf (linkTable t source e second f) ≡ planLink (planOf t) source e second f
     unfolding linkTable planLink
     link-plan =
-        plan-relink t (s .formed) second f (targetOf t source e) (weakBit t (targetOf t source e)) (g .second-used) (g .second-exit)
-        ∙ ap (withTarget (planOf t) second f) (sym (plan-target (sound-wired s) source e (g .exit)))
+        plan-relink t (s .formed) second f (targetOf t source e) (weakBit t (targetOf t source e)) (g .fill .used) (g .fill .exit)
+        ∙ ap (withTarget (planOf t) second f) (sym (plan-target (sound-wired s) source e (g .hold .exit)))
 
-  module _ (i e : ℕ) (g : ClearFits t i e) where
+  module _ (i e : ℕ) (g : HoldFits t i e) where
     pub clear-cleared : (doubts : ℕ) × (freed : ℕ) × (cleared t i e .answer ≡ Given doubts freed) × Cleared (emptied t i e) doubts freed (cleared t i e .table)
     unfolding repaired repairOf
     clear-cleared =

@@ -4,7 +4,7 @@
 use mathlib.Core.Path.{_≡_, sym, _∙_, ap}
 use mathlib.Core.Bool.{true, false, _&&_, not}
 use mathlib.Core.Logic.{_⊎_, inl, inr, ⊎-elim}
-use Prim.Native.Nat.{ℕ, _-_, _≤_, _<_}
+use Prim.Native.Nat.{ℕ, _-_, _<_}
 use native.Mathlib.Omega.{arith}
 use lib.ListN.{length, getD, length-set}
 use lib.Seq.{getD-set-same, getD-set-other}
@@ -12,7 +12,7 @@ use lib.Dec.{eqb}
 use borrow.Author.Tests.{eqb-true, eqb-false}
 use Rattle.finite.proofs.Bools.{and-left, and-right, clash, refute, test, not-true-false}
 use Rattle.finite.proofs.Below.{eq-or-ne, count-none}
-use Rattle.table.specs.Table.{Table, places, exitsOf, exitPlaces, holderAt, exitAt, cabinCount, inUse, kindOf, contentOf, ownBit, cabinOf, targetOf, linkBit, counterOf, holds, countsAt, linksTo, withLinks, withSteps}
+use Rattle.table.specs.Table.{Table, places, exitsOf, exitPlaces, holderAt, exitAt, inUse, kindOf, contentOf, ownBit, cabinOf, targetOf, linkBit, counterOf, holds, countsAt, linksTo, withLinks, withSteps}
 use Rattle.table.specs.Sound.{Formed}
 use Rattle.table.specs.Calls.{relink}
 use Rattle.table.specs.Clear.{flipped}
@@ -21,7 +21,7 @@ use Rattle.table.proofs.Links.{Wired, formed-wired, used-below, used-pl
 use Rattle.table.proofs.Relink.{Exact, relink-shape, relink-target, relink-bit, relink-target-other, relink-bit-other, relink-exact}
 
 -- no exit leads to k: no link to it is counted
-pub none-lead : (t : Table) (k c : ℕ) → ((i e : ℕ) → e < exitsOf i → holds t i e ≡ true → targetOf t i e ≡ k → ⊥) → linksTo t k c ≡ 0
+none-lead : (t : Table) (k c : ℕ) → ((i e : ℕ) → e < exitsOf i → holds t i e ≡ true → targetOf t i e ≡ k → ⊥) → linksTo t k c ≡ 0
 unfolding linksTo countsAt targetOf
 none-lead t k c alone =
     count-none (exitPlaces (t .capacity)) _

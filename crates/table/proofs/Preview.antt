@@ -22,7 +22,7 @@ use Rattle.table.specs.declared.Answer.the-variants.{Refused}
 use Rattle.table.specs.Table.{Table, exitsOf, inUse, targetOf, holds, leads, linked, stronglyLinked, stepsInUse, withLinks}
 use Rattle.table.specs.Sound.{Sound}
 use Rattle.table.specs.Answer.{Outcome, WriteOutcome, tooShort, refusalOf, secondOf}
-use Rattle.table.specs.Calls.{relink}
+use Rattle.table.specs.Calls.{HoldFits, relink}
 use Rattle.table.specs.Clear.{emptied, stops, doubtful, repairOf, repaired, cleared, clearRefusal}
 use Rattle.table.specs.Preview.{isFreed, wouldGo, previewRoom, previewRefusal, previewCall}
 use Rattle.table.proofs.Formed.{formed-place, formed-below}
@@ -31,7 +31,7 @@ use Rattle.table.proofs.Links.{formed-wired, exit-strongly}
 use Rattle.table.proofs.Relink.{relink-target-other}
 use Rattle.table.proofs.Spine.{sound-spine}
 use Rattle.table.proofs.Clear.{Cleared, reached-in-use, emptied-used, emptied-steps, emptied-strongly, goes-strong, formed-emptied, doubtful-at, freed-marked}
-use Rattle.table.proofs.Calls.{cleared-given, into-order, into-accepted, ClearFits, clear-cleared}
+use Rattle.table.proofs.Calls.{cleared-given, into-order, into-accepted, clear-cleared}
 
 module _ (t : Table) (i e : ℕ) (buffer : List ℕ) where
   -- refused as the clearing is, then for the room
@@ -61,7 +61,7 @@ module _ (t : Table) (i e : ℕ) (buffer : List ℕ) where
   preview-accepted z = let r = into-accepted t i e (ltb (length buffer) previewRoom) z in (r .0, ltb-false _ _ (r .1))
 
 -- a clearing that can be made
-module _ (t : Table) (i e : ℕ) (s : Sound t) (g : ClearFits t i e) where
+module _ (t : Table) (i e : ℕ) (s : Sound t) (g : HoldFits t i e) where
   abbrev u : Table
   u = emptied t i e
 
@@ -121,7 +121,7 @@ module _ (t : Table) (i e : ℕ) (s : Sound t) (g : ClearFits t i e) where
       on = rw h
 
 -- where rule 1 does not stop, on the table as it is: the doubtful steps have the links that they have once the exit is emptied
-module _ (t : Table) (s : Sound t) (i e : ℕ) (g : ClearFits t i e) (h : stops t i e ≡ false) where
+module _ (t : Table) (s : Sound t) (i e : ℕ) (g : HoldFits t i e) (h : stops t i e ≡ false) where
   abbrev rank : ℕ → ℕ
   rank = sound-spine s .rank
 

@@ -17,7 +17,7 @@ use Rattle.table.specs.Calls.{relink}
 use Rattle.table.specs.Clear.{unlinked, blanked, eachDoubtful, release}
 use Rattle.table.proofs.Links.{target-holds, exit-linked}
 use Rattle.table.proofs.Relink.{counter-place-same, counter-place-below, relink-target, relink-bit, relink-target-other, relink-bit-other}
-use Rattle.table.proofs.Formed.{formed-place, formed-below, formed-relink, none-lead}
+use Rattle.table.proofs.Formed.{formed-place, formed-below, formed-relink}
 
 -- the fields of the steps, which unlinking keeps
 pub record SameSteps (t u : Table) : Type 0 where

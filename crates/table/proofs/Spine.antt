@@ -20,7 +20,6 @@ use Rattle.finite.proofs.Reach.{chain-head, chain-raises, reach-sound, reach-co
 use Rattle.table.specs.Table.{Table, inUse, stronglyLinked, stepsInUse, StrongChain}
 use Rattle.table.specs.Sound.{Formed, Shares, Sound}
 use Rattle.table.proofs.Links.{Wired, formed-wired, sound-wired, used-below, linked-used, linked-below, strongly-linked}
-use Rattle.table.proofs.Formed.{formed-place}
 
 pub record Spine (t : Table) (K : ℕ → Bool) : Type 0 where
   pub rank : ℕ → ℕ

@@ -24,7 +24,7 @@ use Rattle.table.specs.declared.Answer.the-variants.{Given}
 use Rattle.table.specs.Table.{Table, places, exitsOf, cabinCount, quotaNumbers, inUse, kindOf, contentOf, ownBit, cabinOf, targetOf, linkBit, counterOf, holds, stronglyLinked, linksTo, stepsInUse, StrongChain}
 use Rattle.table.specs.Cabins.{quotasFit, listFits, chargesFit, charged, charge, freeSteps}
 use Rattle.table.specs.Sound.{Blank, Sound, capacityFits, contentFits, kindFits, sound}
-use Rattle.table.specs.Squeeze.{newNumber, squeezed, squeezeRefusal, squeezeCall, Renumbered}
+use Rattle.table.specs.Squeeze.{newNumber, squeezed, squeezeConditions, squeezeRefusal, squeezeCall, Renumbered}
 use Rattle.table.specs.Plan.{PlanStep, planStep, planOf, packed, planRank, followed, planSqueeze, planSqueezeRefusal}
 use Rattle.table.proofs.Cabins.{quotas-pairs, quotas-together, charges-limit, charges-reserve, charges-test, charged-used, used-charged}
 use Rattle.table.proofs.Sound.{capacity-range, test-sound, sound-test}
@@ -32,7 +32,7 @@ use Rattle.table.proofs.Links.{Wired, sound-wired, empty-target, used-b
 use Rattle.table.proofs.Renumber.{new-zero, new-used, new-free, new-all, new-once, new-below, moved-none, squeezed-shape, squeezed-entry, squeezed-kind, squeezed-content, squeezed-own, squeezed-cabin, squeezed-target, squeezed-bit, squeezed-counter, squeezed-renumbered}
 use Rattle.table.proofs.Follow.{Follows, renumbered-follows, new-nonzero, new-exits, used-new-step, new-used-step, follow-holds, follow-chain, follow-chain-back, follow-links, follow-used, follow-count}
 use Rattle.table.proofs.Plan.{step-path, plan-path, plan-count, plan-charge}
-use Rattle.table.proofs.Calls.{done, next, first-same, nonzero, first-zero, unless-zero, unless-answer, past-sound}
+use Rattle.table.proofs.Calls.{done, next, first-same, nonzero, passed-next, first-passed, table-fits, unless-zero, unless-answer, past-sound}
 
 -- what a squeeze asks of its arguments and of the steps in use, and then of the charges
 pub record Roomy (t : Table) (c : ℕ) (q : List ℕ) : Type 0 where
@@ -268,11 +268,12 @@ module _ {t : Table} (s : Sound t) (c : ℕ) (q : List ℕ) where
   pub squeeze-fits : squeezeRefusal t c q ≡ 0 → SqueezeFits t c q
   unfolding squeezeRefusal nonzero
   squeeze-fits z =
-      let at = first-zero _ z refl in
-      let range = capacity-range c (not-false-true _ (at 1)) in
-      let last = sym (does-not-fit (at 1) (at 2)) ∙ at 3 in
+      let size = passed-next (table-fits t _ (first-passed (squeezeConditions t c q) z refl) .1) in
+      let list = passed-next (size .1) in
+      let range = capacity-range c (not-false-true _ (size .0)) in
+      let last = sym (does-not-fit (size .0) (list .0)) ∙ passed-next (list .1) .0 in
       record {
-        roomy = record { least = range .0; most = range .1; list = not-false-true _ (at 2); room = ltb-false c _ (or-false-left (ltb c (stepsInUse t)) _ last) };
+        roomy = record { least = range .0; most = range .1; list = not-false-true _ (list .0); room = ltb-false c _ (or-false-left (ltb c (stepsInUse t)) _ last) };
         charges = not-false-true _ (or-false-right (ltb c (stepsInUse t)) _ last);
       }
 

@@ -15,7 +15,7 @@ use Rattle.finite.proofs.Below.{eq-or-ne}
 use Rattle.table.specs.declared.Answer.the-variants.{Given, Refused}
 use Rattle.table.specs.Table.{Table, places, exits, exitsOf, inUse, ownBit, targetOf, linkBit, stepsInUse, withLinks}
 use Rattle.table.specs.Sound.{Sound}
-use Rattle.table.specs.Calls.{relink}
+use Rattle.table.specs.Calls.{HoldFits, relink}
 use Rattle.table.specs.Clear.{emptied, cleared, clearRefusal, clearCall}
 use Rattle.table.specs.Squeeze.{newNumber, squeezed, ClearsAlike}
 use Rattle.table.proofs.Places.{own-exit}
@@ -23,7 +23,7 @@ use Rattle.table.proofs.Links.{Wired, formed-wired, sound-wired, used-p
 use Rattle.table.proofs.Relink.{relink-target, relink-target-other, relink-bit, relink-bit-other}
 use Rattle.table.proofs.Formed.{at-exit}
 use Rattle.table.proofs.Clear.{reached-in-use, Cleared, emptied-used, emptied-steps, formed-emptied}
-use Rattle.table.proofs.Calls.{done, next, first-same, past-sound, clear-made, clear-refused, ClearFits, clear-fits, clear-cleared}
+use Rattle.table.proofs.Calls.{done, next, first-same, past-sound, clear-made, clear-refused, clear-fits, clear-cleared}
 use Rattle.table.proofs.Renumber.{new-zero, new-once, squeezed-renumbered}
 use Rattle.table.proofs.Follow.{Follows, renumbered-follows, new-exits, new-used-step, follow-holds, follow-used, follow-reach, follow-strong-reach, follow-count}
 use Rattle.table.proofs.Squeeze.{SqueezeFits, squeeze-sound}
@@ -115,7 +115,7 @@ module _ {t : Table} (s : Sound t) (c : ℕ) (q : List ℕ) (fit : SqueezeFits t
         }
 
   -- a clearing that is made
-  module _ (g : ClearFits t i e) (h : ClearFits u k e) where
+  module _ (g : HoldFits t i e) (h : HoldFits u k e) where
     wired : Wired (emptied t i e)
     wired = formed-wired (formed-emptied t s i e (g .used) (g .exit) (g .filled))
 

@@ -25,7 +25,7 @@ use Rattle.table.specs.declared.Ending.the-variants.{Open, Spent, Stoppe
 use Rattle.table.specs.Table.{Table, exits, targetOf, holds}
 use Rattle.table.specs.Answer.{triedRefusal, endingNumber, endingOf, lastOf, movesOf}
 use Rattle.table.specs.Trial.{TrialOutcome, ended, answered, isContact, exitOf, resultsAfter, noResult, atStep, tryFrom, resultsFit, trialConditions, trialRefusal, trialCall, stepAfter, usedUp, spentAfter, exitAfter, Moved, TrialDemand, SameTrial, LongerDemand}
-use Rattle.table.proofs.Calls.{nonzero, first-zero, trial-made, trial-refused}
+use Rattle.table.proofs.Calls.{nonzero, passed-next, first-passed, table-fits, trial-made, trial-refused}
 
 -- each line result of a trial that is not refused with 10
 pub results-at : (results : List ℕ) → resultsFit results ≡ true → (k : ℕ) → k < length results → getD results k 0 < exits
@@ -128,8 +128,8 @@ pub trial-fit : (t : Table) (limit : ℕ) (results trace : List ℕ) → trialRe
     (resultsFit results ≡ true) × (limit ≤ length trace)
 unfolding trialRefusal nonzero
 trial-fit t limit results trace z =
-    let at = first-zero (trialConditions t limit results trace) z refl in
-    (not-false-true _ (at 1), ltb-false (length trace) limit (at 2))
+    let results = passed-next (table-fits t _ (first-passed (trialConditions t limit results trace) z refl) .1) in
+    (not-false-true _ (results .0), ltb-false (length trace) limit (passed-next (results .1) .0))
 
 -- what a step takes, by the number of results used up before it
 module _ (t : Table) (results : List ℕ) (i used : ℕ) where

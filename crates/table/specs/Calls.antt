@@ -2,6 +2,7 @@
 -- table handed back, for every input; the refused ones too. Assumes nothing.
 --   tableTests t    what every call on a table asks first: 1
 --   exitTests t i e   what is asked of a step and its exit: 3, 4; fillTests, of an exit to be filled; holdTests, of one to be copied or cleared
+--   HoldFits t i e  the exit can be copied or cleared
 --   addConditions .. the conditions of a call's refusals with their numbers, in the documents' order; addRefusal .. the first that holds
 --   stepConditions  those of add in document 01, after 1
 --   freshTable c q  only step 0 in use, all bits 0, last number 0
@@ -9,16 +10,17 @@
 --   relink t i e j b   exit e of step i gets a link to j with bit b, or is emptied where j is 0; the counters follow
 --   numberGiven     the number that add gives: the first free one of a circle; on a full table, where add is refused, it is not used
 --   freshCall addCall linkCall readCall   the calls
-use mathlib.Core.Bool.{Bool, not, cond}
+use mathlib.Core.Path.{_≡_}
+use mathlib.Core.Bool.{Bool, true, not, cond}
 use mathlib.Core.List.{List, [], _∷_, _++_}
-use Prim.Native.Nat.{ℕ, _+_, _*_, _-_}
+use Prim.Native.Nat.{ℕ, _+_, _*_, _-_, _<_}
 use lib.ListN.{getD, set, replicate}
 use lib.Dec.{eqb, leb, ltb}
 use Rattle.finite.specs.Below.{find, tabulate}
 use Rattle.table.specs.declared.Answer.the-variants.{Given}
 use Rattle.table.specs.declared.Fields.{Fields}
 use Rattle.table.specs.declared.Reading.{Reading}
-use Rattle.table.specs.Table.{Table, places, exits, exitPlaces, counters, cabinCount, exitPlace, counterPlace, inUse, kindOf, contentOf, ownBit, cabinOf, targetOf, linkBit, counterOf, holds, stepsInUse, withLinks, withSteps}
+use Rattle.table.specs.Table.{Table, places, exits, exitsOf, exitPlaces, counters, cabinCount, exitPlace, counterPlace, inUse, kindOf, contentOf, ownBit, cabinOf, targetOf, linkBit, counterOf, holds, stepsInUse, withLinks, withSteps}
 use Rattle.table.specs.Cabins.{listFits, soleQuotas, atLimit, noneToSpare, charge, freeSteps}
 use Rattle.table.specs.Sound.{capacityFits, contentFits, sound}
 use Rattle.table.specs.Answer.{Outcome, notSound, badCapacity, notInUse, badExit, exitFilled, exitEmpty, badKind, full, cabinAtLimit, stepsReserved, badCabins, first, unless}
@@ -41,6 +43,12 @@ fillTests t i e = exitTests t i e ++ ((holds t i e, exitFilled) ∷ [])
 -- "exit to copy or clear is empty"
 abbrev pub holdTests : Table → ℕ → ℕ → List (Bool × ℕ)
 holdTests t i e = exitTests t i e ++ ((not (holds t i e), exitEmpty) ∷ [])
+
+-- an exit that can be copied or cleared: none of these conditions holds
+pub record HoldFits (t : Table) (i e : ℕ) : Type 0 where
+  pub used : inUse t i ≡ true
+  pub exit : e < exitsOf i
+  pub filled : holds t i e ≡ true
 
 -- Fresh: "a capacity; only step 0 in use, all bits 0, last number 0". Step 0 is of kind 0 with content 0. W5: it "is given for each cabin a guarantee
 -- and a limit"; step 0 has no cabin, "its field is zero".

@@ -6,13 +6,13 @@ use mathlib.Core.Bool.{Bool, false}
 use Prim.Native.Nat.{ℕ}
 use Rattle.table.specs.Table.{Table}
 use Rattle.table.specs.Sound.{Sound}
+use Rattle.table.specs.Calls.{HoldFits}
 use Rattle.table.specs.Clear.{stops, doubtful, wanted}
-use Rattle.table.proofs.Calls.{ClearFits}
 
 -- the clearing of exit e of step i in the sound table t does not stop with rule 1: the exit holds the last strong link to its target
 pub record Losing (t : Table) (i e : ℕ) : Type 0 where
   pub sound : Sound t
-  pub fits : ClearFits t i e
+  pub fits : HoldFits t i e
   pub goes : stops t i e ≡ false
 
 -- what rule 3 wants first, of the table u with the exit emptied: all its doubtful steps are still doubtful

@@ -57,9 +57,9 @@ relink-requires c κs =
     let g = number-given s (f .room) in
     let n = at .number-given .ensures in
     let formed = formed-with-step _ (s .formed) _ (a .kind) (a .content) (a .cabin) (g .2) (g .1) (g .0) (f .fits) (f .shared) in
-    let kept = with-step-kept _ (s .formed) _ (a .kind) (a .content) (a .cabin) (g .2) (g .1) (g .0) (f .fits) (f .shared) (a .holder) (f .used) in
+    let kept = with-step-kept _ (s .formed) _ (a .kind) (a .content) (a .cabin) (g .2) (g .1) (g .0) (f .fits) (f .shared) (a .holder) (f .fill .used) in
     rw (c .before .before .before .take-step .ensures .table, c .wide2 .ensures, c .before .wide .ensures)
-    (formed-relinkable (rw n formed) (a .holder) (a .exit) (at .number-given .result) 0 (rw n kept) (f .exit) (number-place at) (omega arith))
+    (formed-relinkable (rw n formed) (a .holder) (a .exit) (at .number-given .result) 0 (rw n kept) (f .fill .exit) (number-place at) (omega arith))
 
 returns-2 : tie.Need-returns-2
 unfolding addCall addTable

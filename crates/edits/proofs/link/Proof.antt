@@ -42,7 +42,7 @@ target-used : (c : tie.After-target-at) →
 target-used c =
     let c1 = c .before .before .before .before in
     let f = fits c1 in
-    rw (target c) (sound-table c1 .formed .targets _ _ (f .used) (f .exit) (f .filled))
+    rw (target c) (sound-table c1 .formed .targets _ _ (f .hold .used) (f .hold .exit) (f .hold .filled))
 
 -- the bit of its own that this step has
 own : (c : tie.After-own-at) →
@@ -66,7 +66,7 @@ target-at-requires : tie.Need-target-at-requires
 target-at-requires c κs =
     let c1 = c .before .before .before in
     let f = fits c1 in
-    rw (c .wide2 .ensures, c .before .wide .ensures) (used-place (sound-table c1 .formed .shape) _ (f .used), f .exit)
+    rw (c .wide2 .ensures, c .before .wide .ensures) (used-place (sound-table c1 .formed .shape) _ (f .hold .used), f .hold .exit)
 
 own-at-requires : tie.Need-own-at-requires
 own-at-requires c κs =
@@ -86,7 +86,7 @@ relink-requires c κs =
     let place = used-place (s .formed .shape) _ (target-used at) in
     let bit = own-bit o in
     rw (c .wide5 .ensures, c .before .wide4 .ensures)
-    (formed-relinkable (s .formed) _ _ _ _ (f .second-used) (f .second-exit) place (omega arith))
+    (formed-relinkable (s .formed) _ _ _ _ (f .fill .used) (f .fill .exit) place (omega arith))
 
 returns-2 : tie.Need-returns-2
 unfolding linkCall linkTable weakBit

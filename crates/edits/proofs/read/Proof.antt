@@ -1,11 +1,10 @@
 -- `edits::read` meets its contract. Assumes nothing.
-use mathlib.Core.Path.{_≡_, refl, sym, _∙_}
+use mathlib.Core.Path.{_≡_, sym, _∙_}
 use borrow.Author.Needs.{needs}
 use borrow.Author.Tests.{ne-eqb}
-use Rattle.finite.proofs.Bools.{not-false-true}
 use Rattle.table.specs.Calls.{readRefusal, readCall}
 use Rattle.table.proofs.Links.{used-place}
-use Rattle.table.proofs.Calls.{nonzero, first-zero}
+use Rattle.table.proofs.Calls.{read-fits}
 use Rattle.words.specs.Words.{tableOf}
 use Rattle.words.proofs.Refusals.{accepted-sound}
 use Rattle.edits.proofs.read.Statement.{statement}
@@ -23,10 +22,10 @@ returns c =
     rw (e, ne-eqb _ 0 (λ z. out .if1 .taken (e ∙ z)), c .no-fields .ensures)
 
 fields-of-requires : tie.Need-fields-of-requires
-unfolding readRefusal nonzero
+unfolding readRefusal
 fields-of-requires c κs =
     let z = accepted (c .before) in
-    rw (c .wide .ensures) (used-place (accepted-sound _ _ z .formed .shape) _ (not-false-true _ (first-zero _ z refl 1)))
+    rw (c .wide .ensures) (used-place (accepted-sound _ _ z .formed .shape) _ (read-fits _ _ z))
 
 returns-2 : tie.Need-returns-2
 unfolding readCall

@@ -14,8 +14,9 @@ use Rattle.table.specs.declared.Answer.the-variants.{Given}
 use Rattle.table.specs.Table.{Table, withLinks}
 use Rattle.table.specs.Sound.{Sound}
 use Rattle.table.specs.Answer.{Outcome, slipNotAccepted, secondOf}
+use Rattle.table.specs.Calls.{HoldFits}
 use Rattle.table.specs.Clear.{cleared, clearRefusal}
-use Rattle.table.proofs.Calls.{ClearFits, clear-fits, clear-sound}
+use Rattle.table.proofs.Calls.{clear-fits, clear-sound}
 use Rattle.table.proofs.Sound.{sound-test}
 use Rattle.image.specs.Image.{recordSize, words, counted}
 use Rattle.image.specs.Slip.{changed, pairsBelow, slip, slipStep, slipExit, slipCount, rebuilt, clearedAgain, takeBackRefusal, takeBackCall}
@@ -250,7 +251,7 @@ clear-exit-requires : tie.Need-clear-exit-requires
 clear-exit-requires c κs =
     let d = numbered (c .before .before .before) in
     let p = put (asked d) in
-    moved (λ v i e. Sound v × ClearFits v i e) (sym (built p)) (sym (c .before .wide .ensures ∙ step-named p)) (sym (c .wide2 .ensures ∙ exit-named p))
+    moved (λ v i e. Sound v × HoldFits v i e) (sym (built p)) (sym (c .before .wide .ensures ∙ step-named p)) (sym (c .wide2 .ensures ∙ exit-named p))
     (clear-sound _ _ _ (fits (asked d)), clear-fits _ _ _ (fits (asked d)))
 
 -- the clearing there
