@@ -6,7 +6,7 @@ use Rattle.table.specs.Table.{entriesOf, exitPlace, exitAt, counterPlace, inUse
 use Rattle.table.specs.Cabins.{guaranteeOf, limitOf, quotasFit, listFits, soleQuotas, unmet, reserved, atLimit, noneToSpare, withinLimits, chargesFit, charged, charge, freeSteps}
 use Rattle.table.specs.Sound.{capacityFits, contentFits, kindFits, eachUsed, shapeTests, blankTests, ringless, soundTests, sound}
 use Rattle.table.specs.Answer.{first, refusalOf, firstOf, secondOf, unless, endingNumber, triedRefusal, endingOf, lastOf, movesOf}
-use Rattle.table.specs.Calls.{freshTable, refusedTable, freshCall, lowered, raised, relink, after, numberGiven, addRefusal, withStep, addTable, addCall, linkRefusal, weakBit, linkTable, linkCall, fieldsOf, noFields, readRefusal, readCall}
+use Rattle.table.specs.Calls.{freshTable, refusedTable, freshCall, lowered, raised, relink, after, numberGiven, addRefusal, withStep, addTable, addCall, linkRefusal, weakBit, linkTable, linkCall, fieldsOf, noFields, readRefusal, readCall, spokenCounts}
 use Rattle.table.specs.Trial.{isContact, exitOf, resultsAfter, noResult, atStep, tryFrom, resultsFit, trialRefusal, trialCall}
 use Rattle.table.specs.Clear.{emptied, heldStrongly, stops, doubtful, wanted, flipped, weakened, restored, repair, repairOf, unlinked, blanked, eachDoubtful, release, size, repaired, clearRefusal, clearCall}
 use Rattle.table.specs.Preview.{isFreed, wouldGo, previewRefusal, previewCall}
@@ -14,7 +14,7 @@ use Rattle.table.specs.Squeeze.{newNumber, oldNumber, moved, squeezed, squeezeR
 use Rattle.image.specs.Image.{headerAdds, stepAdds, editionIn, quotasBy, quotasIn, cabinBy, cabinIn, word, wordAt, words, recordSize, recordBytes, headerFieldsOf, bitsOf, stepFieldsOf, stepsBelow, image, imageLength, put, writeRefusal, writeCall, fieldAt, recordAt, capacityIn, lastIn, countIn, stepPlace, numberIn, kindIn, contentIn, bitsIn, targetIn, bitIn, recordOf, hasRecord, recordField, withRecord, counted, imageTable, framed, accepted, loadCall}
 use Rattle.image.specs.Convert.{hasSoleQuotas, sayable, convertRefusal, convertCall}
 use Rattle.image.specs.Slip.{recordIn, changed, pairsBelow, slip, slipLength, clearSlipRefusal, clearSlipCall, slipStep, slipExit, slipCount, fieldsAt, present, rebuilt, clearedAgain, retraced, takeBackRefusal, takeBackCall}
-use Rattle.keyline.specs.Keys.{isDigit, isLine, decimal, decode, spokenCounts, perform, performLine, keyCall}
+use Rattle.keyline.specs.Keys.{isDigit, isLine, decimal, decode, perform, performLine, keyCall}
 use Rattle.history.specs.History.{fieldNumbers, triedNumbers, row, firstRow, firstTable}
 use Rattle.history.specs.Acts.{actRow, doneBy, tableKept, refusedBy}
 use Rattle.cases.specs.Cases.{takeOne, taken, takenBy, strength, seen, doneTests, factsHold, passed, walk, tableF4, digits, line}

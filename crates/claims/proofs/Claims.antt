@@ -24,7 +24,7 @@ use Rattle.table.specs.declared.Answer.the-variants.{Given}
 use Rattle.table.specs.Answer.{first}
 use Rattle.table.specs.Cabins.{soleQuotas}
 use Rattle.table.specs.Sound.{Sound, sound, Shape}
-use Rattle.table.specs.Calls.{addRefusal, addCall, linkRefusal, linkCall}
+use Rattle.table.specs.Calls.{addRefusal, addCall, linkRefusal, linkCall, spokenCounts}
 use Rattle.table.specs.Clear.{clearRefusal, clearCall}
 use Rattle.table.specs.Preview.{previewRefusal, previewCall}
 use Rattle.table.specs.Squeeze.{newNumber, squeezeRefusal, squeezeCall, ClearsAlike}
@@ -34,7 +34,6 @@ use Rattle.image.specs.Image.{Edition, edition1, edition2, image, editionIn, im
 use Rattle.image.specs.Convert.{convertRefusal, convertCall}
 use Rattle.image.specs.Slip.{clearSlipRefusal, clearSlipCall, takeBackRefusal, takeBackCall}
 use Rattle.image.proofs.Laws as Images
-use Rattle.keyline.specs.Keys.{spokenCounts}
 use Rattle.history.specs.History.{First, Call, withTold, tableAfter, heardBy, planAfter, drawnBy, firstRow, firstRefusal, firstTable, firstPlan}
 use Rattle.history.specs.Acts.{Act, refusedBy}
 use Rattle.history.specs.Demands.{Demand1, Lent, Demand3, GuaranteeDemand, ChargesDemand, AddDemand, LinkDemand, ClearDemand, CountDemand, SqueezeDemand, TwiceDemand, WriteDemand, EqualDemand, SortedDemand, OldDemand, ConvertDemand, RefusalDemand, SameTableDemand, ToldDemand, SlipDemand, TakeBackDemand, PreviewDemand, PreviewRefusalDemand}

@@ -12,7 +12,7 @@ use Rattle.table.specs.Table.{Table, places}
 use Rattle.table.specs.Answer.{Outcome, first, unless, refusalOf, firstOf, secondOf}
 use Rattle.finite.specs.Below.{all, total}
 use Rattle.table.specs.Cabins.{guaranteeOf, limitOf, quotasFit, listFits, soleQuotas}
-use Rattle.table.specs.Calls.{freshCall, addCall, linkCall}
+use Rattle.table.specs.Calls.{freshCall, addCall, linkCall, spokenCounts}
 use Rattle.table.specs.Sound.{capacityFits}
 use Rattle.table.specs.Clear.{clearCall}
 use Rattle.table.specs.Plan.{freshPlan}
@@ -20,7 +20,7 @@ use Rattle.table.proofs.Calls.{unless-zero, unless-refused}
 use Rattle.keyline.specs.declared.Command.the-variants.{Add, Link, Clear, Count}
 use Rattle.keyline.specs.declared.Decoded.{Decoded}
 use Rattle.keyline.specs.declared.Decoded.the-variants.{Line, Nothing}
-use Rattle.keyline.specs.Keys.{decode, spokenCounts, perform, performLine, keyCall}
+use Rattle.keyline.specs.Keys.{decode, perform, performLine, keyCall}
 use Rattle.history.specs.History.{Call, Said, freed, Heard, fresh, keyLine, saidBy, commandSays, lineSays, row, run, isTold, withTold, heardBy, drawnBy, firstRow, firstTable, firstPlan}
 use Rattle.history.proofs.Demand3.{demand-3}
 use Rattle.session.specs.Session.{keysTable, linesOf, threeNumbers, printed, answers, keysOutput}

@@ -19,7 +19,7 @@ use Rattle.table.specs.Table.{Table, inUse, cabinOf, stepsInUse, withLinks}
 use Rattle.table.specs.Cabins.{guaranteeOf, limitOf, atLimit, noneToSpare, charged, charge, freeSteps}
 use Rattle.table.specs.Sound.{Sound}
 use Rattle.table.specs.Answer.{Outcome, notSound, notInUse, badExit, exitFilled, exitEmpty, badKind, notKeyLine, full, cabinAtLimit, stepsReserved, badCabins, first, unless, refusalOf, secondOf}
-use Rattle.table.specs.Calls.{HoldFits, numberGiven, relink, addConditions, addRefusal, addCall, linkTable, linkCall}
+use Rattle.table.specs.Calls.{HoldFits, numberGiven, relink, addConditions, addRefusal, addCall, linkTable, linkCall, spokenCounts}
 use Rattle.table.specs.Clear.{emptied, cleared, clearRefusal, clearCall}
 use Rattle.table.specs.Preview.{previewCall}
 use Rattle.table.specs.Squeeze.{squeezeRefusal, squeezeCall}
@@ -35,7 +35,7 @@ use Rattle.image.proofs.TakenBack.{slip-outcome, slip-cleared, accepted-taken, 
 use Rattle.keyline.specs.declared.Command.the-variants.{Add, Link, Clear, Count}
 use Rattle.keyline.specs.declared.Decoded.{Decoded}
 use Rattle.keyline.specs.declared.Decoded.the-variants.{Line, Nothing}
-use Rattle.keyline.specs.Keys.{keyCabin, decode, spokenCounts, perform, callConditions, lineConditions, performLine, keyCall}
+use Rattle.keyline.specs.Keys.{keyCabin, decode, perform, callConditions, lineConditions, performLine, keyCall}
 use Rattle.history.specs.History.{First, Call, add, link, clear, read, trial, write, keyLine, squeeze, clearSlip, takeBack, preview, Said, silent, number, freed, back, foreseen, spoken, saidBy, commandSays, lineSays, row, run, tableAfter, heardBy, firstTable}
 use Rattle.history.specs.Accounts.{gone, booked, account, summed, tally}
 use Rattle.history.specs.Demands.{NotFull, GuaranteeDemand, ChargesDemand}

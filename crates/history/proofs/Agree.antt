@@ -17,7 +17,7 @@ use Rattle.table.specs.declared.Answer.the-variants.{Refused, Given}
 use Rattle.table.specs.Table.{Table}
 use Rattle.table.specs.Sound.{Sound}
 use Rattle.table.specs.Answer.{Outcome, WriteOutcome, tooShort, slipNotAccepted, first, unless, refusalOf, secondOf, triedRefusal}
-use Rattle.table.specs.Calls.{HoldFits, addCall, linkCall, readCall}
+use Rattle.table.specs.Calls.{HoldFits, addCall, linkCall, readCall, spokenCounts}
 use Rattle.table.specs.Trial.{trialCall}
 use Rattle.table.specs.Clear.{cleared, clearRefusal, clearCall}
 use Rattle.table.specs.Preview.{previewRoom, previewRefusal, previewCall}
@@ -38,7 +38,7 @@ use Rattle.keyline.specs.declared.Command.{Command}
 use Rattle.keyline.specs.declared.Command.the-variants.{Add, Link, Clear, Count}
 use Rattle.keyline.specs.declared.Decoded.{Decoded}
 use Rattle.keyline.specs.declared.Decoded.the-variants.{Line, Nothing}
-use Rattle.keyline.specs.Keys.{keyCabin, decode, spokenCounts, perform, performLine, keyCall}
+use Rattle.keyline.specs.Keys.{keyCabin, decode, perform, performLine, keyCall}
 use Rattle.history.specs.History.{Call, add, link, clear, read, trial, write, keyLine, squeeze, clearSlip, takeBack, preview, Said, silent, number, freed, back, foreseen, spoken, Heard, saidBy, commandSays, lineSays, row, Ran, run, isTold, PlanRow, drawAdd, drawLink, planFall, drawClear, drawCount, unchanged, planWriteRefusal, drawCommand, drawLine, planRow, Drawn, drawn, draw}
 
 -- what is heard of a refusal, and of an accepted call

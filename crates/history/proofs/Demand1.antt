@@ -11,7 +11,7 @@ use borrow.Author.Tests.{eqb-false, eq-eqb, ne-eqb}
 use Rattle.finite.proofs.Bools.{and-intro, and-left, and-right, not-true-false}
 use Rattle.finite.proofs.Below.{eq-or-ne}
 use Rattle.table.specs.Answer.{Outcome, first, unless, refusalOf, firstOf, secondOf, triedRefusal, endingOf, lastOf, movesOf}
-use Rattle.table.specs.Calls.{freshCall, addRefusal, addCall, linkRefusal, linkCall, noFields, readRefusal, readCall, tableTests}
+use Rattle.table.specs.Calls.{freshCall, addRefusal, addCall, linkRefusal, linkCall, noFields, readRefusal, readCall, tableTests, spokenCounts}
 use Rattle.table.specs.Trial.{trialRefusal}
 use Rattle.table.specs.Clear.{cleared, clearRefusal, clearCall}
 use Rattle.table.specs.Preview.{previewRefusal}
@@ -28,7 +28,7 @@ use Rattle.image.proofs.TakenBack.{slip-refusal-given, slip-refused-as}
 use Rattle.keyline.specs.declared.Command.the-variants.{Add, Link, Clear, Count}
 use Rattle.keyline.specs.declared.Decoded.{Decoded}
 use Rattle.keyline.specs.declared.Decoded.the-variants.{Line, Nothing}
-use Rattle.keyline.specs.Keys.{decode, spokenCounts, perform, callConditions, lineConditions, keyConditions, performLine, keyCall}
+use Rattle.keyline.specs.Keys.{decode, perform, callConditions, lineConditions, keyConditions, performLine, keyCall}
 use Rattle.history.specs.History.{fresh, load, add, link, clear, read, trial, write, keyLine, squeeze, clearSlip, takeBack, preview, silent, Done, fieldNumbers, triedNumbers, changing, row, firstRow}
 use Rattle.history.specs.Acts.{Act, begin, call, convert, actRow, doneBy, tableKept, refusedBy, conditionsOf}
 use Rattle.history.specs.Demands.{FirstHeld, none, some, Demand1, Lent, to-trial, to-write, to-clear, to-preview, to-convert}

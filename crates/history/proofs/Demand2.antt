@@ -16,7 +16,7 @@ use Rattle.table.specs.declared.Answer.the-variants.{Given}
 use Rattle.table.specs.Table.{Table, inUse, linked, stronglyLinked, withLinks}
 use Rattle.table.specs.Sound.{Sound}
 use Rattle.table.specs.Answer.{Outcome, WriteOutcome, tooShort, notAccepted, needsEdition2, first, firstOf, unless}
-use Rattle.table.specs.Calls.{relink, addRefusal, addCall, linkRefusal, linkCall}
+use Rattle.table.specs.Calls.{relink, addRefusal, addCall, linkRefusal, linkCall, spokenCounts}
 use Rattle.table.specs.Clear.{emptied, cleared, clearRefusal, clearCall}
 use Rattle.table.specs.Trial.{trialCall, underNumbers}
 use Rattle.table.specs.Squeeze.{newNumber, squeezed, squeezeRefusal, squeezeCall, ClearsAlike}
@@ -35,8 +35,7 @@ use Rattle.image.specs.Convert.{sayable, convertRefusal, convertCall}
 use Rattle.image.proofs.RoundTrip.{Says, accepted-says}
 use Rattle.image.proofs.Converted.{sayable-says, says-sayable, refusal-converts, convert-put, converts-back, refusal-bad, refusal-same, refusal-unsaid, Verdict, unaccepted, already, unsayable, short, done, verdict}
 use Rattle.image.proofs.Laws.{image-length, image-most, image-edition, edition1-says, put-made, put-refusal, room-enough, decode-encode, encode-accepted, load-encode, accepted-sound, accepted-rewritten, image-ascending, image-equal, accepted-only, loaded-equal}
-use Rattle.keyline.specs.Keys.{spokenCounts}
-use Rattle.keyline.proofs.Laws.{spoken-plan}
+use Rattle.table.proofs.Spoken.{spoken-plan}
 use Rattle.history.specs.Demands.{AddDemand, LinkDemand, ClearDemand, CountDemand, SqueezeDemand, TwiceDemand, WriteDemand, EqualDemand, SortedDemand, OldDemand, ConvertDemand, Counterpart, RefusalDemand, SameTableDemand}
 
 pub add-demand : (t : Table) → Sound t → (holder e kind content cabin : ℕ) → addRefusal t holder e kind content cabin ≡ 0 →

@@ -71,15 +71,15 @@ blank-same a b =
 pub step-fields : {w x : Table} {j : ℕ} → SameStep w x j → stepFieldsOf edition2 w j ≡ stepFieldsOf edition2 x j
 unfolding stepFieldsOf stepAdds bitsOf
 step-fields {w} {x} {j} a =
-    rw
-    (a .kind, a .content, a .own, a .cabin, a .target 0 (omega arith), a .target 1 (omega arith), a .target 2 (omega arith), a .target 3 (omega arith), a .bit 0 (omega arith), a .bit 1 (omega arith), a .bit 2 (omega arith), a .bit 3 (omega arith))
+    rw (a .kind, a .content, a .own, a .cabin)
+    (rw (a .target 0 (omega arith), a .target 1 (omega arith), a .target 2 (omega arith), a .target 3 (omega arith)) (rw (a .bit 0 (omega arith), a .bit 1 (omega arith), a .bit 2 (omega arith), a .bit 3 (omega arith))))
 
 -- "A free step's record has length 22, kind 4, its number and zeros"
 blank-fields : {t : Table} {k : ℕ} → Blank t k → stepFieldsOf edition2 t k ≡ k ∷ replicate 8 0
 unfolding stepFieldsOf stepAdds bitsOf
 blank-fields {t} {k} b =
-    rw
-    (b .kind, b .content, b .own, b .cabin, b .targets 0 (omega arith), b .targets 1 (omega arith), b .targets 2 (omega arith), b .targets 3 (omega arith), b .bits 0 (omega arith), b .bits 1 (omega arith), b .bits 2 (omega arith), b .bits 3 (omega arith))
+    rw (b .kind, b .content, b .own, b .cabin)
+    (rw (b .targets 0 (omega arith), b .targets 1 (omega arith), b .targets 2 (omega arith), b .targets 3 (omega arith)) (rw (b .bits 0 (omega arith), b .bits 1 (omega arith), b .bits 2 (omega arith), b .bits 3 (omega arith))))
 
 pub blank-record : {t : Table} {k : ℕ} → Blank t k → recordIn t k ≡ words (22 ∷ 4 ∷ k ∷ replicate 8 0)
 unfolding recordIn recordBytes recordSize
@@ -279,7 +279,11 @@ module _ (t u : Table) (s : Sound t) (r : Sound u) where
         content = at 2;
         own = bits 4 (omega arith);
         cabin = at 8;
-        target = λ e x. let h = exit-four j e x in sym (four-at (targetOf t j) e h) ∙ ap (λ (fs : List ℕ). getD (getD fs 4 0 ∷ getD fs 5 0 ∷ getD fs 6 0 ∷ getD fs 7 0 ∷ []) e 0) q ∙ four-at (targetOf u j) e h;
+        target =
+            λ e x.
+            let h = exit-four j e x in
+            sym (four-at (targetOf t j) e h) ∙
+            ap (λ (fs : List ℕ). getD (getD fs 4 0 ∷ getD fs 5 0 ∷ getD fs 6 0 ∷ getD fs 7 0 ∷ []) e 0) q ∙ four-at (targetOf u j) e h;
         bit = λ e y. let h = exit-four j e y in let x = lt-ltb e exits h in sym (rw x) ∙ bits e (omega arith) ∙ rw x;
       }
 

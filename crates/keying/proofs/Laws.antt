@@ -21,14 +21,14 @@ use Rattle.table.specs.declared.Answer.the-variants.{Refused}
 use Rattle.table.specs.Table.{Table}
 use Rattle.table.specs.Sound.{Shape, Sound, sound}
 use Rattle.table.specs.Answer.{Outcome, notSound, notKeyLine, first, unless}
-use Rattle.table.specs.Calls.{tableTests, addRefusal, addCall, linkRefusal, linkCall}
+use Rattle.table.specs.Calls.{tableTests, addRefusal, addCall, linkRefusal, linkCall, spokenCounts, countsCall}
 use Rattle.table.specs.Clear.{clearRefusal, clearCall}
 use Rattle.table.proofs.Calls.{add-fits, link-fits, clear-fits, add-sound, link-sound, clear-cleared}
 use Rattle.words.proofs.Refusals.{table-passed}
 use Rattle.keyline.specs.declared.Command.the-variants.{Add, Link, Clear, Count}
 use Rattle.keyline.specs.declared.Decoded.{Decoded}
 use Rattle.keyline.specs.declared.Decoded.the-variants.{Line, Nothing}
-use Rattle.keyline.specs.Keys.{keyCabin, held, star, pressed, digit, isDigit, isLine, decimal, decode, spokenCounts, countsCall, perform, performLine, keyCall}
+use Rattle.keyline.specs.Keys.{keyCabin, held, star, pressed, digit, isDigit, isLine, decimal, decode, perform, performLine, keyCall}
 
 pub digit-low : (x : ℕ) → isDigit x ≡ true → digit 0 ≤ x
 unfolding isDigit

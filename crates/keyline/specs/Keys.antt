@@ -3,7 +3,6 @@
 --   decimal bs k w       the number that w digits spell from place k
 --   decode bs            the command of a key line
 --   keyConditions        the conditions of its refusals with their numbers, in their order
---   countsCall t         the counts alone: what H*4A answers
 --   perform, keyCall     the call that a command makes, and the call of a key line
 use mathlib.Core.Bool.{Bool, true, _&&_, cond}
 use mathlib.Core.List.{List, [], _∷_, _++_}
@@ -11,14 +10,14 @@ use Prim.Native.Nat.{ℕ, zero, suc, _+_, _*_, _-_}
 use lib.ListN.{length, getD}
 use lib.Dec.{eqb, leb}
 use Rattle.finite.specs.Below.{all, passes}
-use Rattle.table.specs.declared.Answer.the-variants.{Refused, Given}
+use Rattle.table.specs.declared.Answer.the-variants.{Refused}
 use Rattle.keyline.specs.declared.Command.{Command}
 use Rattle.keyline.specs.declared.Command.the-variants.{Add, Link, Clear, Count}
 use Rattle.keyline.specs.declared.Decoded.{Decoded}
 use Rattle.keyline.specs.declared.Decoded.the-variants.{Line, Nothing}
-use Rattle.table.specs.Table.{Table, stepsInUse}
+use Rattle.table.specs.Table.{Table}
 use Rattle.table.specs.Answer.{Outcome, notKeyLine, first, unless}
-use Rattle.table.specs.Calls.{tableTests, addConditions, addCall, linkConditions, linkCall}
+use Rattle.table.specs.Calls.{tableTests, addConditions, addCall, linkConditions, linkCall, spokenCounts}
 use Rattle.table.specs.Clear.{clearConditions, clearCall}
 
 -- "Keys are ASCII: H alarm held, A alarm pressed, *, digits."
@@ -60,14 +59,6 @@ decode bs =
     (cond (isLine bs 2 8) (Line (Link (decimal bs 3 3) (decimal bs 6 1) (decimal bs 7 3) (decimal bs 10 1)))
     (cond (isLine bs 3 4) (Line (Clear (decimal bs 3 3) (decimal bs 6 1)))
     (cond (isLine bs 4 0) (Line Count) Nothing)))
-
--- "in use and free for H*4"
-unfoldable pub spokenCounts : Table → Outcome
-spokenCounts t = record { answer = Given (stepsInUse t) (t .capacity - stepsInUse t); table = t }
-
--- the same without a key line: refusal 1, else the counts
-unfoldable pub countsCall : Table → Outcome
-countsCall t = unless (first (tableTests t)) t (spokenCounts t)
 
 -- "Key lines .. add for cabin 0" (W5)
 abbrev pub keyCabin : ℕ

@@ -22,3 +22,4 @@ pub mod Squeeze
 pub mod Squeezed
 pub mod SqueezeClear
 pub mod Same
+pub mod Spoken

@@ -167,7 +167,9 @@ module _ (t : Table) (g : Formed t) (i e j b : ℕ) (u : inUse t i ≡ true) (le
       ∙ here (inUse (relink t i e j b) i) (relink-used t i e j b i ∙ u)
       ∙ sym (ap (retargeted e j) (plan-step-entry t i ∙ there (inUse t i) u))
     where
-      there : (v : Bool) → v ≡ true → entry (exitsOf i) v (kindOf t i) (contentOf t i) (targetOf t i) (cabinOf t i) ≡ some (record { kind = kindOf t i; content = contentOf t i; targets = tabulate (exitsOf i) (targetOf t i); cabin = cabinOf t i })
+      there : (v : Bool) → v ≡ true →
+          entry (exitsOf i) v (kindOf t i) (contentOf t i) (targetOf t i) (cabinOf t i) ≡
+          some (record { kind = kindOf t i; content = contentOf t i; targets = tabulate (exitsOf i) (targetOf t i); cabin = cabinOf t i })
       there v q = rw q
 
       here : (v : Bool) → v ≡ true → entry (exitsOf i) v (kindOf (relink t i e j b) i) (contentOf (relink t i e j b) i) (targetOf (relink t i e j b) i) (cabinOf (relink t i e j b) i) ≡

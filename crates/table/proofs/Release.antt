@@ -256,7 +256,7 @@ module _ (t : Table) (g : Formed t) (d : List Bool) (doubted : (i : ℕ) → mar
     bit-kept : (i e : ℕ) → e < exitsOf i → marked d i ≡ false → linkBit v i e ≡ linkBit t i e
 
   leaving-more : (m : ℕ) → (v : Table) → Leaving m v → Leaving (suc m) (cond (marked d m) (unlinked v m) v)
-  leaving-more m v r = ⊎-elim (λ y. subst (λ (b : Bool). Leaving (suc m) (cond b (unlinked v m) v)) (sym y) (go y)) (λ n. subst (λ (b : Bool). Leaving (suc m) (cond b (unlinked v m) v)) (sym n) (stay n)) (test (marked d m))
+  leaving-more m v r = ⊎-elim (λ y. rw y (go y)) (λ n. rw n (stay n)) (test (marked d m))
     where
       go : marked d m ≡ true → Leaving (suc m) (unlinked v m)
       go y =
@@ -343,7 +343,7 @@ module _ (t : Table) (g : Formed t) (d : List Bool) (doubted : (i : ℕ) → mar
   bit-in v q i e = rw q
 
   blanking-more : (m : ℕ) → (v : Table) → Blanking m v → Blanking (suc m) (cond (marked d m) (blanked v m) v)
-  blanking-more m v r = ⊎-elim (λ y. subst (λ (b : Bool). Blanking (suc m) (cond b (blanked v m) v)) (sym y) (go y)) (λ n. subst (λ (b : Bool). Blanking (suc m) (cond b (blanked v m) v)) (sym n) (stay n)) (test (marked d m))
+  blanking-more m v r = ⊎-elim (λ y. rw y (go y)) (λ n. rw n (stay n)) (test (marked d m))
     where
       go : marked d m ≡ true → Blanking (suc m) (blanked v m)
       go y =

@@ -183,9 +183,10 @@ module _ (t : Table) (s : Shape t) (i e j b : ℕ) (li : i < places) (le : e < e
       let moved : count (exitPlaces (t .capacity)) is + one (was p) ≡ count (exitPlaces (t .capacity)) was + one (is p) =
       count-change (exitPlaces (t .capacity)) was is p lp
       (λ q l d. ap₂ (λ (x y : ℕ). hits x y k c) (getD-set-other (t .targets) p q j 0 d) (getD-set-other (t .bits) p q b 0 d)) in
-      let low : getD (lowered (getD (t .targets) p 0) (getD (t .bits) p 0) (t .counts)) (counterPlace k c) 0 ≡ getD (t .counts) (counterPlace k c) 0 - one old =
+      let down = lowered (getD (t .targets) p 0) (getD (t .bits) p 0) (t .counts) in
+      let low : getD down (counterPlace k c) 0 ≡ getD (t .counts) (counterPlace k c) 0 - one old =
       lowered-at (getD (t .targets) p 0) (getD (t .bits) p 0) k c (t .counts) (s .counts) lo lb lc′ in
-      let high : getD (raised j b (lowered (getD (t .targets) p 0) (getD (t .bits) p 0) (t .counts))) (counterPlace k c) 0 ≡ getD (lowered (getD (t .targets) p 0) (getD (t .bits) p 0) (t .counts)) (counterPlace k c) 0 + one new =
+      let high : getD (raised j b down) (counterPlace k c) 0 ≡ getD down (counterPlace k c) 0 + one new =
       raised-at j b k c _ (length-lowered _ _ (t .counts) ∙ s .counts) lj lb′ lc′ in
       let here : getD (t .counts) (counterPlace k c) 0 ≡ count (exitPlaces (t .capacity)) was = x k c lk lc′ in
       let enough : one old ≤ count (exitPlaces (t .capacity)) was = counted (exitPlaces (t .capacity)) was p lp in

@@ -3,7 +3,7 @@
 use mathlib.Core.Path.{_≡_, refl, subst}
 use mathlib.Core.Bool.{true}
 use borrow.Author.Tests.{eqb-true, eq-eqb}
-use Rattle.finite.proofs.Bools.{passes-at}
+use Rattle.finite.proofs.Bools.{passes-at, and-intro}
 use Rattle.finite.proofs.Select.{same-true, same-refl}
 use Rattle.table.specs.Table.{Table, sameFields, sameTable}
 
@@ -32,4 +32,12 @@ same-table {t} q = subst (λ (u : Table). sameTable t u ≡ true) q (itself t)
     itself : (t : Table) → sameTable t t ≡ true
     itself t =
         unfold sameTable sameFields in
-        rw (eq-eqb (t .capacity) (t .capacity) refl, eq-eqb (t .last) (t .last) refl, same-refl (t .used), same-refl (t .kinds), same-refl (t .contents), same-refl (t .own), same-refl (t .targets), same-refl (t .bits), same-refl (t .counts), same-refl (t .cabins), same-refl (t .quotas))
+        and-intro (eq-eqb (t .capacity) (t .capacity) refl)
+        (and-intro (eq-eqb (t .last) (t .last) refl)
+        (and-intro (same-refl (t .used))
+        (and-intro (same-refl (t .kinds))
+        (and-intro (same-refl (t .contents))
+        (and-intro (same-refl (t .own))
+        (and-intro (same-refl (t .targets))
+        (and-intro (same-refl (t .bits))
+        (and-intro (same-refl (t .counts)) (and-intro (same-refl (t .cabins)) (and-intro (same-refl (t .quotas)) refl))))))))))

@@ -10,6 +10,7 @@
 --   relink t i e j b   exit e of step i gets a link to j with bit b, or is emptied where j is 0; the counters follow
 --   numberGiven     the number that add gives: the first free one of a circle; on a full table, where add is refused, it is not used
 --   freshCall addCall linkCall readCall   the calls
+--   spokenCounts t  steps in use and free ones, as H*4A speaks them; countsCall, the call that answers them
 use mathlib.Core.Path.{_≡_}
 use mathlib.Core.Bool.{Bool, true, not, cond}
 use mathlib.Core.List.{List, [], _∷_, _++_}
@@ -194,3 +195,11 @@ unfoldable pub readCall : Table → ℕ → Reading
 readCall t i =
     let n = readRefusal t i in
     record { refusal = n; fields = cond (eqb n 0) (fieldsOf t i) noFields }
+
+-- "in use and free for H*4" (document 01, "Keys")
+unfoldable pub spokenCounts : Table → Outcome
+spokenCounts t = record { answer = Given (stepsInUse t) (t .capacity - stepsInUse t); table = t }
+
+-- the same without a key line: refusal 1, else the counts
+unfoldable pub countsCall : Table → Outcome
+countsCall t = unless (first (tableTests t)) t (spokenCounts t)

@@ -1,5 +1,5 @@
 -- `clearing::clear_refusal` meets its contract: the refusal of the table, then that of the exit. Assumes nothing.
-use mathlib.Core.Path.{_≡_, sym, _∙_}
+use mathlib.Core.Path.{sym, _∙_}
 use borrow.Author.Needs.{needs}
 use Rattle.table.specs.Clear.{clearRefusal}
 use Rattle.words.proofs.Refusals.{past-table, table-stopped}

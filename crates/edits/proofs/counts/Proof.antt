@@ -4,9 +4,9 @@ use native.Mathlib.Omega.{arith}
 use borrow.Author.Needs.{needs}
 use Rattle.finite.proofs.Below.{count-le}
 use Rattle.table.specs.Table.{inUse, stepsInUse}
+use Rattle.table.specs.Calls.{spokenCounts, countsCall}
 use Rattle.words.specs.Words.{tableOf}
 use Rattle.words.proofs.Refusals.{table-passed, refused-answer, given-answer}
-use Rattle.keyline.specs.Keys.{spokenCounts, countsCall}
 use Rattle.edits.proofs.counts.Statement.{statement}
 use Rattle.edits.proofs.counts.Tie as tie
 

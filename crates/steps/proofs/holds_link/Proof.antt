@@ -1,5 +1,4 @@
 -- `steps::holds_link` meets its contract: a step in use has a place. Assumes nothing.
-use mathlib.Core.Path.{_≡_}
 use borrow.Author.Needs.{needs}
 use Rattle.table.specs.Table.{holds}
 use Rattle.table.proofs.Places.{own-exit}

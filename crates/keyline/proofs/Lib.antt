@@ -1,2 +1,0 @@
--- The law of the spoken counts.
-pub mod Laws
