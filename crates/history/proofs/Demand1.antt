@@ -1,7 +1,7 @@
 -- Demand 1: each call is refused as its conditions say, and a refused call does nothing else. Assumes nothing.
 use mathlib.Core.Path.{_≡_, refl, sym, _∙_, ap, subst}
 use mathlib.Core.Bool.{Bool, true, false, not, cond}
-use mathlib.Core.Logic.{⊎-elim}
+use mathlib.Core.Logic.{_⊎_, inl, inr, ⊎-elim}
 use mathlib.Core.List.{List, [], _∷_, _++_}
 use Prim.Native.Nat.{ℕ, zero, suc, _<_}
 use native.Mathlib.Omega.{arith}
@@ -192,11 +192,20 @@ demand-1 t (call (takeBack bs)) =
 demand-1 t (call (preview i e buffer)) = preview-demand t i e buffer
 demand-1 t (convert v bs buffer) = convert-demand t v bs buffer
 
--- the bytes that a refused act leaves are those lent
-pub lent-kept : (t : Table) (a : Act) (l : List ℕ) → Lent a l → (n : ℕ) → refusedBy n t a .lent ≡ l
-unfolding refusedBy actRow row
-lent-kept t _ _ to-trial n = refl
-lent-kept t _ _ to-write n = refl
-lent-kept t _ _ to-clear n = refl
-lent-kept t _ _ to-preview n = refl
-lent-kept t _ _ to-convert n = refl
+-- the bytes that a refused act leaves are those that its arguments say were lent, or none were
+pub lent-kept : (t : Table) (a : Act) (n : ℕ) → Lent a (refusedBy n t a .lent) ⊎ (refusedBy n t a .lent ≡ [])
+unfolding refusedBy actRow row firstRow
+lent-kept t (begin (fresh c q)) n = inr refl
+lent-kept t (begin (load bs)) n = inr refl
+lent-kept t (call (add holder e kind content cabin)) n = inr refl
+lent-kept t (call (link source e second f)) n = inr refl
+lent-kept t (call (clear i e)) n = inr refl
+lent-kept t (call (read i)) n = inr refl
+lent-kept t (call (trial limit results trace)) n = inl to-trial
+lent-kept t (call (write buffer)) n = inl to-write
+lent-kept t (call (keyLine bs)) n = inr refl
+lent-kept t (call (squeeze c q)) n = inr refl
+lent-kept t (call (clearSlip i e buffer)) n = inl to-clear
+lent-kept t (call (takeBack bs)) n = inr refl
+lent-kept t (call (preview i e buffer)) n = inl to-preview
+lent-kept t (convert v bs buffer) n = inl to-convert
