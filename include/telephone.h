@@ -65,7 +65,7 @@
 extern "C" {
 #endif
 
-#define PLAN_VERSION "0.8.0"  /* of this software; CHANGELOG.md says what changed, and PLAN_EDITION what a host has to follow */
+#define PLAN_VERSION "0.9.0"  /* of this software; CHANGELOG.md says what changed, and PLAN_EDITION what a host has to follow */
 #define PLAN_EDITION 4        /* of this interface; in edition 1 tables went by value, in 2 a trial had no limit, in 3 there were no cabins */
 #define PLAN_PLACES 128       /* the largest capacity */
 #define PLAN_EXITS 4          /* exits of a step */
@@ -78,7 +78,7 @@ extern "C" {
 /* Kinds of step, and the content of each. */
 enum plan_kind {
     PLAN_ALARM = 0,           /* step 0 only; content 0 */
-    PLAN_CONTACT = 1,         /* a phone book entry, 0 to 99; 0 is the primary */
+    PLAN_CONTACT = 1,         /* a phone book entry, 0 to 999; 0 is the primary. In an image of edition 1 it is 0 to 99 */
     PLAN_MESSAGE = 2,         /* a spoken message, 0 to 15 */
     PLAN_WAIT = 3             /* seconds, 1 to 600 */
 };
@@ -109,7 +109,7 @@ enum plan_refusal {
     PLAN_CABIN_AT_LIMIT = 14,   /* cabin at its limit */
     PLAN_STEPS_RESERVED = 15,   /* only steps reserved for other cabins are free */
     PLAN_BAD_CABINS = 16,       /* cabin above 7, or bad list of guarantees and limits */
-    PLAN_NEEDS_EDITION_2 = 17,  /* image needs edition 2: a cabin, guarantee or limit that edition 1 cannot say */
+    PLAN_NEEDS_EDITION_2 = 17,  /* image needs edition 2: a cabin, guarantee, limit or contact that edition 1 cannot say */
     PLAN_SLIP_NOT_ACCEPTED = 18 /* slip not accepted */
 };
 
@@ -278,7 +278,8 @@ plan_write_reply plan_image_length(const plan_table *t);
 plan_write_reply plan_write_image(const plan_table *t, uint8_t *buffer, size_t length);
 
 /* Makes the table of an image of edition 1 or 2, which is exactly these bytes, whatever stood there. The step records may come in any order. Of an
- * image of edition 1 all steps are charged to cabin 0, and the table has the list of plan_sole_quotas for its capacity.
+ * image of edition 1 all steps are charged to cabin 0, and the table has the list of plan_sole_quotas for its capacity. Contacts of such an image are 0
+ * to 99, as an old telephone has them; with a larger one it is not accepted.
  * first and second: 0. Refusal: 12. */
 plan_reply plan_load_image(plan_table *t, const uint8_t *bytes, size_t length);
 
@@ -289,8 +290,9 @@ plan_reply plan_load_image(plan_table *t, const uint8_t *bytes, size_t length);
 plan_write_reply plan_convert_up(const uint8_t *bytes, size_t length, uint8_t *buffer, size_t room);
 
 /* Converts an image of edition 2 to edition 1 in the same way; up and down again is the first image, its step records sorted. Edition 1 has no cabins:
- * all steps have to be of cabin 0, and the list that of plan_sole_quotas for the capacity.
- * length in the reply: 10 bytes and 20 for each step in use. Refusals, in order: 12, also for an image of edition 1; 17; 11. */
+ * all steps have to be of cabin 0, and the list that of plan_sole_quotas for the capacity. Its contacts have to be 0 to 99.
+ * length in the reply: 10 bytes and 20 for each step in use. Refusals, in order: 12, also for an image of edition 1; 17 for another cabin, another
+ * list or a larger contact; 11. */
 plan_write_reply plan_convert_down(const uint8_t *bytes, size_t length, uint8_t *buffer, size_t room);
 
 /* Carries out a key line, given without its byte 10; any bytes of any length. ASCII; steps and contents have three digits, exits and kinds one:
@@ -323,7 +325,7 @@ static inline const char *plan_refusal_words(uint16_t refusal) {
     case PLAN_CABIN_AT_LIMIT: return "cabin at its limit";
     case PLAN_STEPS_RESERVED: return "only steps reserved for other cabins are free";
     case PLAN_BAD_CABINS: return "cabin above 7, or bad list of guarantees and limits";
-    case PLAN_NEEDS_EDITION_2: return "image needs edition 2: a cabin, guarantee or limit that edition 1 cannot say";
+    case PLAN_NEEDS_EDITION_2: return "image needs edition 2: a cabin, guarantee, limit or contact that edition 1 cannot say";
     case PLAN_SLIP_NOT_ACCEPTED: return "slip not accepted";
     default: return "unknown refusal";
     }

@@ -1,8 +1,8 @@
 /* Links libtelephone.a and tries each call from C, or from C++: edition, names and words, the worked examples P1 to P10, every refusal of every call,
- * cabins with their guarantees and limits, images of both editions and their conversions, squeezes, trials, clearings taken back, previews of
- * clearings, the case of `keys`, fields that all differ, lengths past 16 bits, damaged images and slips, and bytes that are no sound table. A table is
- * lent with bytes around it, which have to stay; a refused call has to leave every byte. Prints a line for each case that fails, and
- * 'N passed, M failed' last. */
+ * cabins with their guarantees and limits, images of both editions and their conversions, contacts of both editions, squeezes, trials, clearings
+ * taken back, previews of clearings, the case of `keys`, fields that all differ, lengths past 16 bits, damaged images and slips, and bytes that are no
+ * sound table. A table is lent with bytes around it, which have to stay; a refused call has to leave every byte. Prints a line for each case that
+ * fails, and 'N passed, M failed' last. */
 #include "telephone.h"
 #include <stdio.h>
 #include <string.h>
@@ -77,7 +77,7 @@ static void names(void) {
         "some line result above 3", "lent buffer shorter than needed", "image not accepted",
         "capacity below the steps in use, or the charges do not fit the new list", "cabin at its limit",
         "only steps reserved for other cabins are free", "cabin above 7, or bad list of guarantees and limits",
-        "image needs edition 2: a cabin, guarantee or limit that edition 1 cannot say", "slip not accepted"};
+        "image needs edition 2: a cabin, guarantee, limit or contact that edition 1 cannot say", "slip not accepted"};
     static const int refusals[KNOWN] = {
         PLAN_DONE, PLAN_NOT_SOUND, PLAN_BAD_CAPACITY, PLAN_NOT_IN_USE, PLAN_BAD_EXIT, PLAN_EXIT_FILLED, PLAN_EXIT_EMPTY, PLAN_BAD_KIND, PLAN_FULL,
         PLAN_NOT_KEY_LINE, PLAN_BAD_RESULT, PLAN_TOO_SHORT, PLAN_NOT_ACCEPTED, PLAN_DOES_NOT_FIT, PLAN_CABIN_AT_LIMIT, PLAN_STEPS_RESERVED,
@@ -488,19 +488,22 @@ static void other_lists(void) {
     }
 }
 
-/* Whether a table is one that edition 1 can say. */
-static int is_of_one_cabin(const plan_table *t) {
+/* Whether edition 1 can say a sound table: cabin 0 has it to itself, and no contact is above 99 (W9). */
+static int old_can_say(const plan_table *t) {
     plan_table one = *t;
     of_one_cabin(&one);
+    for (int i = 0; i < PLAN_PLACES; i++) {
+        if (t->kinds[i] == PLAN_CONTACT && t->contents[i] > 99) return 0;
+    }
     return same(t, &one);
 }
 
-/* Whether an image that may be damaged is converted to the other edition exactly if it is loaded and that edition can say it: then it is the image of
- * the table loaded. Its own edition is refused. Counts the refusals. */
+/* Whether an image that may be damaged is converted to the other edition exactly if it is loaded and edition 1 can say it: then it is the image of the
+ * table loaded. What is loaded from edition 1, edition 1 can say. Its own edition is refused. Counts the refusals. */
 static int answered(int edition, const uint8_t *bytes, size_t length, int met[18]) {
     static uint8_t image[PLAN_IMAGE_MAX], old[PLAN_IMAGE_MAX];
     plan_table t;
-    const int refusal = plan_load_image(&t, bytes, length).refusal, needs = edition == 2 && !is_of_one_cabin(&t) ? PLAN_NEEDS_EDITION_2 : PLAN_DONE;
+    const int refusal = plan_load_image(&t, bytes, length).refusal, needs = old_can_say(&t) ? PLAN_DONE : PLAN_NEEDS_EDITION_2;
     const size_t full = plan_write_image(&t, image, sizeof image).length, size = old_image(image, full, old);
     const int wanted = refusal ? refusal : needs;
     met[wanted]++;
@@ -639,7 +642,8 @@ static void refusals(void) {
     REFUSED(6, f, plan_link(&f.table, 0, 0, 9, 9));
     REFUSED(7, f, plan_add(&f.table, 0, 0, PLAN_WAIT, 0, 7));
     REFUSED(7, f, plan_add(&f.table, 0, 0, PLAN_WAIT, 601, 0));
-    REFUSED(7, f, plan_add(&f.table, 0, 0, PLAN_CONTACT, 100, 0));
+    REFUSED(7, f, plan_add(&f.table, 0, 0, PLAN_CONTACT, 1000, 0));
+    REFUSED(7, f, plan_add(&f.table, 0, 0, PLAN_CONTACT, 65535, 0));
     REFUSED(7, f, plan_add(&f.table, 0, 0, PLAN_MESSAGE, 16, 0));
     REFUSED(7, f, plan_add(&f.table, 0, 0, PLAN_ALARM, 0, 0));
     REFUSED(7, f, plan_add(&f.table, 0, 0, 257, 0, 0));
@@ -727,7 +731,7 @@ static void cabins(void) {
     out.table.last = 6;
     REFUSED(1, out, plan_add(&out.table, 9, 9, 9, 9, 8));
     REFUSED(14, m, plan_add(t, 0, 0, PLAN_CONTACT, 0, 2));
-    REFUSED(7, m, plan_add(t, 0, 0, PLAN_CONTACT, 100, 2));
+    REFUSED(7, m, plan_add(t, 0, 0, PLAN_CONTACT, 1000, 2));
     expect(gave(plan_add(t, 0, 0, PLAN_CONTACT, 0, 3), 0, 1, 0) && gave(plan_add(t, 1, 0, PLAN_CONTACT, 0, 3), 0, 2, 0), "two that are not reserved");
     REFUSED(15, m, plan_add(t, 2, 0, PLAN_CONTACT, 0, 3));
     REFUSED(14, m, plan_add(t, 2, 0, PLAN_CONTACT, 0, 2));
@@ -1373,6 +1377,88 @@ static void slip_lengths(void) {
     expect(gave(plan_take_back(&m.table, bytes, LENGTH), 0, 1, 0) && memcmp(&m, &was, sizeof m) == 0, "the slip alone");
 }
 
+/* Whether an image of the edition takes a content of a kind (W9); a table takes what edition 2 does. */
+static int takes(int edition, uint16_t kind, uint16_t content) {
+    if (kind == PLAN_CONTACT) return content <= (edition == 1 ? 99 : 999);
+    return kind == PLAN_MESSAGE ? content <= 15 : content >= 1 && content <= 600;
+}
+
+/* Whether this kind and content, in place of those of P1's step, are taken or refused wherever they can be given: in an add, in a key line, in a table
+ * and in images of both editions, loaded and converted. */
+static int answered_content(const plan_table *p, uint16_t kind, uint16_t content) {
+    enum { LENGTH = 42 + 2 * 22, OLD_LENGTH = 10 + 2 * 20 };
+    const int taken = takes(2, kind, content), old_taken = takes(1, kind, content);
+    const int refusal = taken ? PLAN_DONE : PLAN_BAD_KIND, down = taken ? PLAN_NEEDS_EDITION_2 : PLAN_NOT_ACCEPTED;
+    uint8_t image[LENGTH], old[OLD_LENGTH], line[12];
+    plan_table t = *p, u;
+    t.kinds[1] = kind, t.contents[1] = content;
+    int all = plan_is_sound(&t) == taken;
+    fresh(&u, 4);
+    all = all && gave(plan_add(&u, 0, 0, kind, content, 0), refusal, taken, 0) && same(&u, &t) == taken;
+    if (content <= 999) {
+        memcpy(line, "H*100000000A", sizeof line);
+        line[7] += (uint8_t)kind, line[8] += (uint8_t)(content / 100), line[9] += (uint8_t)(content / 10 % 10), line[10] += (uint8_t)(content % 10);
+        fresh(&u, 4);
+        all = all && gave(plan_key_line(&u, line, sizeof line), refusal, taken, 0) && same(&u, &t) == taken;
+    }
+    plan_write_image(p, image, LENGTH);
+    record_of(&t, 1, image + 42 + 22);
+    old_image(image, LENGTH, old);
+    all = all && (taken ? gave(plan_load_image(&u, image, LENGTH), 0, 0, 0) && same(&u, &t) : not_loaded(image, LENGTH));
+    all = all && (old_taken ? gave(plan_load_image(&u, old, OLD_LENGTH), 0, 0, 0) && same(&u, &t) : not_loaded(old, OLD_LENGTH));
+    if (old_taken) return all && both_ways(&t);
+    all = all && not_converted(1, image, LENGTH, 0, down) && not_converted(1, image, LENGTH, PLAN_IMAGE_MAX, down);
+    return all && not_converted(2, old, OLD_LENGTH, 0, PLAN_NOT_ACCEPTED) && not_converted(2, old, OLD_LENGTH, PLAN_IMAGE_MAX, PLAN_NOT_ACCEPTED);
+}
+
+/* Longer phone books (W9): the contents of each kind, then one larger contact among three in images of both editions, in a squeeze and in a slip. */
+static void contacts(void) {
+    enum { LENGTH = 42 + 4 * 22, OLD_LENGTH = 10 + 4 * 20, CONTENT = 6 + 44 + 8 };
+    static const char *const kinds[3] = {"contents of contacts", "contents of messages", "contents of waits"};
+    static const uint16_t larger[3] = {100, 256, 999}, of_a_slip[2] = {1000, 100};
+    static const plan_quota shared_list[PLAN_CABINS] = {{1, 3}, {0, 1}};
+    uint8_t image[LENGTH], old[OLD_LENGTH], other[LENGTH], slip[94];
+    lent m = p1();
+    const plan_table p = m.table;
+    plan_table *t = &m.table;
+    for (uint16_t kind = PLAN_CONTACT; kind <= PLAN_WAIT; kind++) {
+        int all = 1;
+        for (long content = 0; content < 65536; content += content < 1100 ? 1 : 97) all = all && answered_content(&p, kind, (uint16_t)content);
+        expect(all, kinds[kind - 1]);
+    }
+    fresh(t, 4);
+    for (uint16_t exit = 0; exit < 3; exit++) plan_add(t, 0, exit, PLAN_CONTACT, 99, 0);
+    expect(both_ways(t), "three times contact 99");
+    const lent was = m;
+    for (int i = 0; i < 9; i++) {
+        m = was;
+        t->contents[i % 3 + 1] = larger[i / 3];
+        plan_write_image(t, image, LENGTH);
+        turned(image, LENGTH, 42, 22, other);
+        expect(needs_edition_2(image, LENGTH) && needs_edition_2(other, LENGTH), "a contact above 99, under the list of edition 1");
+        expect(not_converted(1, image, LENGTH - 1, 0, PLAN_NOT_ACCEPTED), "and the image cut short");
+        old_image(image, LENGTH, old);
+        turned(old, OLD_LENGTH, 10, 20, other);
+        expect(not_loaded(old, OLD_LENGTH) && not_loaded(other, OLD_LENGTH), "a contact above 99 in edition 1");
+        expect(not_converted(2, old, OLD_LENGTH, 0, PLAN_NOT_ACCEPTED) && not_converted(2, other, OLD_LENGTH, LENGTH, PLAN_NOT_ACCEPTED), "going up");
+    }
+    memcpy(t->quotas, shared_list, sizeof shared_list);
+    plan_write_image(t, image, LENGTH);
+    expect(needs_edition_2(image, LENGTH), "a contact above 99, and another list");
+
+    m = f4();
+    plan_add(t, 0, 0, PLAN_MESSAGE, 15, 0);
+    plan_add(t, 0, 1, PLAN_CONTACT, 999, 0);
+    plan_clear(t, 0, 0);
+    expect(gave(squeeze(t, 2), 0, 0, 0) && plan_read(t, 1).kind == PLAN_CONTACT && plan_read(t, 1).content == 999, "contact 999, squeezed");
+    expect(regretted(&m, 0, 1, 1, 1), "contact 999, cleared and taken back");
+    plan_clear_with_slip(t, 0, 1, slip, sizeof slip);
+    put_words(slip + CONTENT, of_a_slip, 1);
+    expect(not_taken_back(&m, slip, sizeof slip, PLAN_SLIP_NOT_ACCEPTED), "a slip with contact 1000");
+    put_words(slip + CONTENT, of_a_slip + 1, 1);
+    expect(gave(plan_take_back(t, slip, sizeof slip), 0, 1, 0) && plan_read(t, 1).content == 100 && edges_stand(&m), "a slip with contact 100");
+}
+
 /* The steps that are in use in the first table and free in the second, ascending; gives their number. */
 static int gone(const plan_table *before, const plan_table *after, uint8_t *steps) {
     int many = 0;
@@ -1556,6 +1642,7 @@ int main(void) {
     regrets();
     damaged_slips();
     slip_lengths();
+    contacts();
     previews();
     every_exit();
     previews_refused();

@@ -28,6 +28,29 @@ const fn fields(number: u16, kind: u16, content: u16, bits: u16) -> u64 {
 /// The least that these fields may be, by the kind. Only the alarm is step 0.
 const LEAST: [u64; 4] = [0, fields(1, 1, 0, 0), fields(1, 2, 0, 0), fields(1, 3, 1, 0)];
 
+/// The highest contact, and the highest that an old telephone takes, which has edition 1.
+const HIGHEST_CONTACT: u16 = 999;
+const OLD_HIGHEST_CONTACT: u16 = 99;
+
+/// The most that these fields may be, by the kind, where contacts go up to this one.
+#[inline(always)]
+fn most(capacity: u16, contact: u16) -> [u64; 4] {
+    let last = capacity - 1;
+    [
+        fields(0, 0, 0, 31),
+        fields(last, 1, contact, 31),
+        fields(last, 2, 15, 31),
+        fields(last, 3, 600, 31),
+    ]
+}
+
+/// The highest bit of each word, where the fields of a step are within their ranges, and other bits. Every field has to be below 2^15.
+#[inline(always)]
+fn within(all: u64, most: &[u64; 4]) -> u64 {
+    let kind = (all >> 16) as usize % 4;
+    (most[kind] | HIGH).wrapping_sub(all) & (all | HIGH).wrapping_sub(LEAST[kind])
+}
+
 /// The counters that empty exits are withdrawn from, one for each exit, past those of the steps.
 const NO_LINK: u64 = four(COUNTERS as u64) + 0x0003_0002_0001_0000;
 
@@ -65,8 +88,8 @@ struct Accepted<'a, const STEP: usize> {
     /// For each step number, 1 more than the place of its record, or 0.
     places: [u8; PLACES],
     ascending: bool,
-    /// Whether all steps are cabin 0's, which has the list of edition 1.
-    sole: bool,
+    /// Whether edition 1 can say it: all steps are cabin 0's, which has the list of edition 1, and an old telephone takes the contacts.
+    sayable: bool,
 }
 
 /// Reads an image of the edition whose records have these lengths.
@@ -91,21 +114,15 @@ fn read<const FIRST: usize, const STEP: usize>(image: &[u8]) -> Option<Accepted<
     let (exits, _) = counter.as_chunks_mut::<EXITS>();
     let mut left = [0u16; 2 * COUNTERS];
     left[COUNTERS..].fill(WEAK);
-    let most = [
-        fields(0, 0, 0, 31),
-        fields(capacity - 1, 1, 99, 31),
-        fields(capacity - 1, 2, 15, 31),
-        fields(capacity - 1, 3, 600, 31),
-    ];
-    let (mut frames, mut above, mut within, mut bad_links, mut any_cabin) = (0, 0, HIGH, 0, 0);
+    let old = most(capacity, OLD_HIGHEST_CONTACT);
+    let (mut frames, mut above, mut in_old, mut bad_links, mut any_cabin) = (0, 0, HIGH, 0, 0);
     let (mut ascending, mut before) = (true, -1);
     for (place, record) in records.iter().enumerate() {
         frames |= first_words(record) ^ frame(STEP);
-        // A field of 2^15 or more shows in `above`. Any other leaves the highest bit of its word where it is within its range.
+        // A field of 2^15 or more shows in `above`. Any other leaves the highest bit of its word where it is within edition 1's range.
         let all = four_words(record, 4);
-        let kind = (all >> 16) as usize % 4;
         above |= all;
-        within &= (most[kind] | HIGH).wrapping_sub(all) & (all | HIGH).wrapping_sub(LEAST[kind]);
+        in_old &= within(all, &old);
         if STEP == RECORD {
             any_cabin |= word(record, OLD_RECORD);
         }
@@ -139,9 +156,15 @@ fn read<const FIRST: usize, const STEP: usize>(image: &[u8]) -> Option<Accepted<
         left[2 * step] |= own[step] << 15;
         left[2 * step + 1] |= (own[step] ^ 1) << 15;
     }
+    // Only where a field is out of edition 1's range, all are held to those of edition 2.
+    let fits = || {
+        let new = most(capacity, HIGHEST_CONTACT);
+        let in_new = |bits, record: &[u8; STEP]| bits & within(four_words(record, 4), &new);
+        STEP == RECORD && records.iter().fold(HIGH, in_new) == HIGH
+    };
     if frames != 0
         || above & HIGH != 0
-        || within != HIGH
+        || in_old != HIGH && !fits()
         || bad_links != 0
         || bad != 0
         || steps != count
@@ -149,14 +172,15 @@ fn read<const FIRST: usize, const STEP: usize>(image: &[u8]) -> Option<Accepted<
     {
         return None;
     }
-    let sole = STEP == OLD_RECORD || sole(header, capacity, records, any_cabin)?;
+    let sayable =
+        STEP == OLD_RECORD || sole(header, capacity, records, any_cabin)? && in_old == HIGH;
     (withdraw(&counter, &mut left) == count).then_some(Accepted {
         header,
         capacity,
         records,
         places,
         ascending,
-        sole,
+        sayable,
     })
 }
 
@@ -229,7 +253,7 @@ pub fn up(image: &[u8], buffer: &mut [u8]) -> Result<u16, u16> {
 #[inline(never)]
 pub fn down(image: &[u8], buffer: &mut [u8]) -> Result<u16, u16> {
     let image = read::<HEADER, RECORD>(image).ok_or(12u16)?;
-    if !image.sole {
+    if !image.sayable {
         return Err(17);
     }
     let length = OLD_HEADER + OLD_RECORD * image.records.len();

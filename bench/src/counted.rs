@@ -93,7 +93,7 @@ fn strong_counts(t: &Table) -> [u16; PLACES] {
 
 fn content_fits(kind: u16, content: u16) -> bool {
     match kind {
-        1 => content <= 99,
+        1 => content <= 999,
         2 => content <= 15,
         3 => (1..=600).contains(&content),
         _ => false,

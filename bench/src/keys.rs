@@ -29,7 +29,7 @@ fn line(random: &mut Random, table: &Table) -> Vec<u8> {
     let mut text = key_text(match random.pick(calls) {
         b'a' => {
             let (holder, exit) = place(random, table, false);
-            Command::Add { holder, exit, kind: 1, content: random.below(100) as u16, cabin: 0 }
+            Command::Add { holder, exit, kind: 1, content: random.below(1000) as u16, cabin: 0 }
         }
         b'l' => {
             let (source, source_exit) = place(random, table, true);

@@ -272,7 +272,7 @@ fn verdicts() -> (usize, usize) {
     for seed in 0..3 {
         let sound = Random(seed).sound_table();
         for at in 0..WORDS {
-            for value in [0, 1, 2, 3, 7, 8, 127, 128, 255, 256, 1024, 32768, 65535] {
+            for value in [0, 1, 2, 3, 7, 8, 127, 128, 255, 256, 999, 1000, 1024, 32768, 65535] {
                 let mut table = sound.clone();
                 *words(&mut table).nth(at).expect("a word of the table") = value;
                 note(&lend(&table));
@@ -876,11 +876,13 @@ fn print_numbers() {
 #[cfg(test)]
 mod tests {
     use super::*;
-    use compare::Refusals;
+    use compare::{every_content, has_larger_contact, two_steps, Refusals};
+    use reference::calls::fresh_for_cabin_0;
     use reference::convert::Conversion;
     use reference::faults::Fault;
     use reference::generate::{trials, Generator};
     use reference::history::run;
+    use reference::image::{in_edition_2, is_old, load};
 
     #[test]
     fn programs_agree() {
@@ -954,13 +956,20 @@ mod tests {
         assert!(many.into_iter().all(|number| number > 100), "{endings:?} {refusals:?}");
     }
 
-    /// Every image that is timed, with each byte at a few values, and generated conversions, with every refusal.
+    /// Every image that is timed, with each byte at a few values, and generated conversions, with every refusal. Many get 12 going up for a contact above
+    /// 99 alone, and 17 going down.
     #[test]
     fn conversions_agree() {
         let mut found = [Refusals::default(); 2];
+        let mut larger = [0; 2];
         let mut note = |way: Way, image: &[u8], room| {
-            let answer = conversion(way, image, room);
-            found[way as usize][usize::from(answer.err().unwrap_or(0))] += 1;
+            let refusal = conversion(way, image, room).err().unwrap_or(0);
+            found[way as usize][usize::from(refusal)] += 1;
+            if (way, refusal) == (Way::Up, 12) && is_old(image) || refusal == 17 {
+                let (table, _) = in_edition_2(image).map_or_else(|| load(&[]), |new| load(&new));
+                let sole = table.quotas == one_cabin(table.capacity);
+                larger[way as usize] += usize::from(sole && has_larger_contact(&table));
+            }
         };
         for table in [sole(), chain(1..128, Chain::Free), chain(1..128, Chain::Dense)] {
             for (way, mut image) in [true, false].into_iter().flat_map(|d| timed_images(&table, d))
@@ -987,6 +996,31 @@ mod tests {
         for (found, refusals) in found.iter().zip([&[0, 11, 12][..], &[0, 11, 12, 17]]) {
             assert!(refusals.iter().all(|&refusal: &usize| found[refusal] > 200), "{found:?}");
         }
+        assert!(larger.iter().all(|&images| images > 500), "{larger:?}");
+    }
+
+    /// Every content of each kind, added by all four, and in an image of each edition, converted by (a) and (d).
+    #[test]
+    fn contents_agree() {
+        let start = lend(&fresh_for_cabin_0(4));
+        let mut found = [Refusals::default(); 3];
+        for (kind, content) in every_content() {
+            let add = Command::Add { holder: 0, exit: 0, kind, content, cabin: 0 };
+            let table = two_steps(kind, content);
+            let image = encode(&table);
+            let added = Four::new(&start).edit(add).map(|_| 0);
+            assert_eq!(verdict(&lend(&table)), added.is_ok(), "{kind} {content}");
+            let old = in_edition_1(&image);
+            let answers = [added, conversion(Way::Up, &old, 86), conversion(Way::Down, &image, 50)];
+            for (found, answer) in found.iter_mut().zip(answers) {
+                found[usize::from(answer.err().unwrap_or(0))] += 1;
+            }
+        }
+        let [added, up, down] = found;
+        let all = 5 * 65536;
+        assert_eq!([added[0], added[7]], [1616, all - 1616]);
+        assert_eq!([up[0], up[12]], [716, all - 716]);
+        assert_eq!([down[0], down[17], down[12]], [716, 900, all - 1616]);
     }
 
     /// Histories of 200 calls from generated tables: each call with the table before it, and the table at the end.

@@ -91,7 +91,7 @@ impl Plan {
             return Err(5);
         }
         let fits = match kind {
-            1 => content <= 99,
+            1 => content <= 999,
             2 => content <= 15,
             3 => (1..=600).contains(&content),
             _ => false,

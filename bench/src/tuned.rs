@@ -60,7 +60,7 @@ fn charges(t: &Table) -> Option<Charges> {
         let cabin = t.cabins[i];
         // A wait has 1 to 600, which is 0 to 599 from 1 on.
         let wait = mask(kind == 3);
-        let most = mask(kind == 1) & 99 | mask(kind == 2) & 15 | wait & 599;
+        let most = mask(kind == 1) & 999 | mask(kind == 2) & 15 | wait & 599;
         bad |= own.saturating_sub(used) | content.wrapping_add(wait).saturating_sub(most);
         // A cabin is at most 7, and that of a free step 0.
         bad |= cabin.saturating_sub(used.wrapping_mul(CABINS as u16 - 1));
@@ -168,7 +168,7 @@ pub fn withdraw(counter: &[u16; LINKS], left: &mut [u16; 2 * COUNTERS]) -> u16 {
 
 fn content_fits(kind: u16, content: u16) -> bool {
     match kind {
-        1 => content <= 99,
+        1 => content <= 999,
         2 => content <= 15,
         3 => (1..=600).contains(&content),
         _ => false,

@@ -25,8 +25,10 @@ pub const WORDS: usize = size_of::<raw::Table>() / 2;
 pub type Refusals = [usize; 19];
 
 /// Numbers at and past the ends of ranges, and numbers that would wrap.
-pub const NUMBERS: [u16; 22] =
-    [0, 1, 2, 3, 4, 5, 7, 8, 15, 16, 31, 32, 99, 100, 127, 128, 129, 255, 256, 600, 32_768, 65_535];
+pub const NUMBERS: [u16; 24] = [
+    0, 1, 2, 3, 4, 5, 7, 8, 15, 16, 31, 32, 99, 100, 127, 128, 129, 255, 256, 600, 999, 1000,
+    32_768, 65_535,
+];
 
 /// The same table for the interface.
 pub fn lend(table: &Table) -> raw::Table {
@@ -372,6 +374,24 @@ pub fn any_exit(buffers: &[usize], call: impl Fn(u16, u16, usize) -> Call) {
     for (refusal, &times) in seen.iter().enumerate() {
         assert_eq!(times > 10, matches!(refusal, 0 | 3 | 4 | 6 | 11), "{seen:?}");
     }
+}
+
+/// Each kind from 0 to 4 with each content.
+pub fn every_content() -> impl Iterator<Item = (u16, u16)> {
+    (0..5).flat_map(|kind| (0..=u16::MAX).map(move |content| (kind, content)))
+}
+
+/// A table of capacity 4 with step 1 of this kind and content, which need not fit, at exit 0 of step 0.
+pub fn two_steps(kind: u16, content: u16) -> Table {
+    let mut table = fresh_for_cabin_0(4);
+    (table.last, table.used[1], table.targets[0], table.counts[2]) = (1, 1, 1, 1);
+    (table.kinds[1], table.contents[1]) = (kind, content);
+    table
+}
+
+/// Whether a table has a contact above 99, which no old telephone takes.
+pub fn has_larger_contact(table: &Table) -> bool {
+    table.kinds.iter().zip(&table.contents).any(|(&kind, &content)| kind == 1 && content > 99)
 }
 
 /// The first word in which two tables differ.

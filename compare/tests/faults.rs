@@ -99,8 +99,10 @@ fn starts() -> Vec<Start> {
     let image = encode(&ring(&[CONTACT; 5]));
     let long = [&image[..], &vec![0; 65_536]].concat();
     let loads = [image, Vec::new(), long].map(|image| Start::Load { image });
-    let fresh =
-        [0, 1, 128, 129].map(|capacity| Start::Fresh { capacity, quotas: one_cabin(capacity) });
+    let past_16_bits = (128, list(&[[32_768, 65_535]; 2]));
+    let fresh = [0, 1, 128, 129].map(|capacity| (capacity, one_cabin(capacity)));
+    let fresh = fresh.into_iter().chain([past_16_bits]);
+    let fresh = fresh.map(|(capacity, quotas)| Start::Fresh { capacity, quotas });
     (0..72).map(start).chain(fresh).chain(loads).collect()
 }
 
@@ -149,6 +151,7 @@ fn named() -> Vec<(Fault, Found)> {
     };
     let added: &[Evidence] = &[Refusal, Number(0), Table];
     let written: &[Evidence] = &[Refusal, Number(0), Lent];
+    let loaded = ways(&[Load], &[&[Refusal, Table]]);
     let convert = &[ConvertUp, ConvertDown];
     let lending = &[ConvertUp, ConvertDown, ClearWithSlip, PreviewClear];
     // a clearing with a slip made by one program and refused by the other, by what it freed or kept
@@ -181,10 +184,18 @@ fn named() -> Vec<(Fault, Found)> {
         (LimitBeforeFull, ways(&[Add, KeyLine], &[&[Refusal]])),
         (ReservedBeforeLimit, ways(&[Add, KeyLine], &[&[Refusal]])),
         (GuaranteeRefused, ways(&[Add, KeyLine], &[added])),
+        (OldRangeAdded, ways(&[Add, KeyLine], &[&[Refusal], added])),
+        // no key line has four digits
+        (OneContactMore, ways(&[Add], &[&[Refusal], added])),
+        (ContactInAByte, ways(&[Add, KeyLine], &[&[Table]])),
         (SumIn16Bits, &ways(&[Fresh], &[&[Refusal, Table]]) | &ways(&[Squeeze], &[&[Refusal]])),
         (ListBeforeRange, ways(&[Fresh, Squeeze], &[&[Refusal]])),
-        (EditionsMixed, ways(&[Load], &[&[Refusal, Table]])),
+        (EditionsMixed, loaded.clone()),
         (NoGuaranteeLoaded, ways(&[Load], &[&[Table]])),
+        (OldRangeUnasked, &loaded | &ways(&[ConvertUp], &[&[Refusal], written])),
+        (OldRangeInBoth, &loaded | &ways(&[ConvertDown], &[&[Refusal]])),
+        (OldRangeTo100, &loaded | &ways(convert, &[&[Refusal], written])),
+        (OldRangeOfWaits, &loaded | &ways(convert, &[&[Refusal], written])),
         (FitBeforeRange, ways(&[Squeeze], &[&[Refusal]])),
         (FitBeforeList, ways(&[Squeeze], &[&[Refusal]])),
         (FitBySize, ways(&[Squeeze], &[&[Refusal, Table]])),
@@ -251,6 +262,7 @@ fn named() -> Vec<(Fault, Found)> {
         (ListDropped, ways(&[ConvertDown], &[&[Refusal], written])),
         (LimitsDropped, ways(&[ConvertDown], &[&[Refusal], written])),
         (OtherPairsDropped, ways(&[ConvertDown], &[&[Refusal], written])),
+        (ContactsUnasked, ways(&[ConvertDown], &[&[Refusal], written])),
         (AlarmGuaranteed, ways(&[ConvertUp], &[&[Lent]])),
         (BitsDropped(31), ways(convert, &[&[Lent]])),
         (BitsDropped(16), ways(convert, &[&[Lent]])),

@@ -6,6 +6,7 @@ use reference::calls::{fresh_for_cabin_0, Command};
 use reference::faults::Fault;
 use reference::generate::{start, Generator, Random};
 use reference::history::{Call, Outcome};
+use reference::sound::CONTACT;
 use reference::table::Table;
 
 /// What a run of calls came across, so that a test can say that it covered what it should.
@@ -27,6 +28,10 @@ struct Seen {
     /// Accepted adds by their cabin, and refused ones for a cabin above 7.
     adds: [usize; 8],
     no_cabin: usize,
+    /// Adds of contacts above 99: accepted, accepted by key line, and of contact 1000, which is refused.
+    larger_contacts: usize,
+    keyed_contacts: usize,
+    no_contact: usize,
     /// Key lines refused by 14 and by 15.
     held_lines: [usize; 2],
     /// Trials by their ending.
@@ -56,6 +61,12 @@ impl Seen {
                 self.kept += usize::from(numbers[0] > numbers[1]);
             }
             _ => {}
+        }
+        if let Some(Command::Add { kind: CONTACT, content, .. }) = call.command() {
+            let larger = accepted && content > 99;
+            self.larger_contacts += usize::from(larger);
+            self.keyed_contacts += usize::from(larger && matches!(call, Call::KeyLine(_)));
+            self.no_contact += usize::from(content == 1000 && *refusal == 7);
         }
         match call {
             Call::Squeeze { .. } if accepted => {
@@ -165,6 +176,7 @@ fn histories_agree() {
     }
     assert!(seen.bad_lists > 100 && seen.too_small > 100 && seen.unfit_lists > 100);
     assert!(seen.adds.iter().all(|&adds| adds > 300) && seen.no_cabin > 100);
+    assert!(seen.larger_contacts > 1000 && seen.keyed_contacts > 300 && seen.no_contact > 50);
     assert!(seen.slips.iter().all(|&slips| slips > 300), "slips {:?}", seen.slips);
     assert!(seen.taken_back > 300 && seen.brought_back > 100 && seen.not_taken_back > 300);
     assert!(seen.previews.iter().all(|&made| made > 1000) && seen.part_goes > 30);

@@ -1,13 +1,15 @@
-//! Images of both editions: written, loaded, damaged a byte at a time, cut, extended, with their records in any order and of both editions; into
-//! buffers one byte short, exact and longer.
+//! Images of both editions: written, loaded, with every content, damaged a byte at a time, cut, extended, with their records in any order and of both
+//! editions; into buffers one byte short, exact and longer.
 
-use compare::{kept, Pair};
-use reference::cabins::{for_cabin_0, list};
+use compare::{every_content, has_larger_contact, kept, two_steps, Pair};
+use reference::cabins::list;
 use reference::calls::fresh_for_cabin_0;
 use reference::faults::Fault;
-use reference::generate::Random;
+use reference::generate::{for_old_telephone, old_image, Random};
 use reference::history::{Call, Start, UNTOUCHED};
-use reference::image::{fields, in_edition_1, in_edition_2, records, HEADER, RECORD};
+use reference::image::{
+    encode, fields, in_edition_1, in_edition_2, load, records, sizes, HEADER, RECORD,
+};
 use reference::plan::{plan_of, Plan};
 use reference::sound::sound;
 use reference::table::Table;
@@ -49,10 +51,10 @@ fn tables(seeds: std::ops::Range<u64>) -> impl Iterator<Item = Table> {
     ends.chain(seeds.map(|seed| Random(seed).sound_table()))
 }
 
-/// The image that both programs write, and the same in edition 1, each with the table that it is to load as.
+/// An image of edition 1 of a table, as an old telephone takes it, and the image that both programs write; each with the table that it is to load
+/// as.
 fn both_editions(table: &Table) -> [(Vec<u8>, Table); 2] {
-    let image = image_of(table);
-    [(in_edition_1(&image), for_cabin_0(table)), (image, table.clone())]
+    [(old_image(table), for_old_telephone(table)), (image_of(table), table.clone())]
 }
 
 #[test]
@@ -117,25 +119,73 @@ fn images_tell_tables_apart() {
     assert!(strengths > 100 && cabins > 1000 && quotas > 1000, "{strengths} {cabins} {quotas}");
 }
 
-/// Every byte of an image takes several wrong values; some of the results are accepted.
+/// Every byte of an image takes several wrong values; some of the results are accepted. In edition 1, many are refused for a contact alone; in edition 2
+/// such contacts are accepted.
 #[test]
 fn images_damaged() {
-    // refused and accepted, by edition
+    // refused and accepted, by edition; refused in edition 1 and accepted in edition 2 for a larger contact
     let mut found = [[0; 2]; 2];
+    let mut larger = [0; 2];
     for table in tables(500..560) {
         for (edition, (mut image, _)) in both_editions(&table).into_iter().enumerate() {
+            let (header, record) = sizes(&image);
             for at in 0..image.len() {
+                let of_content = at >= header && (at - header) % record / 2 == 4;
                 let was = image[at];
                 let near = [was ^ 1, was ^ 2, was ^ 16, was.wrapping_add(1), was.wrapping_sub(1)];
                 for now in near.into_iter().chain([0, 127, 128, 255]) {
                     image[at] = now;
-                    found[edition][usize::from(loaded(&image).is_some())] += 1;
+                    let table = loaded(&image);
+                    found[edition][usize::from(table.is_some())] += 1;
+                    if of_content && table.is_some() == (edition == 1) {
+                        let (in_2, _) = load(&in_edition_2(&image).expect("records as they were"));
+                        larger[edition] += usize::from(has_larger_contact(&in_2));
+                    }
                 }
                 image[at] = was;
             }
         }
     }
     assert!(found.iter().all(|[no, yes]| *no > 1000 && *yes > 100), "{found:?}");
+    assert!(larger.iter().all(|&times| times > 1000), "{larger:?}");
+}
+
+/// Every content of each kind in both editions: they differ in the contacts 100 to 999 alone.
+#[test]
+fn every_content_agrees() {
+    let mut accepted = [[0; 5]; 2];
+    for (kind, content) in every_content() {
+        let table = two_steps(kind, content);
+        let image = encode(&table);
+        let editions = [in_edition_1(&image), image].map(|image| loaded(&image));
+        for (accepted, loaded) in accepted.iter_mut().zip(&editions) {
+            assert!(loaded.as_ref().is_none_or(|loaded| *loaded == table), "another table");
+            accepted[usize::from(kind)] += usize::from(loaded.is_some());
+        }
+        let differ = editions[0] != editions[1];
+        assert_eq!(differ, kind == 1 && (100..1000).contains(&content), "{kind} {content}");
+    }
+    assert_eq!(accepted, [[0, 100, 16, 600, 0], [0, 1000, 16, 600, 0]]);
+}
+
+/// Images of old telephones in which one contact is 100 or more, wherever it stands: refused in edition 1, and accepted in edition 2.
+#[test]
+fn one_larger_contact() {
+    let mut refused = 0;
+    for mut table in tables(1700..1730).map(|table| for_old_telephone(&table)) {
+        for step in (0..128).filter(|&step| table.kinds[step] == 1) {
+            let was = table.contents[step];
+            for contact in [99, 100, 355, 999] {
+                table.contents[step] = contact;
+                let image = encode(&table);
+                assert_eq!(loaded(&in_edition_1(&image)).is_some(), contact == 99);
+                assert!(loaded(&image) == Some(table.clone()), "{step} {contact}");
+                refused += usize::from(contact > 99);
+            }
+            table.contents[step] = was;
+        }
+    }
+    assert!(refused > 1000, "{refused}");
 }
 
 /// A field with an odd number in it, a cut, records again, and records of both editions.
@@ -165,7 +215,7 @@ fn editions_do_not_mix() {
     let mut random = Random(12);
     let mut mixed = 0;
     for table in tables(1640..1700) {
-        let image = image_of(&for_cabin_0(&table));
+        let image = image_of(&for_old_telephone(&table));
         for record in 0..records(&image).len() {
             assert_eq!(loaded(&random.mixed_image(&image, record)), None, "record {record}");
             mixed += 1;

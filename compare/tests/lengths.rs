@@ -4,9 +4,9 @@
 use compare::{both, ring, rounds, Pair};
 use reference::calls::{fresh_for_cabin_0, Command, Ending};
 use reference::faults::Fault;
-use reference::generate::Random;
+use reference::generate::{old_image, Random};
 use reference::history::{Call, Outcome, Start, UNTOUCHED};
-use reference::image::{encode, in_edition_1, records};
+use reference::image::{encode, records};
 use reference::slip::between;
 use reference::sound::{CONTACT, MESSAGE, WAIT};
 use reference::table::Table;
@@ -155,8 +155,7 @@ fn long_images() {
             load_refused(vec![byte; length]);
         }
     }
-    let images = tables().map(|table| encode(&table));
-    for image in images.iter().map(|image| in_edition_1(image)).chain(images.clone()) {
+    for image in tables().iter().flat_map(|table| [old_image(table), encode(table)]) {
         let (header, record) = (records(&image)[0].len(), records(&image)[1].len());
         let start = Start::Load { image: image.clone() };
         assert_eq!(Pair::begin(&start, Fault::None).1.unwrap().refusal, 0);

@@ -1,13 +1,13 @@
 //! What the tool `plan` reads off tables, held against the second program: which steps a clearing makes doubtful, keeps and frees; the strong chains;
 //! what a key line did; how two tables differ; and the rule that a refused image breaks.
 
-use compare::lend;
+use compare::{has_larger_contact, lend, two_steps, NUMBERS};
 use plan::change::{checked, Change};
 use plan::check::first_fault;
 use plan::diff::{diff, Verdict};
 use plan::view::View;
 use reference::calls::{add, clear, fresh_for_cabin_0, Command};
-use reference::generate::{Generator, Random};
+use reference::generate::{old_image, Generator, Random};
 use reference::image::{encode, in_edition_1, load, records};
 use reference::keys::{decode, key_line};
 use reference::plan::plan_of;
@@ -241,17 +241,41 @@ fn rules_broken(whole: &[u8], random: &mut Random) -> BTreeSet<u8> {
     rules
 }
 
-/// All rules come up; in edition 1, all but those about cabins.
+/// All rules come up; in edition 1, all but those about cabins. A contact above 99 breaks rule 7 in edition 1, and none in edition 2.
 #[test]
 fn broken_rules() {
     let (mut old_rules, mut rules) = (BTreeSet::new(), BTreeSet::new());
+    let mut larger = 0;
     for seed in 9500..9510 {
         let mut random = Random(seed);
-        let image = encode(&random.sound_table());
-        old_rules.extend(rules_broken(&in_edition_1(&image), &mut random));
+        let table = random.sound_table();
+        let image = encode(&table);
+        old_rules.extend(rules_broken(&old_image(&table), &mut random));
         rules.extend(rules_broken(&image, &mut random));
+        let has_larger = has_larger_contact(&table);
+        assert_eq!(rule(&in_edition_1(&image)), has_larger.then_some(7));
+        larger += usize::from(has_larger);
     }
     assert_eq!((old_rules, rules), ((1..=10).collect(), (1..=14).collect()));
+    assert!(larger > 5, "{larger}");
+}
+
+/// A kind or a content out of range breaks rule 7, in both editions.
+#[test]
+fn contents_out_of_range() {
+    // contents that fit edition 1, by the kind, and edition 2
+    let mut fitting = [[0; 5]; 2];
+    for (kind, content) in (0..5).flat_map(|kind| NUMBERS.map(|content| (kind, content))) {
+        let image = encode(&two_steps(kind, content));
+        for (fitting, image) in fitting.iter_mut().zip([in_edition_1(&image), image]) {
+            let rule = rule(&image);
+            assert!(matches!(rule, None | Some(7)), "{kind} {content}: {rule:?}");
+            fitting[usize::from(kind)] += usize::from(rule.is_none());
+        }
+    }
+    let upto = |highest| NUMBERS.into_iter().filter(|&number| number <= highest).count();
+    let [old, new] = [99, 999].map(|highest| [0, upto(highest), upto(15), upto(600) - 1, 0]);
+    assert_eq!(fitting, [old, new]);
 }
 
 /// A change of an image: bytes put in, or its length.

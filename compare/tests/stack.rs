@@ -105,6 +105,11 @@ fn calls(exit: u16) -> Vec<Taken> {
     unsound.counts[255] += 1;
     let (image, shared_image) = (encode(&chain), encode(&shared));
     let old_image = in_edition_1(&image);
+    // no old telephone takes the last contact
+    let mut larger = chain.clone();
+    larger.contents[127] = 100;
+    let larger_image = encode(&larger);
+    let old_larger_image = in_edition_1(&larger_image);
     let [least, most, bad] = [127, 128, 129].map(|capacity| lend_list(&one_cabin(capacity)));
     let own = lend_list(&shared.quotas);
     let (mut buffer, mut trace) = ([0; IMAGE as usize], [0; 127]);
@@ -144,6 +149,7 @@ fn calls(exit: u16) -> Vec<Taken> {
         taken("add", &open, 127, |t| raw::add(t, 126, exit, 1, 0, 0).first),
         taken("add, refused as full", &chain, 8, |t| raw::add(t, 127, exit, 1, 0, 0).refusal),
         taken("add, exit filled", &chain, 5, |t| raw::add(t, 0, exit, 1, 0, 0).refusal),
+        taken("add, no such contact", &open, 7, |t| raw::add(t, 126, exit, 1, 1000, 0).refusal),
         taken("add for cabin 7", &shared, 127, |t| raw::add(t, 126, exit, 1, 0, 7).first),
         taken("add at a limit", &shared, 14, |t| raw::add(t, 126, exit, 1, 0, 6).refusal),
         taken("add, steps reserved", &shared, 15, |t| raw::add(t, 126, exit, 1, 0, 0).refusal),
@@ -209,9 +215,18 @@ fn calls(exit: u16) -> Vec<Taken> {
         taken("load image", &open, 0, |t| raw::load_image(t, &image).refusal),
         taken("load image of edition 1", &open, 0, |t| raw::load_image(t, &old_image).refusal),
         taken("load image, refused", &open, 12, |t| raw::load_image(t, &image[1..]).refusal),
+        taken("load image, larger contact", &open, 0, |t| {
+            raw::load_image(t, &larger_image).refusal
+        }),
+        taken("load image of edition 1, larger contact", &open, 12, |t| {
+            raw::load_image(t, &old_larger_image).refusal
+        }),
         measured("convert up", IMAGE, 0, || raw::convert_up(&old_image, &mut buffer).length),
         measured("convert up, not accepted", 12, 0, || {
             raw::convert_up(&old_image[1..], &mut buffer).refusal
+        }),
+        measured("convert up, larger contact", 12, 0, || {
+            raw::convert_up(&old_larger_image, &mut buffer).refusal
         }),
         measured("convert up, other edition", 12, 0, || {
             raw::convert_up(&image, &mut buffer).refusal
@@ -228,6 +243,9 @@ fn calls(exit: u16) -> Vec<Taken> {
         }),
         measured("convert down, eight cabins", 17, 0, || {
             raw::convert_down(&shared_image, &mut buffer).refusal
+        }),
+        measured("convert down, larger contact", 17, 0, || {
+            raw::convert_down(&larger_image, &mut buffer).refusal
         }),
         measured("convert down, no room", 11, 0, || {
             raw::convert_down(&image, &mut buffer[..2569]).refusal

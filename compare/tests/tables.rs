@@ -1,6 +1,6 @@
-//! Single calls on chosen tables: the cases of document 01, and every refusal's order on wild tables.
+//! Single calls on chosen tables: the cases of document 01, every content, and every refusal's order on wild tables.
 
-use compare::{lend, words, Pair, WORDS};
+use compare::{every_content, lend, two_steps, words, Pair, WORDS};
 use reference::cabins::one_cabin;
 use reference::calls::{fresh_for_cabin_0, Command};
 use reference::faults::Fault;
@@ -105,6 +105,7 @@ fn examples_of_document_01() {
             (clear(0, 0), [6, 0, 0]),
             (add(0, 0, 3, 0), [7, 0, 0]),
             (add(0, 0, 3, 601), [7, 0, 0]),
+            (add(0, 0, 1, 1000), [7, 0, 0]),
             (add(256, 0, 1, 0), [3, 0, 0]),
             (add(0, 256, 1, 0), [4, 0, 0]),
             (add(0, 0, 257, 0), [7, 0, 0]),
@@ -113,8 +114,28 @@ fn examples_of_document_01() {
             (Call::Trial { limit: 2, results: vec![0, 3], trace: 1 }, [11, 0, 0]),
             (add(0, 0, 1, 0), [0, 1, 0]),
             (add(0, 0, 1, 0), [5, 0, 0]),
+            (add(0, 1, 1, 999), [0, 2, 0]),
+            (Call::KeyLine(b"H*100021999A".to_vec()), [0, 3, 0]),
         ],
     );
+}
+
+/// Every content of each kind, added: 1000 contacts, 16 messages and 600 waits are accepted.
+#[test]
+fn every_content_agrees() {
+    let mut accepted = [0; 5];
+    let start = fresh_for_cabin_0(4);
+    for (kind, content) in every_content() {
+        let mut pair = Pair::new(&start, Fault::None);
+        let outcome = pair.call(&add(0, 0, kind, content)).unwrap();
+        let (expected, refusal) = match outcome.refusal {
+            0 => (two_steps(kind, content), 0),
+            _ => (start.clone(), 7),
+        };
+        assert!(pair.second == expected && outcome.refusal == refusal, "{kind} {content}");
+        accepted[usize::from(kind)] += usize::from(outcome.refusal == 0);
+    }
+    assert_eq!(accepted, [0, 1000, 16, 600, 0]);
 }
 
 /// Each call once, with arguments in range and out of it, on one table.
@@ -128,7 +149,7 @@ fn every_call(table: &Table, random: &mut Random) {
         Call::KeyLine(b"H*4A".to_vec()),
     ];
     for _ in 0..3 {
-        let mut number = || random.pick(&[0, 0, 1, 1, 2, 3, 4, 7, 127, 128, 300, 65535]);
+        let mut number = || random.pick(&[0, 0, 1, 1, 2, 3, 4, 7, 127, 128, 300, 999, 1000, 65535]);
         let [a, b, c, d] = [number(), number(), number(), number()];
         let cabin = number() % 10;
         let quotas = random.list(a, &table.charges());
@@ -199,7 +220,7 @@ fn soundness_agrees_word_by_word() {
     for seed in 30..34 {
         let table = Random(seed).sound_table();
         for at in 0..WORDS {
-            for value in [0, 1, 2, 7, 8, 127, 128, 65535] {
+            for value in [0, 1, 2, 7, 8, 127, 128, 999, 1000, 65535] {
                 let mut changed = table.clone();
                 *words(&mut changed).nth(at).unwrap() = value;
                 let found = raw::is_sound(&lend(&changed));

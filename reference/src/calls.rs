@@ -7,7 +7,7 @@ use std::iter::successors;
 use crate::cabins::{charge_order, list_order, one_cabin};
 use crate::clearing;
 use crate::faults::Fault;
-use crate::sound::{fits, sound, CONTACT, WAIT};
+use crate::sound::{fits, sound, CONTACT, HIGHEST_CONTACT, OLD_HIGHEST_CONTACT, WAIT};
 use crate::table::{place, Quotas, Table, CABINS, EXITS};
 
 /// An answer: the refusal or 0, then two numbers.
@@ -239,6 +239,10 @@ pub fn edit(table: &mut Table, mut command: Command, fault: Fault) -> Answer {
     }
     let (first, second) = match command {
         Command::Add { holder, exit, kind, content, cabin } => {
+            let content = match (kind, fault) {
+                (CONTACT, Fault::ContactInAByte) => content % 256,
+                _ => content,
+            };
             let number = accepted_add(table, place(holder.into(), exit.into()), kind, content);
             table.cabins[usize::from(number)] = match fault {
                 Fault::CabinForgotten => 0,
@@ -280,12 +284,17 @@ pub fn edit_refusal(table: &Table, command: Command, fault: Fault) -> u16 {
     let mut order = vec![(1, !sound(table))];
     match command {
         Command::Add { holder, exit, kind, content, cabin } => {
+            let in_range = match (kind, fault) {
+                (CONTACT, Fault::OldRangeAdded) => content <= OLD_HIGHEST_CONTACT,
+                (CONTACT, Fault::OneContactMore) => content <= HIGHEST_CONTACT + 1,
+                _ => fits(kind, content),
+            };
             order.extend([
                 (16, usize::from(cabin) >= CABINS),
                 no_step(holder),
                 no_exit(exit),
                 filled(holder, exit),
-                (7, !fits(kind, content)),
+                (7, !in_range),
                 (8, table.size() == table.capacity),
             ]);
             order.extend(charge_order(table, cabin, fault));

@@ -1,13 +1,14 @@
 //! Conversions of an image to the other edition: its records are put into that edition one by one,
 //! and sorted. A table is made to see whether the image is accepted, and for nothing else.
-//! Renders W6 of document 02.
+//! Renders W6 of document 02, and what W9 adds to its 17.
 
 use crate::cabins::{one_cabin, pairs};
 use crate::calls::{bare, first_refusal, Answer};
 use crate::faults::{cut, put, spoil, Fault, Length, Sort};
 use crate::history::{with_buffer, Outcome};
 use crate::image::{
-    fields, in_edition_1, in_edition_2, is_old, load, sizes, sorted, HEADER, RECORD,
+    fields, in_edition_1, in_edition_2, is_old, load_with, old_telephone_takes, sizes, sorted,
+    HEADER, RECORD,
 };
 
 /// Up is from edition 1 to edition 2, down is back.
@@ -42,7 +43,9 @@ pub fn convert(way: Way, image: &[u8], buffer: &mut [u8]) -> Answer {
 
 /// Converts an image, with a fault or without.
 fn convert_with(way: Way, image: &[u8], buffer: &mut [u8], fault: Fault) -> Answer {
-    let accepted = load(image).1.refusal == 0;
+    // no conversion mixes editions, whatever the fault
+    let reading = if fault == Fault::EditionsMixed { Fault::None } else { fault };
+    let accepted = load_with(image, reading).1.refusal == 0;
     let other = is_old(image) != (way == Way::Up) && fault != Fault::SameEditionTaken;
     let written = if accepted { converted(way, image, fault) } else { Vec::new() };
     let needed = match fault {
@@ -73,14 +76,14 @@ fn convert_with(way: Way, image: &[u8], buffer: &mut [u8], fault: Fault) -> Answ
     Answer { first: length as u16, ..Default::default() }
 }
 
-/// Whether edition 1 can say what an image has: all steps are cabin 0's, and the list is W5's for
-/// edition 1. It can be read on any bytes.
+/// Whether edition 1 can say what an image has: all steps are cabin 0's, the list is W5's for
+/// edition 1, and an old telephone takes the contacts. It can be read on any bytes.
 fn sayable(image: &[u8], fault: Fault) -> bool {
     in_edition_2(image).is_none_or(|image| {
         let [_, _, capacity, _, _, quotas @ ..] = fields::<21>(&image);
         let for_cabin_0 = image[HEADER..].chunks(RECORD).all(|step| step.ends_with(&[0, 0]));
         let (found, wanted) = (pairs(&quotas), pairs(&one_cabin(capacity)));
-        match fault {
+        let for_one_cabin = match fault {
             Fault::CabinsDropped => true,
             Fault::ListDropped => for_cabin_0,
             Fault::LimitsDropped => {
@@ -88,7 +91,8 @@ fn sayable(image: &[u8], fault: Fault) -> bool {
             }
             Fault::OtherPairsDropped => for_cabin_0 && found[0] == wanted[0],
             _ => for_cabin_0 && found == wanted,
-        }
+        };
+        for_one_cabin && (fault == Fault::ContactsUnasked || old_telephone_takes(&image, fault))
     })
 }
 

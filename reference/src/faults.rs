@@ -1,10 +1,10 @@
 //! Deliberate errors, so that wrong variants can be run against the right one.
-//! The first fifteen are other ways to edit and stand in `calls`, `cabins` and `clearing`, the next
-//! two are of lists, two of images, eleven are other ways to squeeze, eight other ways to make a
-//! trial, twelve other ways to clear with a slip, twelve other ways to take it back, fourteen other
-//! ways to tell what a clearing would free, and seventeen other ways to convert an image, of which
-//! two are of slips and previews too. Each of the rest spoils what a right call gives, in one part
-//! of it.
+//! The first nineteen are other ways to edit and stand in `calls`, `cabins` and `clearing`, the next
+//! two are of lists, six of images, of which four are of conversions too, eleven are other ways to
+//! squeeze, eight other ways to make a trial, twelve other ways to clear with a slip, twelve other
+//! ways to take it back, fourteen other ways to tell what a clearing would free, and eighteen other
+//! ways to convert an image, of which two are of slips and previews too. Each of the rest spoils
+//! what a right call gives, in one part of it.
 
 use crate::calls::{Command, Ending};
 use crate::convert::Way;
@@ -51,6 +51,12 @@ pub enum Fault {
     /// A cabin below its guarantee is refused too, where all free steps are guaranteed to some
     /// cabin.
     GuaranteeRefused,
+    /// Add takes the contacts of an old telephone alone.
+    OldRangeAdded,
+    /// Add takes one contact more, 1000.
+    OneContactMore,
+    /// A contact added is cut to 8 bits.
+    ContactInAByte,
     /// The guarantees of a list are added up in 16 bits.
     SumIn16Bits,
     /// A fresh table or a squeeze looks at the list before the range of the capacity.
@@ -59,6 +65,14 @@ pub enum Fault {
     EditionsMixed,
     /// An image of edition 1 is loaded with the limit of cabin 0 and without its guarantee.
     NoGuaranteeLoaded,
+    /// An image of edition 1 may have any contact.
+    OldRangeUnasked,
+    /// An image of edition 2 may only have contacts that an old telephone takes.
+    OldRangeInBoth,
+    /// An old telephone takes one contact more, 100.
+    OldRangeTo100,
+    /// An old telephone takes waits up to 99 alone.
+    OldRangeOfWaits,
     /// A squeeze looks at the steps in use before the range of the capacity.
     FitBeforeRange,
     /// A squeeze looks at the steps in use before the list.
@@ -173,9 +187,10 @@ pub enum Fault {
     PreviewRoomForAlarm,
     /// A preview makes the clearing.
     PreviewClears,
-    /// A conversion down looks at cabins and list before it asks whether the image is accepted.
+    /// A conversion down looks at cabins, list and contacts before it asks whether the image is
+    /// accepted.
     CabinsBeforeImage,
-    /// A conversion down looks at the buffer before cabins and list.
+    /// A conversion down looks at the buffer before cabins, list and contacts.
     BufferBeforeCabins,
     /// A conversion looks at the buffer before the edition of an accepted image.
     BufferBeforeEdition,
@@ -189,6 +204,8 @@ pub enum Fault {
     LimitsDropped,
     /// A conversion down looks at the cabins and at the pair of cabin 0, and drops the others.
     OtherPairsDropped,
+    /// A conversion down writes any contact.
+    ContactsUnasked,
     /// A conversion up guarantees the place of step 0 to cabin 0 too.
     AlarmGuaranteed,
     /// A conversion drops these of the bits of each step, of the sum in its record.

@@ -1,7 +1,7 @@
 //! Made-up calls, key lines, lists, images, conversions, slips, sound tables and unsound ones, the
 //! same for the same seed. Most calls suit the table at hand; the rest have odd numbers, wrong keys,
 //! short buffers, lists that are bad or do not fit, or slips that are old, damaged or of no
-//! clearing. Serves the tests of "A history is a list" of document 01, and of W6, W7 and W8 of
+//! clearing. Serves the tests of "A history is a list" of document 01, and of W6, W7, W8 and W9 of
 //! document 02.
 
 use std::array::from_fn;
@@ -15,12 +15,22 @@ use crate::image::{encode, in_edition_1, in_edition_2, record, records, HEADER, 
 use crate::plan::{plan_of, Plan, PlanStep};
 use crate::preview::PREVIEW_ROOM;
 use crate::slip::{between, LARGEST_SLIP, SLIP_HEADER, SLIP_PAIR};
-use crate::sound::{sound, CONTACT, MESSAGE, WAIT};
+use crate::sound::{sound, CONTACT, HIGHEST_CONTACT, MESSAGE, OLD_HIGHEST_CONTACT, WAIT};
 use crate::table::{members, place, Charges, Quotas, Table, CABINS, EXITS, PLACES};
 
 /// Numbers at and beyond the ends of ranges, and numbers that would wrap to small ones.
-const ODD: [u16; 21] =
-    [0, 1, 2, 3, 4, 5, 7, 8, 15, 16, 99, 100, 127, 128, 255, 256, 257, 600, 601, 32768, 65535];
+const ODD: [u16; 23] = [
+    0, 1, 2, 3, 4, 5, 7, 8, 15, 16, 99, 100, 127, 128, 255, 256, 257, 600, 601, 999, 1000, 32768,
+    65535,
+];
+
+/// The highest contents of kinds 1 to 3.
+const HIGHEST: [u16; 3] = [HIGHEST_CONTACT, 15, 600];
+/// The lowest contact that no old telephone takes.
+const LARGER_CONTACT: u16 = OLD_HIGHEST_CONTACT + 1;
+/// The ends of the contacts that an old telephone takes, and of all contacts and these.
+const OLD_CONTACTS: &[u16] = &[0, OLD_HIGHEST_CONTACT];
+const CONTACTS: &[u16] = &[0, OLD_HIGHEST_CONTACT, LARGER_CONTACT, HIGHEST_CONTACT];
 
 /// Phases of a history: fill, make rings, clear, mix. Each lists add, link, clear, clear with a
 /// slip, take back, preview, squeeze, trial and other calls by a letter, as often as it has them.
@@ -72,12 +82,14 @@ impl Random {
     }
 
     /// A kind from 1 to 3, half of them contacts, and a content that fits, often at an end of its
-    /// range.
-    fn kind_and_content(&mut self) -> (u16, u16) {
+    /// range. Contacts have these ends.
+    fn kind_and_content(&mut self, contacts: &[u16]) -> (u16, u16) {
         let kind = self.pick(&[CONTACT, CONTACT, MESSAGE, WAIT]);
-        let (low, high) = [(0, 99), (0, 15), (1, 600)][usize::from(kind) - 1];
+        let ends = [contacts, &[0, HIGHEST[1]], &[1, HIGHEST[2]]][usize::from(kind) - 1];
+        let (low, high) = (ends[0], ends[ends.len() - 1]);
         let between = low + self.below(usize::from(high - low) + 1) as u16;
-        (kind, self.pick(&[low, between, high]))
+        let end = self.pick(ends);
+        (kind, self.pick(&[end, between, end]))
     }
 
     /// Puts an odd number in place of this one, once in so many times.
@@ -295,7 +307,7 @@ impl Random {
             table.used[step] = 1;
             table.own[step] = self.below(2) as u16;
             if step != 0 {
-                (table.kinds[step], table.contents[step]) = self.kind_and_content();
+                (table.kinds[step], table.contents[step]) = self.kind_and_content(CONTACTS);
                 let mut empty: Vec<usize> = order[..i]
                     .iter()
                     .flat_map(|&holder| place(holder, 0)..place(holder, EXITS))
@@ -393,18 +405,34 @@ impl Random {
         records.concat()
     }
 
+    /// Puts this contact in place of one of a table's, if it has one.
+    pub fn put_contact(&mut self, table: &mut Table, contact: u16) {
+        let steps: Vec<usize> =
+            members(table.in_use()).filter(|&step| table.kinds[step] == CONTACT).collect();
+        if !steps.is_empty() {
+            table.contents[self.pick(&steps)] = contact;
+        }
+    }
+
     /// A conversion of a sound table's image, with its step records in any order, into a buffer
-    /// about as long as it has to be. Most images are of the edition that the way begins with;
-    /// going down, about half of the lists are W5's for edition 1. The rest are of the other
-    /// edition, damaged, or have more than edition 1 can say: another list, or one other number.
+    /// about as long as it has to be. Most images are of the edition that the way begins with, and
+    /// about half of the tables are such as an old telephone takes. The other images are of the
+    /// other edition, damaged, or have more than edition 1 can say: another list, one other number
+    /// of it, a larger contact, or any list and contacts.
     pub fn conversion(&mut self) -> Conversion {
         let way = self.pick(&[Way::Up, Way::Down]);
-        let mut table = self.sound_table();
-        if self.once_in(2) {
-            table = for_cabin_0(&table);
-            if self.once_in(4) && table.capacity > 1 {
-                table.quotas = self.near_list(table.capacity);
+        let any = self.sound_table();
+        let mut table = for_old_telephone(&any);
+        match self.below(10) {
+            0 => table = any,
+            1 | 2 => table = Table { contents: table.contents, ..any },
+            3 if table.capacity > 1 => table.quotas = self.near_list(table.capacity),
+            4 => {
+                let between = LARGER_CONTACT + self.below(900) as u16;
+                let contact = self.pick(&[LARGER_CONTACT, between, HIGHEST_CONTACT]);
+                self.put_contact(&mut table, contact);
             }
+            _ => {}
         }
         let new = self.reordered(&encode(&table));
         let old = in_edition_1(&new);
@@ -430,7 +458,7 @@ impl Random {
 
     /// Damages an accepted image of either edition: mixes it with the other, cuts it, adds bytes,
     /// or puts a number into a field: mostly a length, a kind, the capacity, one of the list, a
-    /// step's number or the last one of its record, which is the cabin in edition 2.
+    /// step's number, its content or the last one of its record, which is the cabin in edition 2.
     pub fn damage_image(&mut self, image: &mut Vec<u8>) {
         let all = records(image);
         let (count, header, record) = (all.len(), all[0].len(), all[1].len());
@@ -446,7 +474,8 @@ impl Random {
             1 => image.truncate(any + self.below(2)),
             2 => image.extend_from_within(self.pick(&[0, header, any])..),
             _ => {
-                let places = [0, 2, 4, field, step, step + 2, step + 4, step + record - 2, any];
+                let last = step + record - 2;
+                let places = [0, 2, 4, field, step, step + 2, step + 4, step + 8, last, any];
                 let at = self.pick(&places);
                 let values = [&ODD[..], &[10, 20, 22, 42]].concat();
                 image[at..at + 2].copy_from_slice(&self.pick(&values).to_le_bytes());
@@ -470,7 +499,7 @@ impl Random {
             let target = self.pick(&targets);
             if table.used[target] == 0 {
                 before.used[target] = 1;
-                (before.kinds[target], before.contents[target]) = self.kind_and_content();
+                (before.kinds[target], before.contents[target]) = self.kind_and_content(CONTACTS);
                 before.own[target] = self.below(2) as u16;
                 let any = self.below(CABINS) as u16;
                 let fitting = self.cabin(&plan);
@@ -545,27 +574,55 @@ impl Random {
     }
 }
 
+/// A table as an old telephone takes it: all its steps are charged to cabin 0, with W5's list for
+/// edition 1, and its contacts keep their last two digits.
+pub fn for_old_telephone(table: &Table) -> Table {
+    let mut table = for_cabin_0(table);
+    for (content, &kind) in table.contents.iter_mut().zip(&table.kinds) {
+        if kind == CONTACT {
+            *content %= LARGER_CONTACT;
+        }
+    }
+    table
+}
+
+/// The image of edition 1 of a table, as an old telephone takes it.
+pub fn old_image(table: &Table) -> Vec<u8> {
+    in_edition_1(&encode(&for_old_telephone(table)))
+}
+
 /// The first call of the history with this seed: a fresh table, sometimes refused; an image of
-/// edition 2 or of edition 1; a damaged one; or one with the header of one edition and the steps of
-/// the other.
+/// edition 2 or of edition 1; one of edition 1 with a contact that no old telephone takes; a damaged
+/// one; or one with the header of one edition and the steps of the other.
 pub fn start(seed: u64) -> Start {
     let mut random = Random(!seed);
-    let table = random.sound_table();
+    let mut table = random.sound_table();
     let image = match seed % 18 {
-        0..=5 => {
+        0..=2 => {
             let capacity = random.pick(&[128, 128, 1, 2, 3, 4, 5, 8, 12, 24, 60, 0, 129]);
-            let quotas = random.list(capacity, &[0; CABINS]);
+            let quotas = if random.once_in(4) {
+                random.bad_list(capacity.clamp(1, PLACES as u16))
+            } else {
+                random.list(capacity, &[0; CABINS])
+            };
             return Start::Fresh { capacity, quotas };
         }
-        6..=9 => encode(&table),
-        10..=13 => in_edition_1(&encode(&table)),
+        3..=6 => encode(&table),
+        7..=10 => old_image(&table),
+        11..=13 => {
+            while !table.kinds.contains(&CONTACT) {
+                table = random.sound_table();
+            }
+            table = for_old_telephone(&table);
+            random.put_contact(&mut table, LARGER_CONTACT);
+            in_edition_1(&encode(&table))
+        }
         14 => {
-            let new = encode(&table);
-            let mut image = if random.once_in(2) { in_edition_1(&new) } else { new };
+            let mut image = if random.once_in(2) { old_image(&table) } else { encode(&table) };
             random.damage_image(&mut image);
             image
         }
-        _ => random.mixed_image(&encode(&for_cabin_0(&table)), 0),
+        _ => random.mixed_image(&encode(&for_old_telephone(&table)), 0),
     };
     Start::Load { image }
 }
@@ -581,13 +638,16 @@ pub struct Generator {
     slips: Vec<(u16, u16, Vec<u8>)>,
     /// The exit previewed last.
     previewed: (u16, u16),
+    /// The ends of the contacts added: in every second history, of those an old telephone takes.
+    contacts: &'static [u16],
 }
 
 impl Generator {
     pub fn new(seed: u64) -> Generator {
         let (phase, left) = (PHASES[0], 2 * PLACES);
         let (soon, slips, previewed) = (b"", Vec::new(), (0, 0));
-        Generator { random: Random(seed), phase, left, soon, slips, previewed }
+        let contacts = if seed % 2 == 1 { CONTACTS } else { OLD_CONTACTS };
+        Generator { random: Random(seed), phase, left, soon, slips, previewed, contacts }
     }
 
     /// The next call, to be made on this table.
@@ -600,6 +660,8 @@ impl Generator {
         self.left -= 1;
         let letter = match self.soon.split_off_first() {
             Some(&letter) => letter,
+            // where step 0 has all the room, a squeeze gives more, which most calls need
+            None if plan.capacity == 1 && self.random.once_in(5) => b's',
             None => self.random.pick(self.phase),
         };
         match letter {
@@ -725,7 +787,10 @@ impl Generator {
                 let wrong = random.once_in(16);
                 let times = if wrong { 2 } else { 24 };
                 let (mut holder, exit) = random.place(plan, wrong);
-                let (mut kind, mut content) = random.kind_and_content();
+                let (mut kind, mut content) = random.kind_and_content(self.contacts);
+                if random.once_in(40) {
+                    content = HIGHEST[usize::from(kind) - 1] + 1;
+                }
                 let mut cabin = random.cabin(plan);
                 for number in [&mut holder, &mut kind, &mut content, &mut cabin] {
                     random.maybe_odd(number, times);

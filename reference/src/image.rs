@@ -1,12 +1,13 @@
 //! Writing and loading images. All records but the first have one length, so an image is cut
 //! into equal parts and no record's length is followed. An image of edition 1 is put into edition 2
 //! before it is read.
-//! Renders "Image" of document 01, W1's order of writing, which is ascending, and W5's editions.
+//! Renders "Image" of document 01, W1's order of writing, which is ascending, W5's editions, and
+//! what W9 asks of edition 1.
 
 use crate::cabins::one_cabin;
 use crate::calls::{bare, first_refusal, fresh_for_cabin_0, Answer};
 use crate::faults::Fault;
-use crate::sound::sound;
+use crate::sound::{sound, CONTACT, OLD_HIGHEST_CONTACT, WAIT};
 use crate::table::{members, place, Table, EXITS, PLACES};
 
 /// Bytes of the first record.
@@ -43,9 +44,15 @@ pub fn load(bytes: &[u8]) -> (Table, Answer) {
     load_with(bytes, Fault::None)
 }
 
-/// Loads an image, with a fault or without.
+/// Loads an image, with a fault or without. In edition 1 it has contacts that an old telephone takes.
 pub fn load_with(bytes: &[u8], fault: Fault) -> (Table, Answer) {
-    match raised(bytes, fault).and_then(|image| decode(&image)) {
+    let old = match fault {
+        Fault::OldRangeUnasked => false,
+        Fault::OldRangeInBoth => true,
+        _ => is_old(bytes),
+    };
+    let image = raised(bytes, fault).filter(|image| !old || old_telephone_takes(image, fault));
+    match image.and_then(|image| decode(&image)) {
         Some(table) => (table, bare(0)),
         None => (fresh_for_cabin_0(1), bare(12)),
     }
@@ -56,7 +63,22 @@ pub fn in_edition_2(image: &[u8]) -> Option<Vec<u8>> {
     raised(image, Fault::None)
 }
 
-/// An accepted image of either edition in edition 1, without its list and its cabins.
+/// Whether an old telephone takes the contacts of an image of edition 2, with a fault or without. It
+/// can be read on any bytes that are enough for a header.
+pub fn old_telephone_takes(image: &[u8], fault: Fault) -> bool {
+    let highest = match fault {
+        Fault::OldRangeTo100 => OLD_HIGHEST_CONTACT + 1,
+        _ => OLD_HIGHEST_CONTACT,
+    };
+    image[HEADER..].chunks_exact(RECORD).map(fields).all(|[_, _, _, kind, content]| match kind {
+        CONTACT => content <= highest,
+        WAIT if fault == Fault::OldRangeOfWaits => content <= highest,
+        _ => true,
+    })
+}
+
+/// An accepted image of either edition in edition 1, without its list and its cabins. With a contact
+/// that no old telephone takes it is not accepted any more.
 pub fn in_edition_1(image: &[u8]) -> Vec<u8> {
     if is_old(image) {
         return image.to_vec();

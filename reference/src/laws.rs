@@ -7,11 +7,11 @@
 use std::collections::BTreeMap;
 use std::ops::Range;
 
-use crate::cabins::{for_cabin_0, pairs};
+use crate::cabins::pairs;
 use crate::calls::{Command, Ending};
 use crate::convert::{Conversion, Way};
 use crate::faults::Fault;
-use crate::generate::{start, Generator, Random};
+use crate::generate::{for_old_telephone, start, Generator, Random};
 use crate::history::{begin, Call, Outcome, Start, UNTOUCHED};
 use crate::image::{bytes, encode, fields, in_edition_1, number, record, sorted, HEADER, RECORD};
 use crate::plan::{plan_of, Plan};
@@ -492,7 +492,7 @@ pub fn there_and_back(
     };
     let mut unsorted = 0;
     for (table, ..) in tables(seeds) {
-        let table = for_cabin_0(&table);
+        let table = for_old_telephone(&table);
         let mut random = Random(table.size().into());
         let new = random.reordered(&encode(&table));
         let old = random.reordered(&in_edition_1(&new));

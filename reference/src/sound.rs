@@ -1,6 +1,6 @@
 //! The soundness test, total on any values. Each part below is one item of the list.
-//! Renders the list "A table is sound when" of document 01, the kinds and their contents, and what
-//! W5 of document 02 adds to the list.
+//! Renders the list "A table is sound when" of document 01, the kinds and their contents, what W5 of
+//! document 02 adds to the list, and W9's contacts.
 
 use crate::cabins::charges_fit;
 use crate::table::{after, mark, members, place, Table, CABINS, EXITS, PLACES};
@@ -10,6 +10,10 @@ pub const ALARM: u16 = 0;
 pub const CONTACT: u16 = 1;
 pub const MESSAGE: u16 = 2;
 pub const WAIT: u16 = 3;
+
+/// The highest contact, and the highest that an old telephone takes. The lowest is 0.
+pub const HIGHEST_CONTACT: u16 = 999;
+pub const OLD_HIGHEST_CONTACT: u16 = 99;
 
 /// Whether a table is sound.
 pub fn sound(table: &Table) -> bool {
@@ -29,7 +33,7 @@ pub fn capacity_fits(capacity: u16) -> bool {
 /// Whether a step that can be added may have this kind and content.
 pub fn fits(kind: u16, content: u16) -> bool {
     match kind {
-        CONTACT => content <= 99,
+        CONTACT => content <= HIGHEST_CONTACT,
         MESSAGE => content <= 15,
         WAIT => (1..=600).contains(&content),
         _ => false,

@@ -1,17 +1,19 @@
 //! W6's sentences on examples with the bytes written out, the order of the refusals, single numbers
-//! of a list, images damaged a byte at a time, and the laws and faults on generated conversions.
-//! `examples` has P10.
+//! of a list, W9's contacts, every content, images damaged a byte at a time, and the laws and faults
+//! on generated conversions. `examples` has P10.
 
 mod common;
+mod contents;
 
 use common::image_of;
+use contents::every_content;
 use reference::cabins::for_cabin_0;
 use reference::calls::{add, fresh_for_cabin_0, Answer};
 use reference::convert::{convert, run, Conversion, Way};
 use reference::faults::{Fault, Length};
-use reference::generate::Random;
+use reference::generate::{for_old_telephone, Random};
 use reference::history;
-use reference::image::{fields, in_edition_1, is_old, load, records, sorted};
+use reference::image::{fields, in_edition_1, in_edition_2, is_old, load, records, sorted};
 use reference::keys::key_line;
 use reference::laws;
 use reference::table::Table;
@@ -155,13 +157,118 @@ fn numbers_of_the_list() {
 fn other_cabins_have_other_lists() {
     let mut random = Random(2);
     for _ in 0..40 {
-        let table = for_cabin_0(&random.sound_table());
+        let table = for_old_telephone(&random.sound_table());
         let image = image_of(&table);
         assert_eq!(convert(Way::Down, &image, &mut [0; 2570]).refusal, 0);
         for step in 0..usize::from(table.size()) {
             for cabin in [1, 7, 8, 256] {
                 refuses(12, Way::Down, &with(&image, &[(62 + 22 * step, cabin)]), 2570);
             }
+        }
+    }
+}
+
+/// "Two steps, with bits" with step 1 of this kind and content, in edition 2 and in edition 1.
+fn with_content(kind: u16, content: u16) -> [Vec<u8>; 2] {
+    [(BITS, 70), (OLD_BITS, 36)]
+        .map(|(image, at)| with(&hex(image), &[(at, kind), (at + 2, content)]))
+}
+
+/// No old telephone takes a contact above 99, though cabin 0 has the plan to itself. Going down, 17
+/// comes before 11. A bad image gets 12 before both: cut, with cabin 8, and with a link to step 2.
+/// Going up, edition 1 is not accepted with such a contact.
+#[test]
+fn larger_contacts_do_not_go_down() {
+    for contact in [0, 1, 99] {
+        let [new, old] = with_content(1, contact);
+        converts(Way::Up, &old, &new);
+        converts(Way::Down, &new, &old);
+    }
+    for contact in [100, 101, 255, 256, 355, 600, 999] {
+        let [new, old] = with_content(1, contact);
+        assert_eq!([load(&new).1.refusal, load(&old).1.refusal], [0, 12]);
+        for length in [0, 1, 49, 50, 85, 86, 3000] {
+            refuses(17, Way::Down, &new, length);
+            refuses(12, Way::Up, &new, length);
+            refuses(12, Way::Up, &old, length);
+            refuses(12, Way::Down, &old, length);
+            refuses(12, Way::Down, &new[..85], length);
+            refuses(12, Way::Down, &with(&new, &[(84, 8)]), length);
+            refuses(12, Way::Down, &with(&new, &[(76, 2)]), length);
+        }
+    }
+    for contact in [1000, 1024, 32768, 65535] {
+        let [new, old] = with_content(1, contact);
+        refuses(12, Way::Down, &new, 50);
+        refuses(12, Way::Up, &old, 86);
+    }
+    // with two cabins too
+    refuses(17, Way::Down, &with(&hex(CABINS), &[(72, 100)]), 50);
+}
+
+/// Messages and waits have one range in both editions.
+#[test]
+fn waits_of_600_go_both_ways() {
+    for (kind, content) in [(2, 0), (2, 15), (3, 1), (3, 99), (3, 100), (3, 600)] {
+        let [new, old] = with_content(kind, content);
+        converts(Way::Up, &old, &new);
+        converts(Way::Down, &new, &old);
+    }
+    for (kind, content) in [(2, 16), (2, 100), (3, 0), (3, 601), (0, 0), (4, 0)] {
+        let [new, old] = with_content(kind, content);
+        refuses(12, Way::Up, &old, 86);
+        refuses(12, Way::Down, &new, 50);
+    }
+}
+
+/// Every content of each kind, both ways.
+#[test]
+fn contents_in_range_and_out_of_it() {
+    let mut down = [0; 3];
+    for (kind, content, fits) in every_content() {
+        let [new, old] = with_content(kind, content);
+        let larger = kind == 1 && content > 99;
+        match (fits, larger) {
+            (true, false) => {
+                converts(Way::Up, &old, &new);
+                converts(Way::Down, &new, &old);
+                down[0] += 1;
+            }
+            (true, true) => {
+                refuses(12, Way::Up, &old, 86);
+                refuses(17, Way::Down, &new, 50);
+                down[1] += 1;
+            }
+            (false, _) => {
+                refuses(12, Way::Up, &old, 86);
+                refuses(12, Way::Down, &new, 50);
+                down[2] += 1;
+            }
+        }
+    }
+    assert_eq!(down, [100 + 16 + 600, 900, 5 * 65536 - 1616]);
+}
+
+/// The image of 127 steps of this kind and content, in edition 2 and in edition 1.
+fn largest(kind: u16, content: u16) -> [Vec<u8>; 2] {
+    let mut table = fresh_for_cabin_0(128);
+    for step in 1..128 {
+        assert_eq!(add(&mut table, step - 1, 3, kind, content, 0).first, step);
+    }
+    let image = image_of(&table);
+    [image.clone(), in_edition_1(&image)]
+}
+
+/// The largest image with contacts: any one of them that is above 99 decides.
+#[test]
+fn one_larger_contact() {
+    let [new, old] = largest(1, 99);
+    converts(Way::Up, &old, &new);
+    converts(Way::Down, &new, &old);
+    for step in 1..128 {
+        for length in [0, 2569, 2570, 3000] {
+            refuses(17, Way::Down, &with(&new, &[(50 + 22 * step, 100)]), length);
+            refuses(12, Way::Up, &with(&old, &[(18 + 20 * step, 100)]), length);
         }
     }
 }
@@ -181,11 +288,7 @@ fn fresh_tables_of_every_capacity() {
 
 #[test]
 fn the_largest_image() {
-    let mut table = fresh_for_cabin_0(128);
-    for step in 1..128 {
-        assert_eq!(add(&mut table, step - 1, 3, 3, 600, 0).first, step);
-    }
-    let (new, old) = (image_of(&table), in_edition_1(&image_of(&table)));
+    let [new, old] = largest(3, 600);
     assert_eq!((new.len(), old.len()), (2858, 2570));
     for (way, given, expected) in [(Way::Up, &old, &new), (Way::Down, &new, &old)] {
         converts(way, given, expected);
@@ -195,15 +298,20 @@ fn the_largest_image() {
     }
 }
 
+/// Whether a table has a contact above 99.
+fn has_larger_contact(table: &Table) -> bool {
+    table.kinds.iter().zip(&table.contents).any(|(&kind, &content)| kind == 1 && content > 99)
+}
+
 /// Checks a conversion by loading: 12 unless the image is accepted and of the edition to be
-/// converted; going down 17 unless the table is cabin 0's alone; else what is written is sorted, of
-/// the other edition, and the same table. Gives the refusal.
+/// converted; going down 17 unless the table is cabin 0's alone, and has no contact above 99; else
+/// what is written is sorted, of the other edition, and the same table. Gives the refusal.
 fn converts_as_loaded(way: Way, image: &[u8]) -> u16 {
     let (table, loaded) = load(image);
     if loaded.refusal != 0 || is_old(image) != (way == Way::Up) {
         refuses(12, way, image, 3000);
         12
-    } else if way == Way::Down && table != for_cabin_0(&table) {
+    } else if way == Way::Down && (table != for_cabin_0(&table) || has_larger_contact(&table)) {
         refuses(17, way, image, 3000);
         17
     } else {
@@ -227,13 +335,19 @@ fn after_p5() -> Table {
     table
 }
 
-/// Every byte of three images takes every value, and the images are cut everywhere and extended,
+/// Every byte of five images takes every value, and the images are cut everywhere and extended,
 /// going both ways.
 #[test]
 fn small_images_damaged() {
     let f4 = image_of(&fresh_for_cabin_0(4));
-    let down: [(Vec<u8>, &[u16]); 3] =
-        [(f4, &[0, 12, 17]), (image_of(&after_p5()), &[0, 12, 17]), (hex(CABINS), &[12, 17])];
+    let [[at_end, _], [larger, _]] = [99, 100].map(|contact| with_content(1, contact));
+    let down: [(Vec<u8>, &[u16]); 5] = [
+        (f4, &[0, 12, 17]),
+        (image_of(&after_p5()), &[0, 12, 17]),
+        (hex(CABINS), &[12, 17]),
+        (at_end, &[0, 12, 17]),
+        (larger, &[0, 12, 17]),
+    ];
     for (new, down) in down {
         let old = in_edition_1(&new);
         for (way, image, expected) in [
@@ -282,17 +396,30 @@ fn conversions(seed: u64) -> impl Iterator<Item = Conversion> {
     std::iter::from_fn(move || Some(random.conversion())).take(1500)
 }
 
-/// Each refusal comes up often, and accepted conversions too.
+/// Each refusal comes up often, and accepted conversions too. So do 17 for the list alone and for a
+/// contact alone, and 12 for a contact alone, with which the same in edition 2 is accepted.
 #[test]
 fn generated_conversions() {
     let mut refusals = [[0; 19]; 2];
+    let (mut lists, mut contacts) = (0, [0; 2]);
     for conversion in conversions(3) {
         let Conversion { way, image, .. } = &conversion;
         let refusal = run(&conversion, Fault::None).refusal;
         let with_room = converts_as_loaded(*way, image);
         assert!(refusal == with_room || (refusal, with_room) == (11, 0));
         refusals[*way as usize][usize::from(refusal)] += 1;
+        let (table, loaded) = in_edition_2(image).map_or_else(|| load(&[]), |image| load(&image));
+        let sole = table == for_cabin_0(&table);
+        match refusal {
+            12 if is_old(image) && loaded.refusal == 0 => {
+                contacts[0] += u32::from(*way == Way::Up);
+            }
+            17 if sole => contacts[1] += 1,
+            17 => lists += u32::from(!has_larger_contact(&table)),
+            _ => {}
+        }
     }
+    assert!(lists > 50 && contacts.iter().all(|&times| times > 50), "{lists} {contacts:?}");
     for (met, expected) in refusals.iter().zip([&[0, 11, 12][..], &[0, 11, 12, 17]]) {
         for (refusal, &times) in met.iter().enumerate() {
             assert_eq!(times > 50, expected.contains(&refusal), "{refusals:?}");
@@ -318,6 +445,11 @@ fn every_fault_is_found() {
         Fault::ListDropped,
         Fault::LimitsDropped,
         Fault::OtherPairsDropped,
+        Fault::ContactsUnasked,
+        Fault::OldRangeUnasked,
+        Fault::OldRangeInBoth,
+        Fault::OldRangeTo100,
+        Fault::OldRangeOfWaits,
         Fault::AlarmGuaranteed,
         Fault::BitsDropped(31),
         Fault::BitsDropped(16),

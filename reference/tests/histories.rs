@@ -10,7 +10,7 @@ use reference::generate::{start, Generator};
 use reference::history::{agrees, begin, run, Call, Outcome, Start};
 use reference::image::load;
 use reference::plan::{plan_of, Plan};
-use reference::sound::{sound, ALARM, MESSAGE, WAIT};
+use reference::sound::{sound, ALARM, CONTACT, MESSAGE, WAIT};
 use reference::table::{after, place, Table};
 
 /// The steps in use that end no strong chain from step 0 once an exit is emptied. Ends of chains
@@ -36,8 +36,11 @@ struct Seen {
     /// Squeezes refused by 16, and by 13 for their list alone.
     bad_lists: u32,
     unfit_lists: u32,
-    /// Accepted adds by their cabin.
+    /// Accepted adds by their cabin, and those of contacts that no old telephone takes.
     adds: [u32; 8],
+    larger_contacts: u32,
+    /// Adds refused for contact 1000.
+    no_contact: u32,
     /// Accepted adds below the guarantee while some other cabin is held back.
     guaranteed: u32,
     all_freed: u32,
@@ -93,10 +96,11 @@ fn check(table: &mut Table, plan: &mut Plan, call: &Call, seen: &mut Seen) {
         seen.all_freed += u32::from(freed > 0 && freed == doubtful);
         seen.some_freed += u32::from(freed > 0 && freed < doubtful);
         seen.all_kept += u32::from(freed == 0 && doubtful > 0);
-    } else if let Some(Command::Add { cabin, .. }) = call.command() {
+    } else if let Some(Command::Add { kind, content, cabin, .. }) = call.command() {
         let cabin = usize::from(cabin);
         let held_back = (0..8).any(|other| plan_of(&before).room(other) == Err(15));
         seen.adds[cabin] += 1;
+        seen.larger_contacts += u32::from(kind == CONTACT && content > 99);
         seen.guaranteed +=
             u32::from(held_back && before.charges()[cabin] < before.quotas[2 * cabin]);
     } else if matches!(call, Call::Squeeze { .. }) {
@@ -108,6 +112,7 @@ fn check(table: &mut Table, plan: &mut Plan, call: &Call, seen: &mut Seen) {
         seen.unfit_lists += u32::from(outcome.refusal == 13 && *capacity >= before.size());
     }
     match (call, outcome.refusal) {
+        (Call::Edit(Command::Add { kind: CONTACT, content: 1000, .. }), 7) => seen.no_contact += 1,
         (Call::Trial { .. }, 0) => seen.endings[outcome.numbers[0]] += 1,
         (Call::Trial { .. }, 10) => seen.bad_results += 1,
         (Call::Trial { .. }, _) => seen.short_traces += 1,
@@ -149,6 +154,7 @@ fn histories_agree_with_the_plan() {
     }
     assert!(seen.bad_lists > 200 && seen.unfit_lists > 200 && seen.guaranteed > 200);
     assert!(seen.adds.iter().all(|&adds| adds > 200));
+    assert!(seen.larger_contacts > 1000 && seen.no_contact > 100);
     assert!(seen.all_freed > 100 && seen.some_freed > 100 && seen.all_kept > 100);
     assert!(seen.full_128 > 100 && seen.squeezed > 1000 && seen.renumbered > 500);
     assert!(seen.endings.iter().all(|&ended| ended > 1000));
@@ -165,7 +171,7 @@ struct Made {
     calls: Vec<(Call, Outcome, Table)>,
 }
 
-/// Histories of 240 calls each.
+/// Histories of 300 calls each.
 fn histories() -> Vec<Made> {
     let history = |seed| {
         let start = start(seed);
@@ -176,7 +182,7 @@ fn histories() -> Vec<Made> {
             let outcome = run(&mut table, &call, Fault::None);
             (call, outcome, table.clone())
         };
-        let calls = std::iter::repeat_with(next).take(240).collect();
+        let calls = std::iter::repeat_with(next).take(300).collect();
         Made { start, begun, calls }
     };
     (0..54).map(history).collect()
@@ -211,10 +217,17 @@ fn every_fault_is_found() {
         Fault::LimitBeforeFull,
         Fault::ReservedBeforeLimit,
         Fault::GuaranteeRefused,
+        Fault::OldRangeAdded,
+        Fault::OneContactMore,
+        Fault::ContactInAByte,
         Fault::SumIn16Bits,
         Fault::ListBeforeRange,
         Fault::EditionsMixed,
         Fault::NoGuaranteeLoaded,
+        Fault::OldRangeUnasked,
+        Fault::OldRangeInBoth,
+        Fault::OldRangeTo100,
+        Fault::OldRangeOfWaits,
         Fault::FitBeforeRange,
         Fault::FitBeforeList,
         Fault::FitBySize,

@@ -1,12 +1,15 @@
 //! Images of both editions: every damage of one byte, cuts, additions, records in other orders and
-//! of both editions, and the round trip over many sound tables with any strengths and lists.
+//! of both editions, every content in each edition, and the round trip over many sound tables with
+//! any strengths and lists.
 
 mod common;
+mod contents;
 
 use common::image_of;
+use contents::every_content;
 use reference::cabins::{for_cabin_0, list};
 use reference::calls::{add, clear, fresh, fresh_for_cabin_0, link, Answer};
-use reference::generate::Random;
+use reference::generate::{for_old_telephone, old_image, Random};
 use reference::image::{in_edition_1, in_edition_2, length, load, records, sorted, write};
 use reference::plan::{plan_of, Plan};
 use reference::table::Table;
@@ -225,7 +228,7 @@ fn single_fields() {
         (62, &[1, 3, 7, 8, 256, 65535]),      // cabin of step 0
         (68, &[0, 2, 3, 4, 128, 257, 65535]), // number
         (70, &[0, 4, 257]),                   // step kind
-        (72, &[100, 65535]),                  // content
+        (72, &[1000, 65535]),                 // content
         (74, &[0, 17, 18, 20, 24, 32, 48, 272]), // bits
         (78, &[3, 4, 128, 65535]),            // target of exit 1 of step 1, which is empty
         (80, &[3, 4, 128, 65535]),            // target of exit 2 of step 1
@@ -233,6 +236,9 @@ fn single_fields() {
         (106, &[1, 2, 7, 8, 65535]),          // cabin of step 2
     ];
     wrong_fields(&image, &wrong);
+    for content in [99, 100, 999] {
+        assert_eq!(accepted(&with(image.clone(), 72, content)).contents[1], content);
+    }
     // The steps fit cabins 0 and 3 the other way round too, and one cabin alone.
     for [one, two] in [[0, 0], [0, 3], [3, 3]] {
         let table = accepted(&with(with(image.clone(), 84, one), 106, two));
@@ -252,12 +258,108 @@ fn single_fields_of_edition_1() {
         (12, &[0, 1, 3, 4, 258]),                // its kind
         (34, &[0, 2, 3, 4, 128, 257, 65535]),    // number
         (36, &[0, 4, 257]),                      // step kind
-        (38, &[100, 65535]),                     // content
+        (38, &[100, 999, 1000, 65535]),          // content
         (40, &[0, 17, 18, 20, 24, 32, 48, 272]), // bits
         (44, &[3, 4, 128, 65535]),               // target of exit 1 of step 1, which is empty
         (46, &[3, 4, 128, 65535]),               // target of exit 2 of step 1
     ];
-    wrong_fields(&in_edition_1(&image_of(&after_p5())), &wrong);
+    let image = in_edition_1(&image_of(&after_p5()));
+    wrong_fields(&image, &wrong);
+    assert_eq!(accepted(&with(image, 38, 99)).contents[1], 99);
+}
+
+/// An image of two steps, the second of this kind and content, in edition 2 and in edition 1.
+fn two_steps(kind: u16, content: u16) -> [Vec<u8>; 2] {
+    let new = [
+        42, 3, 4, 1, 2, // capacity, last number given, steps in use
+        3, 3, 0, 0, 0, 0, 0, 0, 0, 0, 0, 0, 0, 0, 0, 0, // guarantees and limits
+        22, 4, 0, 0, 0, 0, 1, 0, 0, 0, 0, // step 0: exit 0
+        22, 4, 1, kind, content, 0, 0, 0, 0, 0, 0, // step 1
+    ];
+    let old = [
+        10, 1, 4, 1, 2, // capacity, last number given, steps in use
+        20, 2, 0, 0, 0, 0, 1, 0, 0, 0, // step 0: exit 0
+        20, 2, 1, kind, content, 0, 0, 0, 0, 0, // step 1
+    ];
+    [bytes(&new), bytes(&old)]
+}
+
+/// Checks whether an image is accepted, and that step 1 then has this kind and content.
+#[track_caller]
+fn accepts(is: bool, image: &[u8], kind: u16, content: u16) {
+    if is {
+        let table = accepted(image);
+        assert_eq!((table.kinds[1], table.contents[1]), (kind, content));
+    } else {
+        not_accepted(image);
+    }
+}
+
+/// An old telephone takes contacts 0 to 99. Messages and waits have one range in both editions.
+#[test]
+fn contents_by_edition() {
+    for (kind, content, in_edition_2, in_edition_1) in [
+        (1, 0, true, true),
+        (1, 99, true, true),
+        (1, 100, true, false),
+        (1, 256, true, false),
+        (1, 355, true, false),
+        (1, 999, true, false),
+        (1, 1000, false, false),
+        (2, 15, true, true),
+        (2, 16, false, false),
+        (2, 100, false, false),
+        (3, 0, false, false),
+        (3, 99, true, true),
+        (3, 100, true, true),
+        (3, 600, true, true),
+        (3, 601, false, false),
+        (4, 0, false, false),
+    ] {
+        let [new, old] = two_steps(kind, content);
+        accepts(in_edition_2, &new, kind, content);
+        accepts(in_edition_1, &old, kind, content);
+    }
+}
+
+/// Every content of each kind in both editions: they differ in the contacts 100 to 999 alone.
+#[test]
+fn contents_in_range_and_out_of_it() {
+    let mut differ = Vec::new();
+    for (kind, content, fits) in every_content() {
+        let [new, old] = two_steps(kind, content);
+        let in_old = fits && (kind != 1 || content <= 99);
+        accepts(fits, &new, kind, content);
+        accepts(in_old, &old, kind, content);
+        differ.extend((fits != in_old).then_some((kind, content)));
+    }
+    assert!(differ.into_iter().eq((100..1000).map(|content| (1, content))));
+}
+
+/// A table of 127 steps of this kind and content.
+fn chain(kind: u16, content: u16) -> Table {
+    let mut table = fresh_for_cabin_0(128);
+    for step in 1..128 {
+        add(&mut table, step - 1, 3, kind, content, 0);
+    }
+    table
+}
+
+/// The largest image with contacts: with any one of them above 99, it is not accepted in edition 1.
+#[test]
+fn one_larger_contact() {
+    let table = chain(1, 99);
+    assert_eq!(accepted(&in_edition_1(&image_of(&table))), table);
+    let mut random = Random(6);
+    for step in 1..128 {
+        for contact in [100, 999] {
+            let mut table = table.clone();
+            table.contents[step] = contact;
+            let image = random.reordered(&image_of(&table));
+            assert_eq!(accepted(&image), table);
+            not_accepted(&in_edition_1(&image));
+        }
+    }
 }
 
 /// Guarantees of 32768 twice, 16384 four times and 8192 eight times are no guarantees of 0.
@@ -296,10 +398,7 @@ fn bits_above_31() {
 
 #[test]
 fn the_largest_image() {
-    let mut table = fresh_for_cabin_0(128);
-    for step in 1..128 {
-        add(&mut table, step - 1, 3, 3, 600, 0);
-    }
+    let table = chain(3, 600);
     let image = image_of(&table);
     assert_eq!(image.len(), 2858);
     assert_eq!(accepted(&image), table);
@@ -316,7 +415,7 @@ fn round_trips() {
         let table = random.sound_table();
         let image = image_of(&table);
         assert_eq!(usize::from(length(&table).first), image.len());
-        for (image, table) in [(in_edition_1(&image), for_cabin_0(&table)), (image, table)] {
+        for (image, table) in [(old_image(&table), for_old_telephone(&table)), (image, table)] {
             let shuffled = random.reordered(&image);
             assert_eq!([accepted(&image), accepted(&shuffled)], [table.clone(), table]);
             assert!(accepted_rightly(&shuffled));
@@ -328,13 +427,17 @@ fn round_trips() {
 fn damaged_images() {
     let mut random = Random(5);
     let mut still_accepted = [0; 2];
+    let mut larger_contacts = 0;
     for round in 0..4000 {
-        let mut image = image_of(&random.sound_table());
-        if round % 2 == 1 {
-            image = in_edition_1(&image);
-        }
+        let table = random.sound_table();
+        let mut image = if round % 2 == 1 { old_image(&table) } else { image_of(&table) };
         random.damage_image(&mut image);
-        still_accepted[round % 2] += u32::from(accepted_rightly(&image));
+        let accepted = accepted_rightly(&image);
+        still_accepted[round % 2] += u32::from(accepted);
+        // refused for a contact alone: the same in edition 2 is accepted
+        let new = in_edition_2(&image);
+        larger_contacts += u32::from(!accepted && new.is_some_and(|new| load(&new).1.refusal == 0));
     }
     assert!(still_accepted.iter().all(|n| (100..1000).contains(n)), "{still_accepted:?}");
+    assert!(larger_contacts > 10, "{larger_contacts}");
 }

@@ -1,9 +1,13 @@
-//! Key lines and the program `keys`: document 01's whole case, which lines are key lines, how
-//! input is cut into lines, and generated lines against single calls and the plain plan.
+//! Key lines and the program `keys`: document 01's whole case, which lines are key lines, which
+//! contents can be keyed, how input is cut into lines, and generated lines against single calls and
+//! the plain plan.
+
+mod contents;
 
 use std::io::Write;
 use std::process::{Command, Stdio};
 
+use contents::every_content;
 use reference::cabins::list;
 use reference::calls::{add, fresh, fresh_for_cabin_0, Answer};
 use reference::generate::Generator;
@@ -115,6 +119,26 @@ fn nothing_else_is_a_key_line() {
             }
         }
     }
+}
+
+/// Three digits are enough for every contact. A fourth makes no key line, whatever it says.
+#[test]
+fn contents_that_are_keyed() {
+    assert_eq!(keys(b"H*100001099A\nH*100011100A\nH*100021999A\n"), "0 1 0\n0 2 0\n0 3 0\n");
+    assert_eq!(keys(b"H*1000011000A\nH*1000010999A\n"), "9 0 0\n9 0 0\n");
+    let mut accepted = [0; 5];
+    for (kind, content, fits) in every_content().filter(|(_, content, _)| *content < 1000) {
+        let mut table = fresh_for_cabin_0(2);
+        let answer = key_line(&mut table, format!("H*10000{kind}{content:03}A").as_bytes());
+        if fits {
+            assert_eq!(answer, Answer { refusal: 0, first: 1, second: 0 });
+            assert_eq!((table.kinds[1], table.contents[1]), (kind, content));
+        } else {
+            assert_eq!(answer, Answer { refusal: 7, first: 0, second: 0 }, "{kind} {content}");
+        }
+        accepted[usize::from(kind)] += u32::from(fits);
+    }
+    assert_eq!(accepted, [0, 1000, 16, 600, 0]);
 }
 
 #[test]

@@ -1,8 +1,12 @@
 //! Each row of "Reasons for no" with its example, W2's 13, W3's 11, W5's 14 to 16, each call's
-//! order of refusals, and numbers that would wrap. A refused call changes neither table nor buffer.
+//! order of refusals, every content of each kind, with W9's contacts, and numbers that would wrap. A
+//! refused call changes neither table nor buffer.
 //! `convert` has W6's 17 and the orders of conversions, `slip` W7's 18 and the orders of its calls,
 //! `preview` the order of W8's.
 
+mod contents;
+
+use contents::every_content;
 use reference::cabins::{list, one_cabin};
 use reference::calls::{
     add, clear, counts, fresh, fresh_for_cabin_0, link, read, trial, Answer, ReadAnswer,
@@ -10,6 +14,7 @@ use reference::calls::{
 };
 use reference::image::{length, load, write};
 use reference::keys::key_line;
+use reference::sound::sound;
 use reference::squeeze::squeeze;
 use reference::table::Table;
 
@@ -128,13 +133,48 @@ fn capacities() {
 
 #[test]
 fn kinds_and_contents() {
-    for (kind, content) in [(1, 0), (1, 99), (2, 0), (2, 15), (3, 1), (3, 600)] {
-        assert_eq!(add(&mut f4(), 0, 0, kind, content, 0).refusal, 0);
+    let right = [
+        (1, 0),
+        (1, 99),
+        (1, 100),
+        (1, 256),
+        (1, 999),
+        (2, 0),
+        (2, 15),
+        (3, 1),
+        (3, 100),
+        (3, 600),
+    ];
+    for (kind, content) in right {
+        let mut table = f4();
+        assert_eq!(add(&mut table, 0, 0, kind, content, 0).first, 1);
+        assert_eq!((read(&table, 1).kind, read(&table, 1).content), (kind, content));
     }
-    let wrong = [(1, 100), (2, 16), (3, 0), (3, 601), (0, 0), (4, 1), (257, 0), (65535, 1)];
+    let wrong = [(1, 1000), (2, 16), (3, 0), (3, 601), (0, 0), (4, 1), (257, 0), (65535, 1)];
     for (kind, content) in wrong.into_iter().chain([1, 2, 3].map(|kind| (kind, 65535))) {
         refuses(7, &f4(), |t| add(t, 0, 0, kind, content, 0));
     }
+}
+
+/// Every content of each kind, added, and put into a table that is sound exactly if it fits.
+#[test]
+fn contents_in_range_and_out_of_it() {
+    let mut accepted = [0; 5];
+    let (start, mut with) = (fresh_for_cabin_0(2), full());
+    for (kind, content, fits) in every_content() {
+        (with.kinds[1], with.contents[1]) = (kind, content);
+        assert_eq!(sound(&with), fits, "{kind} {content}");
+        let mut table = start.clone();
+        let answer = add(&mut table, 0, 0, kind, content, 0);
+        if fits {
+            assert_eq!(answer, Answer { refusal: 0, first: 1, second: 0 });
+        } else {
+            assert_eq!(answer, no(7), "{kind} {content}");
+        }
+        assert_eq!(&table, if fits { &with } else { &start });
+        accepted[usize::from(kind)] += u32::from(fits);
+    }
+    assert_eq!(accepted, [0, 1000, 16, 600, 0]);
 }
 
 #[test]

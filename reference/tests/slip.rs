@@ -341,10 +341,12 @@ fn a_squeeze_in_between() {
 fn slips_of_no_clearing() {
     let mut table = one_step();
     let mut slip = cleared(&mut table, 0, 0);
-    for (content, accepted) in [(99, true), (100, false), (0, true)] {
-        slip[6 + 44 + 8] = content;
+    for (content, accepted) in
+        [(99, true), (100, true), (999, true), (1000, false), (65535, false), (0, true)]
+    {
+        slip[6 + 44 + 8..][..2].copy_from_slice(&u16::to_le_bytes(content));
         let mut expected = one_step();
-        expected.contents[1] = content.into();
+        expected.contents[1] = content;
         if accepted {
             gives(&table, &slip, 1, &expected);
         } else {

@@ -67,7 +67,7 @@ fn each_item_of_the_list() {
         ("kind 0", |t| t.kinds[1] = 0),
         ("kind 4", |t| t.kinds[1] = 4),
         ("kind 257", |t| t.kinds[1] = 257),
-        ("contact 100", |t| t.contents[1] = 100),
+        ("contact 1000", |t| t.contents[1] = 1000),
         ("message 16", |t| (t.kinds[1], t.contents[1]) = (2, 16)),
         ("wait 0", |t| (t.kinds[1], t.contents[1]) = (3, 0)),
         ("wait 601", |t| (t.kinds[1], t.contents[1]) = (3, 601)),

@@ -19,7 +19,7 @@ fn yes(first: u16, second: u16) -> Answer {
 /// 2 and 5 are cabin 6's, step 3 is cabin 0's.
 fn gaps() -> Table {
     let (mut t, _) = fresh(8, for_0_and_6([0, 65535], [0, 65535]));
-    let adds = [(0, 0, 2, 0), (0, 1, 1, 5), (2, 0, 3, 600), (0, 2, 2, 15), (3, 3, 1, 9)];
+    let adds = [(0, 0, 2, 0), (0, 1, 1, 5), (2, 0, 3, 600), (0, 2, 2, 15), (3, 3, 1, 999)];
     for (number, (holder, exit, kind, content)) in (1..).zip(adds) {
         let cabin = if matches!(number, 2 | 5) { 6 } else { 0 };
         assert_eq!(add(&mut t, holder, exit, kind, content, cabin), yes(number, 0));
@@ -38,7 +38,7 @@ fn no_gaps(capacity: u16, quotas: Quotas) -> Table {
     let mut t = Table { capacity, last: 3, quotas, ..Table::zero() };
     t.used[..4].fill(1);
     t.kinds[..4].copy_from_slice(&[0, 1, 3, 1]);
-    t.contents[..4].copy_from_slice(&[0, 5, 600, 9]);
+    t.contents[..4].copy_from_slice(&[0, 5, 600, 999]);
     t.own[..4].fill(1);
     t.targets[..16].copy_from_slice(&[0, 0, 0, 3, 2, 0, 0, 0, 0, 2, 0, 3, 1, 0, 0, 0]);
     t.bits[..16].copy_from_slice(&[0, 0, 0, 1, 1, 0, 0, 0, 0, 0, 0, 0, 1, 0, 0, 0]);

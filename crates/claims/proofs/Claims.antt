@@ -4,8 +4,9 @@
 --   demand-3 history-*        every history
 --   guarantee-kept charges-counted   every history: what a cabin below its guarantee may add, and what the cabins are charged (W5)
 --   demand-2-*                every accepted call
---   written-equal loaded-equal   one table, one image (W1); demand-2-old-*, an image of edition 1 (W5)
---   convert-*                 an image converted to the other edition (W6)
+--   written-equal loaded-equal   one table, one image (W1); demand-2-old-*, an image of edition 1 (W5, W9)
+--   contents-range            which contents a step may have (W9)
+--   convert-*                 an image converted to the other edition (W6, W9)
 --   squeeze-*                 an accepted squeeze, and what its table does (W2)
 --   slip-demand take-back-demand told-demand   a clearing with a slip, its taking back, and what the plan is told of them (W7)
 --   preview-demand preview-refusals   what a clearing would free, and the clearing made next; when a preview is refused (W8)
@@ -16,28 +17,28 @@
 --   plan-*                    each exported function meets its contract, which is the equation with its definition (crates/telephone/src/lib.rt)
 use mathlib.Core.Path.{_≡_}
 use mathlib.Core.Bool.{true}
-use mathlib.Core.Logic.{_⊎_}
+use mathlib.Core.Logic.{_⊎_, _↔_}
 use mathlib.Core.List.{List, [], _∷_, _++_, flatten, List·Memᴰ}
 use Prim.Native.Nat.{ℕ, _≤_, _<_}
 use lib.ListN.{length}
 use Rattle.table.specs.Table.{Table, places, counters, inUse, counterOf, linksTo, stepsInUse, StrongChain}
 use Rattle.table.specs.declared.Answer.the-variants.{Given}
-use Rattle.table.specs.Answer.{first}
+use Rattle.table.specs.Answer.{first, refusalOf}
 use Rattle.table.specs.Cabins.{soleQuotas}
-use Rattle.table.specs.Sound.{Sound, sound, Shape}
+use Rattle.table.specs.Sound.{Sound, sound, Shape, contentFits}
 use Rattle.table.specs.Calls.{addRefusal, addCall, linkRefusal, linkCall, spokenCounts}
 use Rattle.table.specs.Clear.{clearRefusal, clearCall}
 use Rattle.table.specs.Preview.{previewRefusal, previewCall}
 use Rattle.table.specs.Squeeze.{newNumber, squeezeRefusal, squeezeCall, ClearsAlike}
 use Rattle.table.specs.Plan.{planOf}
 use Rattle.table.proofs.Sound as Soundness
-use Rattle.image.specs.Image.{Edition, edition1, edition2, image, editionIn, imageSize, largest, imageLength, writeCall, written, accepted, loadCall, Bytes}
+use Rattle.image.specs.Image.{Edition, edition1, edition2, image, editionIn, imageSize, largest, imageLength, writeCall, written, accepted, loadCall, Bytes, OldContacts}
 use Rattle.image.specs.Convert.{convertRefusal, convertCall}
 use Rattle.image.specs.Slip.{clearSlipRefusal, clearSlipCall, takeBackRefusal, takeBackCall}
 use Rattle.image.proofs.Laws as Images
 use Rattle.history.specs.History.{First, Call, withTold, tableAfter, heardBy, planAfter, drawnBy, firstRow, firstRefusal, firstTable, firstPlan}
 use Rattle.history.specs.Acts.{Act, refusedBy}
-use Rattle.history.specs.Demands.{Demand1, Lent, Demand3, GuaranteeDemand, ChargesDemand, AddDemand, LinkDemand, ClearDemand, CountDemand, SqueezeDemand, TwiceDemand, WriteDemand, EqualDemand, SortedDemand, OldDemand, ConvertDemand, RefusalDemand, SameTableDemand, ToldDemand, SlipDemand, TakeBackDemand, PreviewDemand, PreviewRefusalDemand}
+use Rattle.history.specs.Demands.{Demand1, Lent, Demand3, GuaranteeDemand, ChargesDemand, AddDemand, LinkDemand, ClearDemand, CountDemand, SqueezeDemand, TwiceDemand, WriteDemand, EqualDemand, SortedDemand, OldDemand, ConvertDemand, RefusalDemand, BeyondOld, SameTableDemand, ToldDemand, SlipDemand, TakeBackDemand, PreviewDemand, PreviewRefusalDemand}
 use Rattle.table.specs.Trial.{TrialOutcome, trialRefusal, trialCall, TrialDemand, SameTrial, LongerDemand, underNumbers}
 use Rattle.history.proofs.Demand1 as Refusals
 use Rattle.history.proofs.Demand2
@@ -105,6 +106,11 @@ test-sound = Soundness.test-sound
 
 pub sound-test : (t : Table) → Sound t → sound t ≡ true
 sound-test = Soundness.sound-test
+
+-- W9: "Contact contents now run from 0 to 999."; messages from 0 to 15, waits from 1 to 600, and no other kind has a content that fits.
+pub contents-range : (kind content : ℕ) → (contentFits kind content ≡ true) ↔
+    (((kind ≡ 1) × (content ≤ 999)) ⊎ ((kind ≡ 2) × (content ≤ 15)) ⊎ ((kind ≡ 3) × (1 ≤ content) × (content ≤ 600)))
+contents-range = Soundness.contents-range
 
 -- Demand 1: for every table, call and argument, for fresh and load, and for a conversion of any bytes.
 pub demand-1 : (t : Table) (a : Act) → Demand1 t a
@@ -185,12 +191,13 @@ pub demand-2-loaded : (bs : List ℕ) → Bytes bs → accepted bs ≡ true → 
     SortedDemand bs (writeCall (loadCall bs .table) buffer)
 demand-2-loaded = Demand2.load-demand
 
--- W5: an accepted image of edition 1 loads with all steps charged to cabin 0 and its list
+-- W5: an accepted image of edition 1 loads with all steps charged to cabin 0 and its list; W9: and with no contact above 99
 pub demand-2-old : (bs : List ℕ) → Bytes bs → accepted bs ≡ true → editionIn bs ≡ edition1 → OldDemand bs (loadCall bs)
 demand-2-old = Demand2.old-demand
 
--- W5: and each sound table with that list has such an image
-pub demand-2-old-image : (t : Table) → Sound t → t .quotas ≡ soleQuotas (t .capacity) → loadCall (image edition1 t) ≡ record { answer = Given 0 0; table = t }
+-- W5: and each sound table with that list has such an image, where no contact is above 99 (W9)
+pub demand-2-old-image : (t : Table) → Sound t → t .quotas ≡ soleQuotas (t .capacity) → OldContacts t →
+    loadCall (image edition1 t) ≡ record { answer = Given 0 0; table = t }
 demand-2-old-image = Images.load-sole
 
 -- W1: "Two sound tables are equal exactly when their written images are", in buffers that have the room
@@ -221,6 +228,11 @@ convert-up-written = Demand2.up-demand
 -- 11 only where each that does is longer than the buffer
 pub convert-refusals : (v : Edition) (bs buffer : List ℕ) → RefusalDemand v bs buffer (convertCall v bs buffer)
 convert-refusals = Demand2.refusal-demand
+
+-- W6, W9: and 17 of an accepted image of edition 2 going down, by what its table has: a cabin other than 0, another list, or a contact above 99
+pub convert-down : (bs buffer : List ℕ) → accepted bs ≡ true → editionIn bs ≡ edition2 →
+    (refusalOf (convertCall edition1 bs buffer .answer) ≡ 17) ↔ BeyondOld (loadCall bs .table)
+convert-down = Demand2.down-demand
 
 -- W7: a clearing with a slip that is not refused, and its taking back where no call changed the table since
 pub slip-demand : (t : Table) (i e : ℕ) (buffer : List ℕ) → clearSlipRefusal t i e (length buffer) ≡ 0 →

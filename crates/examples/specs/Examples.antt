@@ -207,17 +207,20 @@ messages =
     (answer is (0 ∷ 2 ∷ 4 ∷ []) ∷ bytes is (1 ∷ 2 ∷ 3 ∷ 2 ∷ 7 ∷ 7 ∷ 7 ∷ 7 ∷ []) ∷ []) ∷
     []
 
--- a copy of a weak link is weak too; and the ends of each range of contents
+-- a copy of a weak link is weak too; and the ends of each range of contents. W9: a contact goes up to 999, which can be keyed, and 1000 cannot
 unfoldable pub ends : List Entry
 ends =
-    accepts (call (add 0 0 1 99 0)) (what 1 is (1 ∷ 99 ∷ []) ∷ []) ∷
+    accepts (call (add 0 0 1 999 0)) (what 1 is (1 ∷ 999 ∷ []) ∷ []) ∷
     accepts (call (link 0 0 0 1)) (exit 0 1 is (weakLink ∷ 1 ∷ []) ∷ []) ∷
     accepts (call (link 0 1 1 3)) (exit 1 3 is (weakLink ∷ 1 ∷ []) ∷ counts 1 is (1 ∷ 2 ∷ []) ∷ []) ∷
-    refuses (call (add 0 2 1 100 0)) 7 ∷
+    refuses (call (add 0 2 1 1000 0)) 7 ∷
     refuses (call (add 0 2 2 16 0)) 7 ∷
     refuses (call (add 0 2 3 601 0)) 7 ∷
     accepts (call (add 0 2 2 15 0)) (what 2 is (2 ∷ 15 ∷ []) ∷ []) ∷
     accepts (call (add 0 3 3 600 0)) (what 3 is (3 ∷ 600 ∷ []) ∷ []) ∷
+    accepts (call (clear 0 3)) (steps is (0 ∷ 1 ∷ 2 ∷ []) ∷ []) ∷
+    refuses (call (keyLine (line 10 1000311000))) 9 ∷
+    accepts (call (keyLine (line 9 100031999))) (what 3 is (1 ∷ 999 ∷ []) ∷ []) ∷
     []
 
 -- W5: capacity 5, so 4 steps for the cabins. Cabin 0 is guaranteed 1 and may have 2, cabin 1 is guaranteed 2 and may have 2, cabin 2 is guaranteed none and
@@ -487,9 +490,10 @@ unsound =
     (withNumbers t 4 4 (t .quotas), 2 ∷ []) ∷
     -- 3: a step at the capacity is in use (and so it is not reached)
     (withSteps t (t .last) (set (t .used) 4 1) (set (t .kinds) 4 1) (t .contents) (t .own) (t .cabins), 3 ∷ 13 ∷ []) ∷
-    -- 4: step 0 is not in use; 5: kind 4; 6: a step's bit is 2
+    -- 4: step 0 is not in use; 5: kind 4, contact 1000; 6: a step's bit is 2
     (noAlarm, 4 ∷ []) ∷
     (withSteps u (u .last) (u .used) (set (u .kinds) 1 4) (u .contents) (u .own) (u .cabins), 5 ∷ []) ∷
+    (withSteps u (u .last) (u .used) (u .kinds) (set (u .contents) 1 1000) (u .own) (u .cabins), 5 ∷ []) ∷
     (withSteps t (t .last) (t .used) (t .kinds) (t .contents) (set (t .own) 0 2) (t .cabins), 6 ∷ []) ∷
     -- 7: a link's bit is 2 (and so it is neither counted nor strong); 8: a link leads to a free step; 9: an empty exit has a bit
     (withLinks u (u .targets) (set (u .bits) 0 2) (u .counts), 7 ∷ 11 ∷ 13 ∷ []) ∷

@@ -35,6 +35,13 @@ unfolding all
 all-intro zero p f = refl
 all-intro (suc n) p f = and-intro (all-intro n p (λ k l. f k (omega arith))) (f n (omega arith))
 
+pub all-missed : (n : ℕ) (p : ℕ → Bool) → all n p ≡ false → (k : ℕ) × (k < n) × (p k ≡ false)
+unfolding all
+all-missed zero p f = absurd (true≢false f)
+all-missed (suc n) p f =
+    ⊎-elim (λ (a : all n p ≡ true). (n, omega arith, rw a at f)) (λ (a : all n p ≡ false). let r = all-missed n p a in (r .0, omega (arith, r .1), r .2))
+    (test (all n p))
+
 pub any-at : (n : ℕ) (p : ℕ → Bool) → any n p ≡ true → (k : ℕ) × (k < n) × (p k ≡ true)
 unfolding any
 any-at zero p t = absurd (true≢false (sym t))

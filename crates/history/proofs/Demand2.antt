@@ -15,7 +15,7 @@ use Rattle.finite.proofs.Reach.{reach-sound, reach-complete}
 use Rattle.table.specs.declared.Answer.the-variants.{Given}
 use Rattle.table.specs.Table.{Table, inUse, linked, stronglyLinked, withLinks}
 use Rattle.table.specs.Sound.{Sound}
-use Rattle.table.specs.Answer.{Outcome, WriteOutcome, tooShort, notAccepted, needsEdition2, first, firstOf, unless}
+use Rattle.table.specs.Answer.{Outcome, WriteOutcome, tooShort, notAccepted, needsEdition2, first, refusalOf, firstOf, unless}
 use Rattle.table.specs.Calls.{relink, addRefusal, addCall, linkRefusal, linkCall, spokenCounts}
 use Rattle.table.specs.Clear.{emptied, cleared, clearRefusal, clearCall}
 use Rattle.table.specs.Trial.{trialCall, underNumbers}
@@ -30,13 +30,13 @@ use Rattle.table.proofs.Follow.{renumbered-follows, used-new-step, follow-stron
 use Rattle.table.proofs.Squeeze.{squeeze-made, squeeze-answer, squeeze-fits, squeeze-sound, squeeze-plan}
 use Rattle.table.proofs.Squeezed.{squeeze-refusal-same, squeeze-twice, squeeze-trial}
 use Rattle.table.proofs.SqueezeClear.{squeeze-clear}
-use Rattle.image.specs.Image.{Edition, edition1, headerKindOf, writtenEdition, editionIn, image, imageLength, written, put, writeRefusal, writeCall, imageTable, accepted, loadCall, Bytes}
+use Rattle.image.specs.Image.{Edition, edition1, edition2, headerKindOf, writtenEdition, editionIn, image, imageLength, written, put, writeRefusal, writeCall, imageTable, accepted, loadCall, Bytes}
 use Rattle.image.specs.Convert.{sayable, convertRefusal, convertCall}
 use Rattle.image.proofs.RoundTrip.{Says, accepted-says}
-use Rattle.image.proofs.Converted.{sayable-says, says-sayable, refusal-converts, convert-put, converts-back, refusal-bad, refusal-same, refusal-unsaid, Verdict, unaccepted, already, unsayable, short, done, verdict}
+use Rattle.image.proofs.Converted.{sayable-says, says-sayable, unsaid-why, refusal-converts, convert-put, converts-back, refusal-bad, refusal-same, refusal-unsaid, Verdict, unaccepted, already, unsayable, short, done, verdict}
 use Rattle.image.proofs.Laws.{image-length, image-most, image-edition, edition1-says, put-made, put-refusal, room-enough, decode-encode, encode-accepted, load-encode, accepted-sound, accepted-rewritten, image-ascending, image-equal, accepted-only, loaded-equal}
 use Rattle.table.proofs.Spoken.{spoken-plan}
-use Rattle.history.specs.Demands.{AddDemand, LinkDemand, ClearDemand, CountDemand, SqueezeDemand, TwiceDemand, WriteDemand, EqualDemand, SortedDemand, OldDemand, ConvertDemand, Counterpart, RefusalDemand, SameTableDemand}
+use Rattle.history.specs.Demands.{AddDemand, LinkDemand, ClearDemand, CountDemand, SqueezeDemand, TwiceDemand, WriteDemand, EqualDemand, SortedDemand, OldDemand, ConvertDemand, Counterpart, RefusalDemand, BeyondOld, otherCabin, otherList, largerContact, SameTableDemand}
 
 pub add-demand : (t : Table) → Sound t → (holder e kind content cabin : ℕ) → addRefusal t holder e kind content cabin ≡ 0 →
     AddDemand t holder e kind content cabin (addCall t holder e kind content cabin)
@@ -223,7 +223,7 @@ pub old-demand : (bs : List ℕ) → Bytes bs → accepted bs ≡ true → editi
 old-demand bs by a e =
     let one = edition1-says bs a e in
     let same : image (editionIn bs) (imageTable bs) ≡ image edition1 (imageTable bs) = ap (λ (v : Edition). image v (imageTable bs)) e in
-    rw (loaded-table bs a) (record { quotas = one .quotas; cabins = one .cabins; records = rw same at (accepted-rewritten bs by a) })
+    rw (loaded-table bs a) (record { quotas = one .quotas; cabins = one .cabins; records = rw same at (accepted-rewritten bs by a); contacts = one .contacts })
 
 pub same-table-demand : (bs cs : List ℕ) → Bytes bs → Bytes cs → accepted bs ≡ true → accepted cs ≡ true → editionIn bs ≡ editionIn cs →
     SameTableDemand bs cs (loadCall bs) (loadCall cs)
@@ -340,3 +340,35 @@ refusal-demand v bs buffer =
       );
       short = λ h. short-said v bs room n says (sym heard ∙ h);
     }
+
+-- 17 going down, by what the table has
+beyond-unsaid : (t : Table) → BeyondOld t → Says edition1 t → ⊥
+beyond-unsaid t (otherCabin i u d) p = d (p .cabins i u)
+beyond-unsaid t (otherList d) p = d (p .quotas)
+beyond-unsaid t (largerContact i u e l) p = let m = p .contacts i u e in absurd (omega arith)
+
+unsaid-beyond : (t : Table) → Sound t → sayable edition1 t ≡ false → BeyondOld t
+unsaid-beyond t s f = ⊎-elim otherList (λ c. largerContact (c .0) (c .1) (c .2) (c .3)) (unsaid-why t s f)
+
+pub down-demand : (bs buffer : List ℕ) → accepted bs ≡ true → editionIn bs ≡ edition2 →
+    (refusalOf (convertCall edition1 bs buffer .answer) ≡ needsEdition2) ↔ BeyondOld (loadCall bs .table)
+unfolding convertCall
+down-demand bs buffer a e =
+    let t = imageTable bs in
+    let s = test-sound t (accepted-sound bs a) in
+    let n = convertRefusal edition1 bs (length buffer) in
+    let heard = put-refusal n edition1 t buffer in
+    rw (loaded-table bs a) (
+      (λ h. unsaid-beyond t s (down-said n (verdict edition1 bs (length buffer)) (sym heard ∙ h))),
+      λ b.
+          heard ∙
+          refusal-unsaid edition1 bs (length buffer) a (λ q. let z = ap headerKindOf (sym e ∙ q) in omega arith)
+          (refute _ (λ y. beyond-unsaid t b (sayable-says edition1 t s y))),
+    )
+  where
+    down-said : (n : ℕ) → Verdict edition1 bs (length buffer) n → n ≡ needsEdition2 → sayable edition1 (imageTable bs) ≡ false
+    down-said n (unaccepted f) z = absurd (omega arith)
+    down-said n (already a e) z = absurd (omega arith)
+    down-said n (unsayable a d y) z = y
+    down-said n (short a d y l) z = absurd (omega arith)
+    down-said n (done a) z = absurd (omega arith)

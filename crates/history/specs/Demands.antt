@@ -11,9 +11,10 @@
 --   PreviewDemand       what a preview of a clearing says, and the clearing made next (W8); PreviewRefusalDemand, when it is refused
 --   WriteDemand SortedDemand   both ways of an image, over the calls (demand 2)
 --   EqualDemand SameTableDemand   one table, one image (W1)
---   OldDemand           an image of edition 1 (W5)
+--   OldDemand           an image of edition 1 (W5, W9)
 --   ConvertDemand RefusalDemand   an image converted to the other edition, and one that is not (W6)
 --   Counterpart v bs cs   the image cs of the edition v loads as the table of bs
+--   BeyondOld t         the table has what edition 1 cannot say (W6, W9)
 use mathlib.Core.Path.{_≡_}
 use mathlib.Core.Bool.{Bool, true, false}
 use mathlib.Core.Logic.{_⊎_, _↔_}
@@ -24,7 +25,7 @@ use Rattle.finite.specs.Below.{count, total}
 use Rattle.finite.specs.Reach.{Chain}
 use Rattle.table.specs.declared.Answer.the-variants.{Given}
 use Rattle.table.specs.Answer.{Outcome, WriteOutcome, full, cabinAtLimit, stepsReserved, tooShort, notAccepted, needsEdition2, slipNotAccepted, first, refusalOf, secondOf}
-use Rattle.table.specs.Table.{Table, places, counters, cabinCount, exitsOf, inUse, cabinOf, counterOf, strong, linked, linksTo, stepsInUse, StrongChain}
+use Rattle.table.specs.Table.{Table, places, counters, cabinCount, exitsOf, inUse, kindOf, contentOf, cabinOf, counterOf, strong, linked, linksTo, stepsInUse, StrongChain}
 use Rattle.table.specs.Cabins.{guaranteeOf, soleQuotas, charge}
 use Rattle.table.specs.Sound.{Sound}
 use Rattle.table.specs.Calls.{addCall}
@@ -32,7 +33,7 @@ use Rattle.table.specs.Clear.{emptied, clearCall}
 use Rattle.table.specs.Squeeze.{newNumber, squeezeRefusal, squeezeCall, Renumbered}
 use Rattle.table.specs.Plan.{planOf, planCount, planNumber, planAdd, planLink, planClear, planSqueeze}
 use Rattle.keyline.specs.Keys.{keyCabin, keyCall}
-use Rattle.image.specs.Image.{Edition, edition1, words, image, largest, editionIn, written, accepted, loadCall, Bytes, SameRecords, Ascending}
+use Rattle.image.specs.Image.{Edition, edition1, words, image, largest, editionIn, written, accepted, loadCall, Bytes, SameRecords, Ascending, OldContacts}
 use Rattle.image.specs.Slip.{recordIn, changed, slip, slipLength, SlipOutcome, clearSlipCall, slipStep, slipExit, slipCount, takeBackCall, planTakenBack}
 use Rattle.history.specs.History.{First, Call, trial, write, clearSlip, takeBack, preview, run, withTold, tableAfter, heardBy, planAfter, drawnBy, firstRow, firstRefusal, firstTable, firstPlan}
 use Rattle.history.specs.Accounts.{account, tally}
@@ -266,6 +267,8 @@ pub record OldDemand (bs : List ℕ) (o : Outcome) : Type 0 where
   pub quotas : o .table .quotas ≡ soleQuotas (o .table .capacity)
   pub cabins : (i : ℕ) → inUse (o .table) i ≡ true → cabinOf (o .table) i ≡ 0
   pub records : SameRecords bs (image edition1 (o .table))
+  -- W9: "an edition 1 image with more is not accepted"
+  pub contacts : OldContacts (o .table)
 
 -- W6: an accepted conversion of the image bs to the edition v; o is what it did
 pub record ConvertDemand (v : Edition) (bs buffer : List ℕ) (o : WriteOutcome) : Type 0 where
@@ -290,6 +293,12 @@ pub record RefusalDemand (v : Edition) (bs buffer : List ℕ) (o : WriteOutcome)
       ((accepted bs ≡ true) × (editionIn bs ≡ v → ⊥) × ((cs : List ℕ) → Counterpart v bs cs → ⊥))
   -- "11 last": each image that does is longer than the buffer
   pub short : refusalOf (o .answer) ≡ tooShort → (cs : List ℕ) → Bytes cs → Counterpart v bs cs → length buffer < length cs
+
+-- W6: "17 going down with a cabin other than 0 or with guarantees or limits other than W5's for edition 1", and W9: "also .. for a larger contact"
+pub data BeyondOld (t : Table) : Type 0 where
+  otherCabin : (i : ℕ) → inUse t i ≡ true → (cabinOf t i ≡ 0 → ⊥) → BeyondOld t
+  otherList : (t .quotas ≡ soleQuotas (t .capacity) → ⊥) → BeyondOld t
+  largerContact : (i : ℕ) → inUse t i ≡ true → kindOf t i ≡ 1 → 99 < contentOf t i → BeyondOld t
 
 -- W1: two accepted images of one edition load as one table exactly if they have the same records, in whatever order; o and p are what load did for each
 abbrev pub SameTableDemand : List ℕ → List ℕ → Outcome → Outcome → Type 0

@@ -1,4 +1,4 @@
--- What is claimed of images (document 01, "Image"; document 02, W1 and W5), each law by citing where it is proved: images load as the table that was
+-- What is claimed of images (document 01, "Image"; document 02, W1, W5 and W9), each law by citing where it is proved: images load as the table that was
 -- written, in each edition that can say it; accepted images are sound, draw the plan that their records say, and are written again in their edition
 -- with the same records, sorted; sound tables are equal exactly when their written images are (W1). Assumes nothing.
 use mathlib.Core.Path.{_≡_, refl, sym, _∙_}
@@ -19,7 +19,7 @@ use Rattle.table.specs.Answer.{tooShort, first, refusalOf}
 use Rattle.table.specs.Plan.{planOf}
 use Rattle.table.proofs.Sound.{sound-test}
 use Rattle.table.proofs.Calls.{past-sound}
-use Rattle.image.specs.Image.{Edition, edition1, edition2, recordSize, image, imageSize, largest, imageLength, writtenEdition, put, roomTests, writeRefusal, editionIn, countIn, numberIn, imageTable, accepted, loadCall, imagePlan, Bytes, Once, SameRecords, Ascending}
+use Rattle.image.specs.Image.{Edition, edition1, edition2, recordSize, image, imageSize, largest, imageLength, writtenEdition, put, roomTests, writeRefusal, editionIn, countIn, numberIn, imageTable, accepted, loadCall, imagePlan, Bytes, Once, SameRecords, Ascending, OldContacts}
 use Rattle.image.proofs.Written
 use Rattle.image.proofs.Loaded
 use Rattle.image.proofs.RoundTrip
@@ -66,13 +66,14 @@ encode-accepted v t s p = RoundTrip.encode-accepted v t s p (sound-test t s)
 pub load-encode : (v : Edition) (t : Table) → Sound t → Says v t → loadCall (image v t) ≡ record { answer = Given 0 0; table = t }
 load-encode v t s p = RoundTrip.load-encode v t s p (sound-test t s)
 
--- "Edition 1 images load with all steps charged to cabin 0, which has guarantee and limit capacity less 1, others zero" (W5)
+-- "Edition 1 images load with all steps charged to cabin 0, which has guarantee and limit capacity less 1, others zero" (W5), and have no contact above
+-- 99 (W9)
 pub edition1-says : (bs : List ℕ) → accepted bs ≡ true → editionIn bs ≡ edition1 → Says edition1 (imageTable bs)
 edition1-says = RoundTrip.accepted-says edition1
 
--- each sound table with that list has such an image
-pub load-sole : (t : Table) → Sound t → t .quotas ≡ soleQuotas (t .capacity) → loadCall (image edition1 t) ≡ record { answer = Given 0 0; table = t }
-load-sole t s q = load-encode edition1 t s (RoundTrip.sole-says t s q)
+-- each sound table with that list and no larger contact has such an image
+pub load-sole : (t : Table) → Sound t → t .quotas ≡ soleQuotas (t .capacity) → OldContacts t → loadCall (image edition1 t) ≡ record { answer = Given 0 0; table = t }
+load-sole t s q old = load-encode edition1 t s (RoundTrip.sole-says t s q old)
 
 -- "accepted exactly if .. and the table sound"
 pub accepted-sound : (bs : List ℕ) → accepted bs ≡ true → sound (imageTable bs) ≡ true

@@ -3,19 +3,20 @@
 --   decode-encode     the table that its records say
 --   encode-accepted   the image is accepted
 --   load-encode       what the call answers
---   accepted-says     what an image says, its edition can say; sole-says, edition 1 can say a sound table that cabin 0 has to itself
+--   old-contact contact-old unsaid-contact   the contents that edition 1 can say, as a test and as a statement
+--   accepted-says     what an image says, its edition can say; sole-says, edition 1 can say a sound table that cabin 0 has to itself, with contacts up to 99
 use mathlib.Core.Path.{_≡_, refl, sym, _∙_, ap}
-use mathlib.Core.Bool.{true, _&&_, not}
+use mathlib.Core.Bool.{true, false, _&&_, not}
 use mathlib.Core.Logic.{⊎-elim}
 use mathlib.Core.List.{List}
 use Prim.Native.Nat.{ℕ, zero, suc, _+_, _-_, _*_, _/_, _%_, _≤_, _<_}
 use native.Mathlib.Omega.{arith}
 use lib.ListN.{length, getD}
-use lib.Dec.{eqb}
-use borrow.Author.Tests.{eqb-true, eq-eqb, lt-ltb}
+use lib.Dec.{eqb, leb}
+use borrow.Author.Tests.{eqb-true, eq-eqb, lt-ltb, leb-true, le-leb}
 use Rattle.finite.specs.Below.{one, count, tabulate}
-use Rattle.finite.proofs.Bools.{test, same-test}
-use Rattle.finite.proofs.Below.{count-pos}
+use Rattle.finite.proofs.Bools.{test, clash, same-test, implied, imply}
+use Rattle.finite.proofs.Below.{count-pos, eq-or-ne, le-or-lt}
 use Rattle.finite.proofs.Select.{lowest-only, tabulate-entries}
 use Rattle.table.specs.declared.Answer.the-variants.{Given}
 use Rattle.table.specs.Table.{Table, places, exits, exitsOf, exitPlaces, holderAt, exitAt, counters, quotaNumbers, exitPlace, counterPlace, inUse, kindOf, contentOf, ownBit, cabinOf, targetOf, linkBit, counterOf, countsAt, linksTo, withLinks}
@@ -27,21 +28,39 @@ use Rattle.table.proofs.Links.{sound-wired, used-below}
 use Rattle.table.proofs.Formed.{formed-counts}
 use Rattle.table.proofs.Cabins.{used-charged}
 use Rattle.table.proofs.Edits.{getD-zeros}
-use Rattle.image.specs.Image.{Edition, edition1, edition2, bitsOf, stepAdds, stepFieldsOf, image, editionIn, countIn, quotasBy, quotasIn, numberIn, kindIn, contentIn, bitsIn, targetIn, cabinBy, cabinIn, bitIn, recordOf, hasRecord, recordField, counted, imageTable, accepted, loadCall}
+use Rattle.image.specs.Image.{Edition, edition1, edition2, bitsOf, stepAdds, stepFieldsOf, image, editionIn, countIn, quotasBy, quotasIn, numberIn, kindIn, contentIn, bitsIn, targetIn, cabinBy, cabinIn, bitIn, recordOf, hasRecord, recordField, counted, imageTable, contentSayable, accepted, loadCall, OldContacts}
 use Rattle.image.proofs.Exits.{exit-four}
 use Rattle.image.proofs.Bits.{fiveBits, bits-read, bits-most, bitAt, bit-cases}
 use Rattle.image.proofs.Written.{old-fields, image-header, image-edition, image-capacity, image-last, image-quota, image-size, image-field, image-records, image-number, image-index, index-number, image-distinct, index-below}
-use Rattle.image.proofs.Loaded.{record-below, record-number, said-record, said-none, table-used, table-cabin, accepted-test, accepted-table}
+use Rattle.image.proofs.Loaded.{record-below, record-number, said-record, said-none, table-used, table-kind, table-content, table-cabin, test-accepted, accepted-test, accepted-table}
 
--- a table with all of its capacity for cabin 0, and all steps charged to it
-pub record OneCabin (t : Table) : Type 0 where
+-- a table with all of its capacity for cabin 0, all steps charged to it, and no contact above 99
+pub record SaysOld (t : Table) : Type 0 where
   pub quotas : t .quotas ≡ soleQuotas (t .capacity)
   pub cabins : (i : ℕ) → inUse t i ≡ true → cabinOf t i ≡ 0
+  pub contacts : OldContacts t
 
--- what an edition can say: edition 1 has neither quotas nor cabins
+-- what an edition can say: edition 1 has neither quotas nor cabins, and the contacts of an old telephone
 abbrev pub Says : Edition → Table → Type 0
-Says edition1 t = OneCabin t
+Says edition1 t = SaysOld t
 Says edition2 t = Unit {0}
+
+-- the contents of edition 1: the test and the statement
+pub old-contact : (kind content : ℕ) → contentSayable edition1 kind content ≡ true → kind ≡ 1 → content ≤ 99
+unfolding contentSayable
+old-contact kind content h e = leb-true content 99 (implied (eqb kind 1) (leb content 99) h (eq-eqb kind 1 e))
+
+pub contact-old : (kind content : ℕ) → (kind ≡ 1 → content ≤ 99) → contentSayable edition1 kind content ≡ true
+unfolding contentSayable
+contact-old kind content h = imply (eqb kind 1) (leb content 99) (λ e. le-leb content 99 (h (eqb-true kind 1 e)))
+
+pub unsaid-contact : (kind content : ℕ) → contentSayable edition1 kind content ≡ false → (kind ≡ 1) × (99 < content)
+unsaid-contact kind content f =
+    ⊎-elim
+    (λ (e : kind ≡ 1).
+    ⊎-elim (λ (l : content ≤ 99). clash (contact-old kind content (λ e. l)) f) (λ (l : 99 < content). (e, l)) (le-or-lt content 99))
+    (λ (d : kind ≡ 1 → ⊥). clash (contact-old kind content (λ e. absurd (d e))) f)
+    (eq-or-ne kind 1)
 
 -- of any table: which record is that of step i
 module _ (v : Edition) (t : Table) where
@@ -93,6 +112,11 @@ quotas-said : (v : Edition) (t : Table) → Says v t → length (t .quotas) ≡ 
 unfolding quotasBy
 quotas-said edition1 t p l = ap soleQuotas (image-capacity edition1 t) ∙ sym (p .quotas)
 quotas-said edition2 t p l = tabulate-entries quotaNumbers _ (t .quotas) 0 l (image-quota t)
+
+says-content : (v : Edition) (t : Table) → Says v t → (i : ℕ) → inUse t i ≡ true → contentSayable v (kindOf t i) (contentOf t i) ≡ true
+unfolding contentSayable
+says-content edition1 t p i u = contact-old (kindOf t i) (contentOf t i) (p .contacts i u)
+says-content edition2 t p i u = refl
 
 -- of a sound table
 module _ (v : Edition) (t : Table) (s : Sound t) where
@@ -238,6 +262,15 @@ module _ (v : Edition) (t : Table) (s : Sound t) where
       let a = image-index v t k h in
       rw (← (a .index), bits-image (a .number) (a .below) (a .passes)) (bits-most (bitAt t (a .number)) (bit-small (a .number) (a .passes)))
 
+  image-contents : Says v t → (k : ℕ) → k < countIn (image v t) →
+      contentSayable (editionIn (image v t)) (kindIn (image v t) k) (contentIn (image v t) k) ≡ true
+  unfolding kindIn contentIn stepFieldsOf
+  image-contents p k h =
+      let a = image-index v t k h in
+      let field = image-field v t (a .number) (a .below) (a .passes) in
+      rw (image-edition v t, ← (a .index), field 1 (omega (arith, old-fields v)), field 2 (omega (arith, old-fields v)))
+      (says-content v t p (a .number) (a .passes))
+
   pub encode-accepted : Says v t → sound t ≡ true → accepted (image v t) ≡ true
   encode-accepted p b =
       accepted-test (image v t)
@@ -248,6 +281,7 @@ module _ (v : Edition) (t : Table) (s : Sound t) where
         distinct = λ j k l h e. let d = image-distinct v t j k (omega arith) h e in omega arith;
         numbers = image-numbers;
         bits = image-bits;
+        contents = image-contents p;
         loads = ap sound (decode-encode p) ∙ b;
       })
 
@@ -255,7 +289,8 @@ module _ (v : Edition) (t : Table) (s : Sound t) where
   unfolding loadCall unless first
   load-encode p b = rw (encode-accepted p b) (λ k. record { answer = Given 0 0; table = decode-encode p k })
 
--- an accepted image says no more than its edition can: an image of edition 1 loads with all of its capacity for cabin 0, and all steps charged to it
+-- an accepted image says no more than its edition can: an image of edition 1 loads with all of its capacity for cabin 0, all steps charged to it, and no
+-- contact above 99
 pub accepted-says : (v : Edition) (bs : List ℕ) → accepted bs ≡ true → editionIn bs ≡ v → Says v (imageTable bs)
 unfolding imageTable counted withLinks quotasIn quotasBy cabinIn cabinBy
 accepted-says edition1 bs a q =
@@ -263,12 +298,21 @@ accepted-says edition1 bs a q =
       quotas = ap (λ v. quotasBy v bs) q;
       cabins =
           λ i u.
-          let w = accepted-table bs a in
-          let h = used-below (sound-wired w) i u in
-          let m = w .formed .most in
           let f : (k : ℕ) → cabinIn bs k ≡ 0 = λ k. ap (λ v. cabinBy v bs k) q in
-          table-cabin bs i (omega arith) ∙ said-record bs i (cabinIn bs) (sym (table-used bs i (omega arith)) ∙ u) ∙ f (recordOf bs i);
+          table-cabin bs i (low i u) ∙ said-record bs i (cabinIn bs) (there i u) ∙ f (recordOf bs i);
+      contacts =
+          λ i u e.
+          let kind = table-kind bs i (low i u) ∙ said-record bs i (kindIn bs) (there i u) in
+          let content = table-content bs i (low i u) ∙ said-record bs i (contentIn bs) (there i u) in
+          let said = rw q at (test-accepted bs a .contents (recordOf bs i) (record-below bs i (there i u))) in
+          rw content (old-contact _ _ said (sym kind ∙ e));
     }
+  where
+    low : (i : ℕ) → inUse (imageTable bs) i ≡ true → i < places
+    low i u = let w = accepted-table bs a in let h = used-below (sound-wired w) i u in let m = w .formed .most in omega arith
+
+    there : (i : ℕ) → inUse (imageTable bs) i ≡ true → hasRecord bs i ≡ true
+    there i u = sym (table-used bs i (low i u)) ∙ u
 accepted-says edition2 bs a q = tt
 
 -- a sound table with the list of edition 1 has all steps charged to cabin 0: the other cabins have a limit of 0
@@ -277,9 +321,9 @@ unfolding limitOf soleQuotas
 sole-limit capacity c =
     ap (λ (n : ℕ). getD (soleQuotas capacity) n 0) (let e : suc c * 2 + 1 ≡ suc (suc (c * 2 + 1)) = omega arith in e) ∙ getD-zeros (quotaNumbers - 2) (c * 2 + 1)
 
-pub sole-says : (t : Table) → Sound t → t .quotas ≡ soleQuotas (t .capacity) → Says edition1 t
+pub sole-says : (t : Table) → Sound t → t .quotas ≡ soleQuotas (t .capacity) → OldContacts t → Says edition1 t
 unfolding charge
-sole-says t s q = record { quotas = q; cabins = λ i u. here i u (cabinOf t i) refl }
+sole-says t s q old = record { quotas = q; cabins = λ i u. here i u (cabinOf t i) refl; contacts = old }
   where
     here : (i : ℕ) → inUse t i ≡ true → (c : ℕ) → cabinOf t i ≡ c → c ≡ 0
     here i u zero e = refl

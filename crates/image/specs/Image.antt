@@ -1,5 +1,5 @@
--- The image of a table: its records by edition, which images are accepted, what is written (document 01, "Image"; document 02, W1 and W5). Assumes
--- nothing.
+-- The image of a table: its records by edition, which images are accepted, what is written (document 01, "Image"; document 02, W1, W5 and W9).
+-- Assumes nothing.
 --   Edition                     the edition of an image: which kinds of record it has, and which fields these have
 --   headerKindOf headerFieldCount headerFieldsOf   the header record of an edition; stepKindOf stepFieldCount stepFieldsOf, its step records
 --   word n, wordAt bs at        two bytes, little-endian, written and read
@@ -13,17 +13,19 @@
 --   editionIn bs                the edition that the header says; quotasIn, the list of quotas
 --   numberIn kindIn contentIn bitsIn targetIn cabinIn   the fields of the k-th step record of an image
 --   recordOf bs i, recordField   the record of step i, and one of its fields
+--   contentSayable e kind content   the edition e can say the content of a step of the kind
 --   framed bs, accepted bs      the bytes are such records; the image is accepted
 --   withRecord t fields         the table with the fields of a step record; counted t, with its counters worked out
 --   imageTable bs, imagePlan bs   the table and the plain plan that its records say
 --   loadCall bs                 the call
 --   SameRecords bs cs           two images differ at most in the order of their step records
 --   Ascending bs                the step records stand in ascending step number
+--   OldContacts t               no contact of the table is above the old telephone's range
 use mathlib.Core.Path.{_≡_}
-use mathlib.Core.Bool.{Bool, _&&_, not, cond}
+use mathlib.Core.Bool.{Bool, true, _&&_, _||_, not, cond}
 use mathlib.Core.List.{List, [], _∷_, _++_}
 use mathlib.Core.Option.{none, some}
-use Prim.Native.Nat.{ℕ, zero, suc, _+_, _*_, _/_, _%_, _^_, _<_}
+use Prim.Native.Nat.{ℕ, zero, suc, _+_, _*_, _/_, _%_, _^_, _≤_, _<_}
 use lib.ListN.{length, getD, set, take, drop}
 use lib.Seq.{sets}
 use lib.Dec.{eqb, leb, ltb}
@@ -267,14 +269,20 @@ framed bs =
     all (countIn bs) (λ k. recordAt bs (stepPlace bs k) (stepKindOf (editionIn bs)) (stepFieldCount (editionIn bs))) ∷
     [])
 
+-- W9: "An old telephone still takes 0 to 99", of contacts; the other kinds have in edition 1 the contents that they have in a table
+unfoldable pub contentSayable : Edition → ℕ → ℕ → Bool
+contentSayable edition1 kind content = not (eqb kind 1) || leb content 99
+contentSayable edition2 kind content = true
+
 -- "An image is accepted exactly if it is these records to its last byte, no step twice, the count right, and the table sound." A record of a
--- step that no table has, or with bits above 31, is none of these records.
+-- step that no table has, or with bits above 31, is none of these records. W9: "an edition 1 image with more is not accepted"
 unfoldable pub accepted : List ℕ → Bool
 accepted bs =
     passes
     (framed bs ∷
     all (countIn bs) (λ k. all k (λ j. not (eqb (numberIn bs j) (numberIn bs k)))) ∷
     all (countIn bs) (λ k. ltb (numberIn bs k) places && leb (bitsIn bs k) 31) ∷
+    all (countIn bs) (λ k. contentSayable (editionIn bs) (kindIn bs k) (contentIn bs k)) ∷
     sound (imageTable bs) ∷
     [])
 
@@ -336,3 +344,7 @@ pub record SameRecords (bs cs : List ℕ) : Type 0 where
 -- "in ascending step number" (W1)
 abbrev pub Ascending : List ℕ → Type 0
 Ascending bs = (j k : ℕ) → j < k → k < countIn bs → numberIn bs j < numberIn bs k
+
+-- W9: no contact of the table is above 99
+abbrev pub OldContacts : Table → Type 0
+OldContacts t = (i : ℕ) → inUse t i ≡ true → kindOf t i ≡ 1 → contentOf t i ≤ 99

@@ -285,7 +285,7 @@ module _ (bs : List ℕ) where
 
     -- it is accepted where that table is sound
     pub filled-accepted : sound (imageTable bs) ≡ accepted bs
-    unfolding numberIn bitsIn
+    unfolding numberIn kindIn contentIn bitsIn
     filled-accepted =
         same-test (sound (imageTable bs)) (accepted bs)
         (λ s.
@@ -297,6 +297,7 @@ module _ (bs : List ℕ) where
           distinct = all-distinct;
           numbers = λ k l. f .fits k (rw all l) .number;
           bits = λ k l. f .fits k (rw all l) .bits;
+          contents = λ k l. f .fits k (rw all l) .content;
           loads = s;
         }))
         (λ a. test-accepted bs a .loads)
@@ -306,7 +307,7 @@ module _ (bs : List ℕ) where
   accepted-header t = let a = test-accepted bs t in record { size = a .size; begins = a .header; capacity = accepted-capacity bs t }
 
   accepted-step : accepted bs ≡ true → (k : ℕ) → k < countIn bs → StepFits (editionIn bs) bs (stepPlace bs k)
-  unfolding stepPlace numberIn bitsIn
+  unfolding stepPlace numberIn kindIn contentIn bitsIn
   accepted-step t k l =
       let a = test-accepted bs t in
       record {
@@ -314,6 +315,7 @@ module _ (bs : List ℕ) where
         begins = a .records k l;
         number = a .numbers k l;
         bits = a .bits k l;
+        content = a .contents k l;
       }
 
   -- the cases in which it is not accepted

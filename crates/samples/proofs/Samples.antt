@@ -10,10 +10,10 @@ use Rattle.finite.proofs.Bools.{and-intro}
 use Rattle.table.specs.Plan.{planStep, planOf}
 use Rattle.cases.specs.Cases.{tableLeft, walk, everyRun, tableF4, steps}
 use Rattle.cases.proofs.Computes.{computes}
-use Rattle.samples.specs.Samples.{imageF4, newImageF4, p10, sorted, editions, imageTwin, conversions, firstStrong, secondStrong, Twins, freedSlip, turnedSlip, regrets, samples}
+use Rattle.samples.specs.Samples.{imageF4, newImageF4, p10, sorted, editions, imageTwin, conversions, oldBook, newBook, books, firstStrong, secondStrong, Twins, freedSlip, turnedSlip, regrets, samples}
 
 runs : Bool
-unfolding computes freedSlip turnedSlip regrets conversions newImageF4 editions sorted imageTwin firstStrong secondStrong imageF4 p10
+unfolding computes freedSlip turnedSlip regrets conversions oldBook newBook books newImageF4 editions sorted imageTwin firstStrong secondStrong imageF4 p10
 runs = true
 
 -- one declaration for each run, since antt bounds the steps of one
@@ -32,6 +32,10 @@ editions-hold = refl
 conversions-hold : walk tableF4 conversions ≡ true
 unfolding runs
 conversions-hold = refl
+
+books-hold : walk tableF4 books ≡ true
+unfolding runs
+books-hold = refl
 
 regrets-hold : walk tableF4 regrets ≡ true
 unfolding runs
@@ -52,9 +56,10 @@ samples-hold =
     (and-intro sorted-holds
     (and-intro editions-hold
     (and-intro conversions-hold
+    (and-intro books-hold
     (and-intro regrets-hold
     (and-intro first-strong-holds
-    (and-intro second-strong-holds refl))))))
+    (and-intro second-strong-holds refl)))))))
 
 -- W1: one plan and other strengths, other images
 pub twins : Twins (tableLeft tableF4 firstStrong) (tableLeft tableF4 secondStrong)

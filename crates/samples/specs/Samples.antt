@@ -1,5 +1,5 @@
--- Examples of images and slips, byte by byte: P10 of document 01 ("Edits on F4"), sorted records (document 02, W1), editions (W5), conversions (W6) and
--- slips (W7); and two tables with one plan and different images (W1). The entries of a run are made one after the other, each on the table that the
+-- Examples of images and slips, byte by byte: P10 of document 01 ("Edits on F4"), sorted records (document 02, W1), editions (W5), conversions (W6),
+-- slips (W7) and phone books (W9); and two tables with one plan and different images (W1). The entries of a run are made one after the other, each on the table that the
 -- one before left. Assumes nothing.
 --   samples            the table
 --   Twins              two tables with one plan and different images
@@ -100,6 +100,42 @@ conversions =
     refuses (convert edition1 newImageF4 (replicate 29 7)) 11 ∷
     []
 
+-- W9: the alarm and one step, of a kind and with a content given as its two bytes, in edition 1 and in edition 2
+unfoldable pub oldBook : ℕ → ℕ → ℕ → List ℕ
+oldBook kind low high =
+    0x0A ∷ 0 ∷ 1 ∷ 0 ∷ 4 ∷ 0 ∷ 1 ∷ 0 ∷ 2 ∷ 0 ∷
+    0x14 ∷ 0 ∷ 2 ∷ 0 ∷ 0 ∷ 0 ∷ 0 ∷ 0 ∷ 0 ∷ 0 ∷ 0 ∷ 0 ∷ 1 ∷ 0 ∷ 0 ∷ 0 ∷ 0 ∷ 0 ∷ 0 ∷ 0 ∷
+    0x14 ∷ 0 ∷ 2 ∷ 0 ∷ 1 ∷ 0 ∷ kind ∷ 0 ∷ low ∷ high ∷ 0 ∷ 0 ∷ replicate 8 0
+
+unfoldable pub newBook : ℕ → ℕ → ℕ → List ℕ
+newBook kind low high =
+    0x2A ∷ 0 ∷ 3 ∷ 0 ∷ 4 ∷ 0 ∷ 1 ∷ 0 ∷ 2 ∷ 0 ∷ 3 ∷ 0 ∷ 3 ∷ 0 ∷
+    (replicate 28 0 ++
+    (0x16 ∷ 0 ∷ 4 ∷ 0 ∷ 0 ∷ 0 ∷ 0 ∷ 0 ∷ 0 ∷ 0 ∷ 0 ∷ 0 ∷ 1 ∷ 0 ∷ 0 ∷ 0 ∷ 0 ∷ 0 ∷ 0 ∷ 0 ∷ 0 ∷ 0 ∷
+    0x16 ∷ 0 ∷ 4 ∷ 0 ∷ 1 ∷ 0 ∷ kind ∷ 0 ∷ low ∷ high ∷ 0 ∷ 0 ∷ replicate 10 0))
+
+unfoldable pub books : List Entry
+books =
+    -- edition 1: contact 99 loads and goes up; 100 does neither, and nor does 999 (E7 03 hex)
+    accepts (begin (load (oldBook 1 99 0))) (steps is (0 ∷ 1 ∷ []) ∷ what 1 is (1 ∷ 99 ∷ []) ∷ []) ∷
+    accepts (convert edition2 (oldBook 1 99 0) (replicate 86 0xFF)) (answer is (86 ∷ 0 ∷ []) ∷ bytes is newBook 1 99 0 ∷ []) ∷
+    refuses (begin (load (oldBook 1 100 0))) 12 ∷
+    refuses (convert edition2 (oldBook 1 100 0) (replicate 86 7)) 12 ∷
+    refuses (begin (load (oldBook 1 0xE7 3))) 12 ∷
+    -- edition 2: contacts 100 and 999 load, 1000 does not
+    accepts (begin (load (newBook 1 100 0))) (what 1 is (1 ∷ 100 ∷ []) ∷ []) ∷
+    accepts (begin (load (newBook 1 0xE7 3))) (what 1 is (1 ∷ 999 ∷ []) ∷ []) ∷
+    refuses (begin (load (newBook 1 0xE8 3))) 12 ∷
+    -- going down, where cabin 0 has the plan to itself: contact 99 goes; 100 gets 17, whatever the buffer; 1000 gets 12 first
+    accepts (convert edition1 (newBook 1 99 0) (replicate 50 0xFF)) (answer is (50 ∷ 0 ∷ []) ∷ bytes is oldBook 1 99 0 ∷ []) ∷
+    refuses (convert edition1 (newBook 1 100 0) (replicate 50 7)) 17 ∷
+    refuses (convert edition1 (newBook 1 100 0) []) 17 ∷
+    refuses (convert edition1 (newBook 1 0xE8 3) []) 12 ∷
+    -- a wait is no contact: 600 seconds (58 02 hex) load in edition 1 and go down
+    accepts (begin (load (oldBook 3 0x58 2))) (what 1 is (3 ∷ 600 ∷ []) ∷ []) ∷
+    accepts (convert edition1 (newBook 3 0x58 2) (replicate 50 0xFF)) (bytes is oldBook 3 0x58 2 ∷ []) ∷
+    []
+
 unfoldable pub firstStrong : List Entry
 firstStrong =
     accepts (call (add 0 0 1 0 0)) [] ∷
@@ -186,6 +222,7 @@ samples =
     record { table = tableF4; entries = sorted } ∷
     record { table = tableF4; entries = editions } ∷
     record { table = tableF4; entries = conversions } ∷
+    record { table = tableF4; entries = books } ∷
     record { table = tableF4; entries = regrets } ∷
     record { table = tableF4; entries = firstStrong } ∷
     record { table = tableF4; entries = secondStrong } ∷

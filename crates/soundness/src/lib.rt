@@ -34,7 +34,7 @@ pub fn content_fits(kind: u16, content: u16) -> bool
     ensures { λ r. ⌜ r ≡ contentFits kind content ⌝ }
 {
     match kind {
-        1 => content <= 99,
+        1 => content <= 999,
         2 => content <= 15,
         3 => 1 <= content && content <= 600,
         _ => false,

@@ -1,20 +1,50 @@
--- The statement and the test of soundness are one: `test-sound` and `sound-test`. Assumes nothing.
+-- The statement and the test of soundness are one: `test-sound` and `sound-test`. The range of contents, by numbers: `contents-range`. Assumes nothing.
 use mathlib.Core.Path.{_≡_, refl, ap}
-use mathlib.Core.Bool.{Bool, true, not}
+use mathlib.Core.Bool.{Bool, true, false, not}
+use mathlib.Core.Logic.{_⊎_, inl, inr, _↔_, ⊎-elim}
 use Prim.Native.Nat.{ℕ, _≤_, _<_}
 use native.Mathlib.Omega.{arith}
 use lib.Dec.{leb}
-use borrow.Author.Tests.{eqb-true, eq-eqb, leb-true, le-leb, ltb-true, lt-ltb}
+use borrow.Author.Tests.{eqb-true, eq-eqb, ne-eqb, leb-true, le-leb, ltb-true, lt-ltb}
 use Rattle.finite.specs.Below.{passes}
 use Rattle.finite.specs.Reach.{reaches}
 use Rattle.finite.proofs.Bools.{passes-at, and-intro, and-left, and-right, clash, refute, implied, imply, otherwise, either, not-true-false}
-use Rattle.finite.proofs.Below.{all-at, all-intro}
+use Rattle.finite.proofs.Below.{eq-or-ne, all-at, all-intro}
 use Rattle.finite.proofs.Reach.{chain-head, reach-sound, reach-complete, chain-first}
 use Rattle.table.specs.Table.{Table, places, exitsOf, counters, inUse, holds, stronglyLinked}
 use Rattle.table.specs.Cabins.{charge, freeSteps}
-use Rattle.table.specs.Sound.{Shape, Blank, Formed, Sound, capacityFits, eachUsed, shapeTests, blankTests, ringless, soundTests, sound}
+use Rattle.table.specs.Sound.{Shape, Blank, Formed, Sound, capacityFits, contentFits, eachUsed, shapeTests, blankTests, ringless, soundTests, sound}
 use Rattle.table.proofs.Cabins.{quotas-pairs, quotas-together, quotas-test, charges-limit, charges-reserve, charges-test}
 use Rattle.table.proofs.Links.{formed-wired, used-below, used-place, linked-below, strongly-linked}
+
+-- the contents that fit
+abbrev InRange : ℕ → ℕ → Type 0
+InRange kind content = ((kind ≡ 1) × (content ≤ 999)) ⊎ ((kind ≡ 2) × (content ≤ 15)) ⊎ ((kind ≡ 3) × (1 ≤ content) × (content ≤ 600))
+
+fits-range : (kind content : ℕ) → contentFits kind content ≡ true → InRange kind content
+unfolding contentFits
+fits-range kind content h =
+    ⊎-elim (λ (c : kind ≡ 1). inl (c, leb-true content 999 (rw (eq-eqb kind 1 c) at h)))
+    (λ (c : kind ≡ 1 → ⊥).
+    ⊎-elim (λ (m : kind ≡ 2). inr (inl (m, leb-true content 15 (rw (ne-eqb kind 1 c, eq-eqb kind 2 m) at h))))
+    (λ (m : kind ≡ 2 → ⊥).
+    ⊎-elim
+    (λ (w : kind ≡ 3).
+    let both = rw (ne-eqb kind 1 c, ne-eqb kind 2 m, eq-eqb kind 3 w) at h in
+    inr (inr (w, leb-true 1 content (and-left (leb 1 content) _ both), leb-true content 600 (and-right (leb 1 content) _ both))))
+    (λ (w : kind ≡ 3 → ⊥). clash {a = false} (rw (ne-eqb kind 1 c, ne-eqb kind 2 m, ne-eqb kind 3 w) at h) refl)
+    (eq-or-ne kind 3))
+    (eq-or-ne kind 2))
+    (eq-or-ne kind 1)
+
+range-fits : (kind content : ℕ) → InRange kind content → contentFits kind content ≡ true
+unfolding contentFits
+range-fits kind content (inl c) = rw (c .0) (le-leb content 999 (c .1))
+range-fits kind content (inr (inl m)) = rw (m .0) (le-leb content 15 (m .1))
+range-fits kind content (inr (inr w)) = rw (w .0) (and-intro (le-leb 1 content (w .1)) (le-leb content 600 (w .2)))
+
+pub contents-range : (kind content : ℕ) → (contentFits kind content ≡ true) ↔ InRange kind content
+contents-range kind content = (fits-range kind content, range-fits kind content)
 
 pub each-used-at : (t : Table) (p : ℕ → Bool) → eachUsed t p ≡ true → (i : ℕ) → i < places → inUse t i ≡ true → p i ≡ true
 unfolding eachUsed

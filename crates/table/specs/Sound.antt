@@ -21,10 +21,11 @@ use Rattle.table.specs.Cabins.{guaranteeOf, limitOf, quotasFit, unmet, c
 unfoldable pub capacityFits : ℕ → Bool
 capacityFits c = leb 1 c && leb c places
 
--- "Kinds": the contents of a kind that can be added: 1 contact, a phone book entry; 2 spoken message; 3 wait, in seconds; no other
+-- "Kinds": the contents of a kind that can be added: 1 contact, a phone book entry; 2 spoken message; 3 wait, in seconds; no other. W9: "Contact
+-- contents now run from 0 to 999."
 unfoldable pub contentFits : ℕ → ℕ → Bool
 contentFits kind content =
-    cond (eqb kind 1) (leb content 99)
+    cond (eqb kind 1) (leb content 999)
     (cond (eqb kind 2) (leb content 15)
     (cond (eqb kind 3) (leb 1 content && leb content 600)
     false))

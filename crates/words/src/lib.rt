@@ -84,7 +84,7 @@ pub const CABIN_AT_LIMIT: u16 = 14;
 pub const STEPS_RESERVED: u16 = 15;
 // A cabin above 7, or a bad list of guarantees and limits (W5).
 pub const BAD_CABINS: u16 = 16;
-// An image needs edition 2: edition 1 cannot say its cabins, guarantees or limits (W6).
+// An image needs edition 2: edition 1 cannot say its cabins, guarantees or limits (W6), or a contact (W9).
 pub const NEEDS_EDITION_2: u16 = 17;
 // A slip is not accepted (W7).
 pub const SLIP_NOT_ACCEPTED: u16 = 18;

@@ -1,11 +1,14 @@
 //! The first rule of docs/IMAGE.md, "Acceptance", that an image breaks, and the byte where. Whether an image is accepted is for the library to say. It
-//! does not say why it refused one; this finds what to look at. Ranges of capacities, kinds and contents, and lists of guarantees and limits, are asked
-//! of the library's calls.
+//! does not say why it refused one; this finds what to look at. Ranges of capacities, kinds and contents, those of old telephones too, and lists of
+//! guarantees and limits, are asked of the library's calls.
 
 use crate::view::View;
 use crate::words::count;
 use std::collections::BTreeSet;
-use telephone::{sole_quotas, Exit, Kind, Link, Quota, Quotas, Step, Table, CABINS, EXITS, PLACES};
+use telephone::{
+    convert_down, sole_quotas, Exit, Kind, Link, Quota, Quotas, Step, Table, CABINS, EXITS,
+    IMAGE_MAX, PLACES,
+};
 
 /// An edition of the format: bytes of the header and of a step record, and the kinds of both.
 pub struct Edition {
@@ -281,32 +284,51 @@ fn numbers_below(capacity: u16, last: u16, records: &[Record]) -> Result<(), Fau
     }
 }
 
-/// Rule 7: step 0 is the alarm, and every other step has a kind and a content that can be added.
+/// Rule 7: step 0 is the alarm, and every other step has a kind and a content that the edition takes.
 fn kinds(records: &[Record], edition: &Edition) -> Result<(), Fault> {
     if records.iter().all(|record| record.number != 0) {
         return fault(7, edition.header, "step 0 has no record".to_string());
     }
-    for record in records {
-        let Record { at, number, kind, content, .. } = *record;
-        let (kind_fits, fits) = match number {
-            0 => (kind == 0, Kind::of_numbers(kind, content) == Kind::Alarm),
-            _ => (can_be_added(kind, SOME_CONTENT), can_be_added(kind, content)),
-        };
-        if !kind_fits {
-            return fault(7, at + 6, format!("step {number} cannot have kind {kind}"));
-        }
-        if !fits {
-            return fault(7, at + 8, format!("content {content} of step {number} is out of range"));
-        }
+    let fits = |record: &Record, content: u16| match record.number {
+        0 => Kind::of_numbers(record.kind, content) == Kind::Alarm,
+        _ => takes(edition, record.kind, content),
+    };
+    let Some(record) = records.iter().find(|record| !fits(record, record.content)) else {
+        return Ok(());
+    };
+    let Record { at, number, kind, content, .. } = *record;
+    let some_content = if number == 0 { 0 } else { SOME_CONTENT };
+    if !fits(record, some_content) {
+        return fault(7, at + 6, format!("step {number} cannot have kind {kind}"));
     }
-    Ok(())
+    let said = format!("content {content} of step {number} is out of range");
+    let words = match (edition.number, Kind::of_numbers(kind, content)) {
+        (1, Kind::Contact(_)) => {
+            format!("{said}: a contact in edition 1 goes up to {}", last_old_contact())
+        }
+        _ => said,
+    };
+    fault(7, at + 8, words)
 }
 
-/// Whether the library adds a step of that kind and content.
-fn can_be_added(kind: u16, content: u16) -> bool {
-    let kind = Kind::of_numbers(kind, content);
-    let table = Table::fresh(2, &sole_quotas(2));
-    table.and_then(|mut table| table.add(0, Exit::Answered, kind, 0)).is_ok()
+/// Whether an image of the edition can have a step of that kind and content: the library adds it, and for edition 1 converts it down.
+fn takes(edition: &Edition, kind: u16, content: u16) -> bool {
+    let taken = Table::fresh(2, &sole_quotas(2)).and_then(|mut table| {
+        table.add(0, Exit::Answered, Kind::of_numbers(kind, content), 0)?;
+        if edition.number == 1 {
+            let mut image = [0; IMAGE_MAX];
+            let length = table.write_image(&mut image)?;
+            convert_down(&image[..length], &mut [0; IMAGE_MAX])?;
+        }
+        Ok(())
+    });
+    taken.is_ok()
+}
+
+/// The largest contact that an image of edition 1, which an old telephone takes, can have.
+pub fn last_old_contact() -> u16 {
+    let (kind, _) = Kind::Contact(0).numbers();
+    (0..=u16::MAX).take_while(|&contact| takes(&EDITIONS[0], kind, contact)).last().unwrap_or(0)
 }
 
 /// Rules 8 and 9: every link leads to a step with a record, and an empty exit has bit 0.

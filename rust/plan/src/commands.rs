@@ -184,7 +184,7 @@ line changes nothing and the others count.
 
 To lead an exit to a step, copy an exit that leads there already. Steps and
 contents have three digits, exits and kinds one. Exits: 0 answered, 1 engaged,
-2 no reply, 3 line fault. Kinds: 1 contact (0 to 99, 0 is the primary),
+2 no reply, 3 line fault. Kinds: 1 contact (0 to 999, 0 is the primary),
 2 message (0 to 15), 3 wait (1 to 600 seconds). Key lines add for cabin 0.
 ";
 
@@ -243,10 +243,11 @@ standard output.
 const CONVERT: &str = "\
 Converts an image to the other edition of the format. EDITION is the one to be
 written: 1, for an old telephone, or 2. The plan and its strengths stay, and the
-step records come out in ascending step number. Edition 1 has no cabins: an
-image is converted to it only where cabin 0 has the plan to itself, and is
-refused by 17 where not. Editions and lengths are said on standard error; the
-image goes to FILE, which may be IMAGE itself, or to standard output.
+step records come out in ascending step number. Edition 1 has no cabins and no
+contact above 99: an image is converted to it only where cabin 0 has the plan to
+itself and no contact is larger. Where not, it is refused by 17, and what stands
+in the way is said. Editions and lengths are said on standard error; the image
+goes to FILE, which may be IMAGE itself, or to standard output.
 ";
 
 const DRAW: &str = "\

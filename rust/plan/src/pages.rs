@@ -1,9 +1,10 @@
 //! What the commands say: a page of lines for a table, for a step, for a trial and for what a call did.
 
 use crate::change::{Change, Clearing};
+use crate::check::last_old_contact;
 use crate::view::{Held, View};
 use crate::words::{self, count, for_cabin, listed, named, place, row, steps, strength};
-use telephone::{sole_quotas, Ending, Exit, Kind, Trial, CABINS, PLACES};
+use telephone::{sole_quotas, Ending, Exit, Kind, Step, Trial, CABINS, PLACES};
 
 /// Steps of which one line says what holds them; a page says it of all.
 const HELD_IN_A_LINE: usize = 4;
@@ -334,20 +335,43 @@ pub fn squeezed(before: &View, after: &View) -> String {
     text(&page)
 }
 
-/// The first thing in a table that an image of edition 1 cannot say: a step of another cabin than 0, or a guarantee or limit that is not the one which
-/// such an image is loaded with.
+/// What an image of edition 1 cannot say of a table: the first thing about its cabins, and its larger contacts.
 pub fn needs_edition_2(view: &View) -> String {
+    let causes: Vec<String> =
+        [other_cabins(view), larger_contacts(view)].into_iter().flatten().collect();
+    match causes.is_empty() {
+        true => "nothing was found that edition 1 cannot say".to_string(),
+        false => causes.join("; "),
+    }
+}
+
+/// The first step of another cabin than 0, else the first guarantee or limit that is not the one which an image of edition 1 is loaded with.
+fn other_cabins(view: &View) -> Option<String> {
     if let Some((&number, step)) = view.steps.iter().find(|(_, step)| step.cabin != 0) {
-        return format!("{} is charged to cabin {}", named(view, number), step.cabin);
+        return Some(format!("{} is charged to cabin {}", named(view, number), step.cabin));
     }
     for (cabin, (given, old)) in view.quotas.iter().zip(sole_quotas(view.capacity)).enumerate() {
         let pairs =
             [("guarantee", given.guarantee, old.guarantee), ("limit", given.limit, old.limit)];
         if let Some((what, given, old)) = pairs.into_iter().find(|(_, given, old)| given != old) {
-            return format!("the {what} of cabin {cabin} is {given}, and in edition 1 it is {old}");
+            let words = format!("the {what} of cabin {cabin} is {given}");
+            return Some(format!("{words}, and in edition 1 it is {old}"));
         }
     }
-    "nothing was found that edition 1 cannot say".to_string()
+    None
+}
+
+/// The first step with a larger contact than an old telephone takes, and how many more there are.
+fn larger_contacts(view: &View) -> Option<String> {
+    let last = last_old_contact();
+    let larger = |step: &Step| matches!(step.kind, Kind::Contact(entry) if entry > last);
+    let mut steps = view.steps.iter().filter(|(_, step)| larger(step)).map(|(&number, _)| number);
+    let first = named(view, steps.next()?);
+    let more = match steps.count() {
+        0 => String::new(),
+        more => format!(" and {}", count(more, "more step")),
+    };
+    Some(format!("{first}{more}: an old telephone takes contacts up to {last}"))
 }
 
 /// A key line as it can be shown: its first bytes, within marks where one of them could not be seen.

@@ -9,9 +9,9 @@ use std::process::{Command, Output, Stdio};
 use telephone::{Exit, Table, IMAGE_MAX};
 
 /// Each command line, by the name of its output. The images stand in tests/images; those with a file .keys beside them were keyed. They are of edition 1
-/// but for ring-2, which is ring in edition 2, and those of several cabins. The slips are those of clearing exit 0 of step 0 in ring and in cabins;
-/// cleared and cabins-cleared are the images after it.
-const CASES: [(&str, &str); 97] = [
+/// but for ring-2, which is ring in edition 2, contacts, which has contacts above 99, and those of several cabins. contacts-old has the records of
+/// contacts in edition 1. The slips are those of clearing exit 0 of step 0 in ring and in cabins; cleared and cabins-cleared are the images after it.
+const CASES: [(&str, &str); 103] = [
     ("no-command", ""),
     ("wrong-command", "shew ring.img"),
     ("wrong-option", "show --dot ring.img"),
@@ -36,10 +36,13 @@ const CASES: [(&str, &str); 97] = [
     ("add-at-limit", "add cabins.img 4 0 1 7 2"),
     ("add-reserved", "add cabins.img 4 0 1 7 3"),
     ("add-filled", "add cabins.img 0 0 1 7 3"),
+    ("add-contact", "add ring.img 0 3 1 999 0"),
+    ("add-contact-refused", "add ring.img 0 3 1 1000 0"),
     ("show-alarm", "show fresh1.img"),
     ("show-cabins", "show cabins.img"),
     ("show-ring", "show ring.img"),
     ("show-cleared", "show cleared.img"),
+    ("show-contacts", "show contacts.img"),
     ("show-unordered", "show unordered.img"),
     ("show-missing", "show missing.img"),
     ("show-folder", "show ."),
@@ -81,6 +84,7 @@ const CASES: [(&str, &str); 97] = [
     ("take-back-changed", "take-back ring.img cabins.slip"),
     ("trial", "trial ring.img 212"),
     ("trial-open-at-once", "trial cleared.img"),
+    ("trial-contacts", "trial contacts.img 22"),
     ("trial-stopped", "trial ring.img 1111 --limit 3"),
     ("trial-round", "trial waits.img"),
     ("trial-refused", "trial ring.img 04"),
@@ -98,6 +102,8 @@ const CASES: [(&str, &str); 97] = [
     ("convert-up-again", "convert ring-2.img 2"),
     ("convert-down-again", "convert unordered.img 1"),
     ("convert-cabins", "convert cabins.img 1"),
+    ("convert-contacts", "convert contacts.img 1"),
+    ("convert-old-contacts", "convert contacts-old.img 2"),
     ("convert-damaged", "convert target.img 2"),
     ("convert-mixed", "convert mixed.img 1"),
     ("convert-missing", "convert missing.img 2"),
@@ -112,12 +118,14 @@ const CASES: [(&str, &str); 97] = [
 ];
 
 /// Images for `check`, and the status for each.
-const CHECKED: [(&str, i32); 9] = [
+const CHECKED: [(&str, i32); 11] = [
     ("ring", 0),
     ("full", 0),
     ("unordered", 0),
     ("ring-2", 0),
     ("cabins", 0),
+    ("contacts", 0),
+    ("contacts-old", 1),
     ("cut", 1),
     ("target", 1),
     ("empty", 1),
@@ -257,7 +265,7 @@ fn checks() {
     }
 }
 
-const DRAWN: [&str; 4] = ["fresh1", "ring", "thirty", "cabins"];
+const DRAWN: [&str; 5] = ["fresh1", "ring", "thirty", "cabins", "contacts"];
 
 #[test]
 fn pictures() {
@@ -312,7 +320,7 @@ fn key_lines() {
 /// The images that were keyed come out of their lines.
 #[test]
 fn keyed_images() {
-    for name in ["ring", "thirty", "full", "squeezable", "waits"] {
+    for name in ["ring", "thirty", "full", "squeezable", "waits", "contacts"] {
         let lines = image(&format!("{name}.keys"));
         let given = output(fed(&mut plan(&["key", "fresh128.img"]), &lines));
         assert!(given.status.success(), "{name}: {}", text(&given.stderr));
@@ -364,22 +372,52 @@ fn conversions() {
     assert_eq!(fs::read(&path).unwrap(), image("ring.img"));
 }
 
-/// What an image has that edition 1 cannot say: the first step of another cabin, else the first guarantee or limit.
+/// What an image has that edition 1 cannot say: the first step of another cabin, else the first guarantee or limit; and the first contact above 99, with
+/// the number of the others.
 #[test]
 fn needs_edition_2() {
     let path = scratch("needs_edition_2.img");
     let file = path.to_str().unwrap();
+    let fresh =
+        |list: &str| output(plan(&["fresh", "8", "-o", file]).args(list.split_whitespace()));
+    let refused = |words: &str| {
+        let given = output(&mut plan(&["convert", file, "1"]));
+        assert!(is_failure(&given), "{words}");
+        let said = text(&given.stderr);
+        assert!(said.ends_with(&format!("cannot say; {words}\n")), "{said}");
+    };
+    let limit = "the limit of cabin 0 is 8, and in edition 1 it is 7";
     for (list, words) in [
-        ("7/8", "the limit of cabin 0 is 8, and in edition 1 it is 7"),
+        ("7/8", limit),
         ("0/7 7/7", "the guarantee of cabin 0 is 0, and in edition 1 it is 7"),
         ("7/7 0/0 0/1", "the limit of cabin 2 is 1, and in edition 1 it is 0"),
         ("0/0", "the guarantee of cabin 0 is 0, and in edition 1 it is 7"),
     ] {
-        let fresh: Vec<&str> = ["fresh", "8"].into_iter().chain(list.split(' ')).collect();
-        fs::write(&path, output(&mut plan(&fresh)).stdout).unwrap();
-        let given = output(&mut plan(&["convert", file, "1"]));
-        assert!(is_failure(&given), "{list}");
-        assert!(text(&given.stderr).ends_with(&format!("cannot say; {words}\n")), "{list}");
+        assert!(fresh(list).status.success(), "{list}");
+        refused(words);
+    }
+    for (list, cabins) in [("", None), ("7/8", Some(limit))] {
+        assert!(fresh(list).status.success(), "{list}");
+        // steps, each at the answered exit of the one before, and those with larger contacts then
+        for (step, kind, content, larger) in [
+            ("0", "3", "600", None),
+            ("1", "1", "99", None),
+            ("2", "1", "999", Some("step 3 (contact 999)")),
+            ("3", "2", "15", Some("step 3 (contact 999)")),
+            ("4", "1", "100", Some("step 3 (contact 999) and 1 more step")),
+            ("5", "1", "256", Some("step 3 (contact 999) and 2 more steps")),
+        ] {
+            let added = output(plan(&["add", file, step, "0", kind, content, "0", "-o"]).arg(file));
+            assert!(added.status.success(), "{}", text(&added.stderr));
+            let contacts =
+                larger.map(|of| format!("{of}: an old telephone takes contacts up to 99"));
+            let causes: Vec<String> =
+                cabins.map(str::to_string).into_iter().chain(contacts).collect();
+            match causes.is_empty() {
+                true => assert!(output(&mut plan(&["convert", file, "1"])).status.success()),
+                false => refused(&causes.join("; ")),
+            }
+        }
     }
 }
 

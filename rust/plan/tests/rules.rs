@@ -59,6 +59,9 @@ fn edition_1() {
         (&[(34, 4), (22, 4)], 6, 34),
         (&[(14, 2)], 7, 10),
         (&[(16, 1)], 7, 16),
+        (&[(18, 1)], 7, 18),
+        (&[(36, 0)], 7, 36),
+        (&[(36, 4)], 7, 36),
         (&[(36, 3)], 7, 38),
         (&[(22, 2)], 8, 22),
         (&[(20, 2)], 9, 20),
@@ -102,6 +105,21 @@ fn edition_2() {
     for length in 0..cabins().len() {
         let rule = if length < 42 { 1 } else { 3 };
         assert_eq!(told(&cabins()[..length]), Some((rule, length)));
+    }
+}
+
+/// Contents of each kind up to four digits: a contact goes up to 99 in edition 1 and up to 999 in edition 2, messages and waits are the same in both.
+#[test]
+fn contents() {
+    for (image, at, last) in [(two_steps(), 36, 99), (cabins(), 70, 999)] {
+        for (kind, range) in [(1, 0..=last), (2, 0..=15), (3, 1..=600)] {
+            for content in 0..1100_u16 {
+                let [low, high] = content.to_le_bytes();
+                let changes = [(at, kind), (at + 2, low), (at + 3, high)];
+                let fault = (!range.contains(&content)).then_some((7, at + 2));
+                assert_eq!(told(&changed(image.clone(), &changes)), fault, "{kind}, {content}");
+            }
+        }
     }
 }
 

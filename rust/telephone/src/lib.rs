@@ -112,7 +112,7 @@ pub enum Refusal {
     StepsReserved,
     /// 16: cabin above 7, or bad list of guarantees and limits.
     BadCabins,
-    /// 17: image needs edition 2: a cabin, guarantee or limit that edition 1 cannot say.
+    /// 17: image needs edition 2: a cabin, guarantee, limit or contact that edition 1 cannot say.
     NeedsEdition2,
     /// 18: slip not accepted.
     SlipNotAccepted,
@@ -195,7 +195,7 @@ impl fmt::Display for Refusal {
             Refusal::StepsReserved => "only steps reserved for other cabins are free",
             Refusal::BadCabins => "cabin above 7, or bad list of guarantees and limits",
             Refusal::NeedsEdition2 => {
-                "image needs edition 2: a cabin, guarantee or limit that edition 1 cannot say"
+                "image needs edition 2: a cabin, guarantee, limit or contact that edition 1 cannot say"
             }
             Refusal::SlipNotAccepted => "slip not accepted",
             Refusal::Unknown(number) => return write!(f, "unknown refusal {number}"),
@@ -210,7 +210,7 @@ impl core::error::Error for Refusal {}
 pub enum Kind {
     /// Step 0, and no other.
     Alarm,
-    /// Rings a phone book entry, 0 to 99; 0 is the primary.
+    /// Rings a phone book entry, 0 to 999; 0 is the primary. In an image of edition 1 it is 0 to 99.
     Contact(u16),
     /// Speaks a message, 0 to 15.
     Message(u16),
@@ -415,18 +415,23 @@ pub fn convert_up(image: &[u8], buffer: &mut [u8]) -> Result<usize, Refusal> {
 }
 
 /// Converts an image of edition 2 to edition 1 and writes it to the start of a lent buffer, as [`convert_up`] does. Edition 1 has no cabins: all steps
-/// have to be of cabin 0, and the guarantees and limits those of [`sole_quotas`] for the capacity. An image of edition 1 is refused as
-/// [`Refusal::NotAccepted`].
+/// have to be of cabin 0, and the guarantees and limits those of [`sole_quotas`] for the capacity. Its contacts have to be 0 to 99. An image of edition
+/// 1 is refused as [`Refusal::NotAccepted`].
 ///
 /// ```
-/// use telephone::{convert_down, sole_quotas, Quotas, Refusal, Table};
+/// use telephone::{convert_down, sole_quotas, Exit, Kind, Quotas, Refusal, Table};
 ///
-/// let (mut image, mut old) = ([0; 64], [0; 30]);
-/// Table::fresh(4, &sole_quotas(4))?.write_image(&mut image)?;
-/// assert_eq!(convert_down(&image, &mut old), Ok(30));
-/// Table::fresh(4, &Quotas::default())?.write_image(&mut image)?;
+/// let (mut image, mut old) = ([0; 86], [0; 50]);
+/// let mut table = Table::fresh(4, &sole_quotas(4))?;
+/// let length = table.write_image(&mut image)?;
+/// assert_eq!(convert_down(&image[..length], &mut old), Ok(30));
+/// let length = Table::fresh(4, &Quotas::default())?.write_image(&mut image)?;
 /// // cabin 0 has limit 0, and not 3
-/// assert_eq!(convert_down(&image, &mut old), Err(Refusal::NeedsEdition2));
+/// assert_eq!(convert_down(&image[..length], &mut old), Err(Refusal::NeedsEdition2));
+/// table.add(0, Exit::Answered, Kind::Contact(100), 0)?;
+/// let length = table.write_image(&mut image)?;
+/// // an old telephone takes contacts up to 99
+/// assert_eq!(convert_down(&image[..length], &mut old), Err(Refusal::NeedsEdition2));
 /// # Ok::<(), telephone::Refusal>(())
 /// ```
 pub fn convert_down(image: &[u8], buffer: &mut [u8]) -> Result<usize, Refusal> {
@@ -463,7 +468,7 @@ impl Table {
     }
 
     /// The table of an image of edition 1 or 2, whose step records may come in any order. Of an image of edition 1 all steps are charged to cabin 0,
-    /// which has the table to itself.
+    /// which has the table to itself; with a contact above 99 such an image is refused.
     pub fn load(image: &[u8]) -> Result<Table, Refusal> {
         let mut table = Table(raw::Table::ZERO);
         table.reload(image)?;

@@ -589,7 +589,7 @@ fn refused_calls_change_nothing() {
     assert_eq!(table.add(0, Exit::Answered, Kind::Contact(0), 0), Err(Refusal::ExitFilled));
     for kind in [
         Kind::Alarm,
-        Kind::Contact(100),
+        Kind::Contact(1000),
         Kind::Message(16),
         Kind::Wait(0),
         Kind::Wait(601),
@@ -711,6 +711,15 @@ fn not_converted(convert: Conversion, given: &[u8], room: usize, refusal: Refusa
     assert!(buffer.iter().all(|&byte| byte == 99));
 }
 
+/// An image has to be refused by the loader and by the conversion to the other edition, whatever the room.
+#[track_caller]
+fn not_accepted(image: &[u8], convert: Conversion) {
+    assert_eq!(Table::load(image), Err(Refusal::NotAccepted));
+    for room in [0, IMAGE_MAX] {
+        not_converted(convert, image, room, Refusal::NotAccepted);
+    }
+}
+
 /// The image of a table.
 fn image_of(table: &Table) -> Vec<u8> {
     let mut image = vec![0; table.image_length().unwrap()];
@@ -799,6 +808,92 @@ fn conversions_refused() {
     let mut image = image_of(&ring());
     image[42 + 22 + 20] = 1;
     not_converted(convert_down, &image, IMAGE_MAX, Refusal::NotAccepted);
+}
+
+/// Longer phone books (W9): a content is taken or refused wherever it can be given, in an add, in a key line, in a table of the caller's and in images of
+/// both editions, loaded and converted. The range of contacts is another in edition 1.
+#[test]
+fn contents() {
+    let mut given = fresh(4);
+    given.add(0, Exit::Answered, Kind::Wait(1), 0).unwrap();
+    let given_image = image_of(&given);
+    for (number, range, old_range) in
+        [(1, 0..=999, 0..=99), (2, 0..=15, 0..=15), (3, 1..=600, 1..=600)]
+    {
+        for content in (0..1100).chain([32_768 + 50, 65_535]) {
+            let kind = Kind::of_numbers(number, content);
+            let mut kept = given.as_raw().clone();
+            (kept.kinds[1], kept.contents[1]) = (number, content);
+            let expected = Table::from_raw(kept);
+            assert_eq!(expected.is_ok(), range.contains(&content), "{kind}");
+            let mut image = given_image.clone();
+            let fields = [number, content].map(u16::to_le_bytes).concat();
+            image[42 + 22 + 6..][..4].copy_from_slice(&fields);
+            let old = in_edition_1(&image).concat();
+            let mut added = fresh(4);
+            let wanted = expected.as_ref().map(|_| 1).map_err(|_| Refusal::BadKind);
+            assert_eq!(added.add(0, Exit::Answered, kind, 0), wanted, "{kind}");
+            if content < 1000 {
+                let mut keyed = fresh(4);
+                let answer = keyed.key_line(format!("H*10000{number}{content:03}A").as_bytes());
+                assert_eq!((answer, &keyed), (wanted.map(|step| (step, 0)), &added));
+            }
+            let Ok(table) = expected else {
+                assert_eq!(added, fresh(4));
+                not_accepted(&image, convert_down);
+                not_accepted(&old, convert_up);
+                continue;
+            };
+            assert_eq!((&added, Table::load(&image)), (&table, Ok(table.clone())));
+            if old_range.contains(&content) {
+                assert_eq!(Table::load(&old), Ok(table));
+                converted(convert_up, &old, &image);
+                converted(convert_down, &image, &old);
+            } else {
+                not_accepted(&old, convert_up);
+                for room in [0, old.len(), IMAGE_MAX] {
+                    not_converted(convert_down, &image, room, Refusal::NeedsEdition2);
+                }
+            }
+        }
+    }
+}
+
+/// Contacts above 99 among others: the first or the last of them is enough for 17, which comes after 12. Squeezed, cleared and taken back they stay what
+/// they are, and a slip can bring back contact 999 and not contact 1000.
+#[test]
+fn larger_contacts() {
+    for larger in 0..4 {
+        let mut table = fresh(8);
+        for (step, content) in [99, 99, 0, 1].into_iter().enumerate() {
+            let content = if step == larger { 999 } else { content };
+            table.add(step as u16, Exit::Answered, Kind::Contact(content), 0).unwrap();
+        }
+        let image = image_of(&table);
+        not_converted(convert_down, &image, 0, Refusal::NeedsEdition2);
+        not_converted(convert_down, &image[..image.len() - 1], 0, Refusal::NotAccepted);
+        let mut old = in_edition_1(&image);
+        not_accepted(&old.concat(), convert_up);
+        old[1..].reverse();
+        not_accepted(&old.concat(), convert_up);
+        // beside another list
+        table.squeeze(8, &list(&[(4, 5), (1, 1)])).unwrap();
+        not_converted(convert_down, &image_of(&table), 0, Refusal::NeedsEdition2);
+    }
+    let mut table = fresh(4);
+    table.add(0, Exit::Answered, Kind::Wait(1), 0).unwrap();
+    table.add(0, Exit::Engaged, Kind::Contact(999), 0).unwrap();
+    table.clear(0, Exit::Answered).unwrap();
+    assert_eq!(table.squeeze(2, &sole_quotas(2)), Ok(()));
+    assert_eq!(table.read(1).unwrap().kind, Kind::Contact(999));
+    let (mut after, _, slip) = cleared(&table, 0, Exit::Engaged);
+    let with_content = |content: u16| {
+        let mut slip = slip.clone();
+        slip[6 + 44 + 8..][..2].copy_from_slice(&content.to_le_bytes());
+        slip
+    };
+    not_taken_back(&after, &with_content(1000));
+    assert_eq!((after.take_back(&with_content(999)), &after), (Ok(1), &table));
 }
 
 /// Steps are renumbered in their order; links, bits and counters go with them, and nothing is left at the old places. A second squeeze changes
@@ -973,7 +1068,10 @@ fn numbers_go_there_and_back() {
         (14, "cabin at its limit"),
         (15, "only steps reserved for other cabins are free"),
         (16, "cabin above 7, or bad list of guarantees and limits"),
-        (17, "image needs edition 2: a cabin, guarantee or limit that edition 1 cannot say"),
+        (
+            17,
+            "image needs edition 2: a cabin, guarantee, limit or contact that edition 1 cannot say",
+        ),
         (18, "slip not accepted"),
         (19, "unknown refusal 19"),
     ] {
@@ -983,7 +1081,7 @@ fn numbers_go_there_and_back() {
         let exit = Exit::try_from(number);
         assert_eq!(exit.is_ok(), number < 4);
         assert_eq!(exit.map_or(number, Exit::number), number);
-        for content in [0, 1, 99, 65535] {
+        for content in [0, 1, 99, 999, 1000, 65535] {
             assert_eq!(Kind::of_numbers(number, content).numbers(), (number, content));
         }
     }
