@@ -47,8 +47,8 @@
  *     plan_preview_clear                                                        8,288
  *     plan_squeeze                                                              7,568
  *     plan_trial, plan_write_image                                              7,280
- *     plan_load_image                                                           7,312
- *     plan_convert_up, plan_convert_down                                       11,280
+ *     plan_load_image                                                           7,344
+ *     plan_convert_up, plan_convert_down                                       11,312
  *     plan_key_line                                                             7,440
  *
  * `cargo test --release --test stack -- --nocapture` in compare/ prints them.

@@ -4,7 +4,7 @@ ghost use mathlib.Core.Path.{_≡_};
 ghost use mathlib.Core.Bool.{true};
 ghost use Rattle.table.specs.Sound.{sound};
 ghost use Rattle.image.specs.Image.{edition1, edition2};
-ghost use Rattle.image.specs.Convert.{hasSoleQuotas, hasOldContents, sayable, convertCall};
+ghost use Rattle.image.specs.Convert.{hasSoleQuotas, sayable, convertCall};
 ghost use Rattle.words.specs.Words.{tableOf};
 ghost use Rattle.records.specs.Records.{editionOf};
 use table::Answer;
@@ -27,23 +27,6 @@ fn is_sole(t: &[u16; WORDS]) -> bool
     true
 }
 
-// Whether edition 1 can say the content of each step.
-fn has_old_contents(t: &[u16; WORDS]) -> bool
-    requires { ⌜ sound (tableOf (now t)) ≡ true ⌝ }
-    ensures { λ r. ⌜ r ≡ hasOldContents (tableOf (now (t .entry))) ⌝ }
-{
-    let capacity = words::wide(words::capacity(t));
-    let mut i: usize = 0;
-    // Edition 1 can say the contents of the steps below i.
-    while i < capacity {
-        if !records::content_sayable(false, words::kind_at(t, i), words::content_at(t, i)) {
-            return false;
-        }
-        i += 1;
-    }
-    true
-}
-
 // Whether an edition can say a sound table. Edition 1 can where quotas and contents are its own: under those quotas no other cabin than 0 has a step,
 // since its limit is 0.
 fn is_sayable(t: &[u16; WORDS], newer: bool) -> bool
@@ -53,7 +36,7 @@ fn is_sayable(t: &[u16; WORDS], newer: bool) -> bool
     if newer {
         return true;
     }
-    is_sole(t) && has_old_contents(t)
+    is_sole(t) && recording::has_old_contents(t)
 }
 
 // Converts an image to an edition, into the buffer, by a table of its own. A refused call writes nothing.

@@ -16,7 +16,7 @@ use lib.Dec.{eqb}
 use borrow.Author.Tests.{eqb-true, eqb-false, eq-eqb, ne-eqb, ltb-false}
 use Rattle.finite.specs.Below.{all}
 use Rattle.finite.proofs.Bools.{test, clash, refute, same-test, and-left, and-right, and-intro, not-false-true}
-use Rattle.finite.proofs.Below.{all-at, all-intro, all-missed, eq-or-ne, le-or-lt}
+use Rattle.finite.proofs.Below.{all-at, all-intro, eq-or-ne, le-or-lt}
 use Rattle.table.specs.Table.{Table, quotaNumbers, inUse, kindOf, contentOf, cabinOf}
 use Rattle.table.specs.Cabins.{soleQuotas}
 use Rattle.table.specs.Sound.{Sound}
@@ -24,12 +24,12 @@ use Rattle.table.specs.Answer.{tooShort, notAccepted, needsEdition2, first}
 use Rattle.table.proofs.Sound.{sound-test}
 use Rattle.table.proofs.Links.{sound-wired, used-below}
 use Rattle.table.proofs.Calls.{nonzero, passed-next, first-passed}
-use Rattle.image.specs.Image.{Edition, edition1, edition2, headerKindOf, image, imageLength, put, roomTests, editionIn, imageTable, contentSayable, accepted, OldContacts}
-use Rattle.image.specs.Convert.{hasSoleQuotas, hasOldContents, sayable, convertConditions, convertRefusal, convertCall}
+use Rattle.image.specs.Image.{Edition, edition1, edition2, headerKindOf, image, imageLength, put, roomTests, editionIn, imageTable, contentsSayable, accepted}
+use Rattle.image.specs.Convert.{hasSoleQuotas, sayable, convertConditions, convertRefusal, convertCall}
 use Rattle.image.proofs.Written.{image-edition}
 use Rattle.image.proofs.Loaded.{accepted-table}
 use Rattle.image.proofs.Laws.{room-fits, room-short}
-use Rattle.image.proofs.RoundTrip.{Says, old-contact, contact-old, unsaid-contact, decode-encode, encode-accepted, accepted-says, sole-says}
+use Rattle.image.proofs.RoundTrip.{Says, contents-contacts, contacts-contents, larger-contact, decode-encode, encode-accepted, accepted-says, sole-says}
 
 -- the list of edition 1 has a pair for each cabin
 sole-length : (capacity : ℕ) → length (soleQuotas capacity) ≡ quotaNumbers
@@ -48,23 +48,6 @@ quotas-sole t e =
     all-intro quotaNumbers (λ k. eqb (getD (t .quotas) k 0) (getD (soleQuotas (t .capacity)) k 0))
     (λ k h. eq-eqb _ _ (ap (λ (q : List ℕ). getD q k 0) e))
 
--- a contact is in use
-contact-used : (t : Table) → Sound t → (i : ℕ) → i < t .capacity → kindOf t i ≡ 1 → inUse t i ≡ true
-contact-used t s i h e =
-    ⊎-elim (λ u. u) (λ u. absurd (omega (arith, e, s .formed .free i (omega (arith, s .formed .most)) u .kind))) (test (inUse t i))
-
--- the contents, as a test and as a statement
-old-contents : (t : Table) → Sound t → hasOldContents t ≡ true → OldContacts t
-unfolding hasOldContents
-old-contents t s h i u = old-contact _ _ (all-at (t .capacity) _ h i (used-below (sound-wired s) i u))
-
-contents-old : (t : Table) → Sound t → OldContacts t → hasOldContents t ≡ true
-unfolding hasOldContents
-contents-old t s p =
-    all-intro (t .capacity) (λ i. contentSayable edition1 (kindOf t i) (contentOf t i))
-    (λ i h.
-    contact-old _ _ (λ e. p i (contact-used t s i h e) e))
-
 pub sayable-says : (v : Edition) (t : Table) → Sound t → sayable v t ≡ true → Says v t
 unfolding sayable
 sayable-says edition1 t s h =
@@ -73,7 +56,7 @@ sayable-says edition1 t s h =
     record {
       quotas = sole-quotas t s (and-left (hasSoleQuotas t) _ rest);
       cabins = λ i u. eqb-true _ _ (all-at (t .capacity) _ cabins i (used-below (sound-wired s) i u));
-      contacts = old-contents t s (and-right (hasSoleQuotas t) _ rest);
+      contacts = contents-contacts t s (and-right (hasSoleQuotas t) _ rest);
     }
 sayable-says edition2 t s h = tt
 
@@ -84,31 +67,25 @@ says-sayable edition1 t s p =
     (all-intro (t .capacity) (λ i. eqb (cabinOf t i) 0)
     (λ i h.
     eq-eqb (cabinOf t i) 0 (⊎-elim (λ u. p .cabins i u) (λ u. s .formed .free i (omega (arith, s .formed .most)) u .cabin) (test (inUse t i)))))
-    (and-intro (quotas-sole t (p .quotas)) (contents-old t s (p .contacts)))
+    (and-intro (quotas-sole t (p .quotas)) (contacts-contents t s (p .contacts)))
 says-sayable edition2 t s p = refl
 
 -- the cabins never decide alone: under that list no other cabin has a step
-pub sole-sayable : (t : Table) → Sound t → (hasSoleQuotas t && hasOldContents t) ≡ sayable edition1 t
+pub sole-sayable : (t : Table) → Sound t → (hasSoleQuotas t && contentsSayable edition1 t) ≡ sayable edition1 t
 sole-sayable t s =
-    same-test (hasSoleQuotas t && hasOldContents t) (sayable edition1 t)
+    same-test (hasSoleQuotas t && contentsSayable edition1 t) (sayable edition1 t)
     (λ h.
     says-sayable edition1 t s
-    (sole-says t s (sole-quotas t s (and-left (hasSoleQuotas t) _ h)) (old-contents t s (and-right (hasSoleQuotas t) _ h))))
+    (sole-says t s (sole-quotas t s (and-left (hasSoleQuotas t) _ h)) (contents-contacts t s (and-right (hasSoleQuotas t) _ h))))
     (λ h. unfold sayable in (and-right (all (t .capacity) (λ i. eqb (cabinOf t i) 0)) _ h))
 
 -- what stands in the way: another list, or a contact above 99
 pub unsaid-why : (t : Table) → Sound t → sayable edition1 t ≡ false →
     (t .quotas ≡ soleQuotas (t .capacity) → ⊥) ⊎ ((i : ℕ) × (inUse t i ≡ true) × (kindOf t i ≡ 1) × (99 < contentOf t i))
 unsaid-why t s f =
-    ⊎-elim (λ (q : hasSoleQuotas t ≡ true). inr (larger (refute _ (λ h. clash (sym (sole-sayable t s) ∙ and-intro q h) f))))
+    ⊎-elim (λ (q : hasSoleQuotas t ≡ true). inr (larger-contact t s (refute _ (λ h. clash (sym (sole-sayable t s) ∙ and-intro q h) f))))
     (λ (q : hasSoleQuotas t ≡ false). inl (λ e. clash (quotas-sole t e) q))
     (test (hasSoleQuotas t))
-  where
-    larger : hasOldContents t ≡ false → (i : ℕ) × (inUse t i ≡ true) × (kindOf t i ≡ 1) × (99 < contentOf t i)
-    larger h =
-        let m = all-missed (t .capacity) (λ i. contentSayable edition1 (kindOf t i) (contentOf t i)) (unfold hasOldContents in h) in
-        let w = unsaid-contact (kindOf t (m .0)) (contentOf t (m .0)) (m .2) in
-        (m .0, contact-used t s (m .0) (m .1) (w .0), w .0, w .1)
 
 -- the kind of the header tells the edition
 pub kind-edition : (v w : Edition) → headerKindOf v ≡ headerKindOf w → v ≡ w

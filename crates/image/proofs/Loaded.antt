@@ -21,7 +21,7 @@ use Rattle.table.specs.Sound.{Sound, sound}
 use Rattle.table.specs.Plan.{PlanStep, planStep, planOf}
 use Rattle.table.proofs.Places.{tabulate-exits}
 use Rattle.table.proofs.Sound.{test-sound}
-use Rattle.image.specs.Image.{headerKindOf, headerFieldCount, stepKindOf, stepFieldCount, recordAt, editionIn, capacityIn, lastIn, countIn, quotasIn, stepPlace, numberIn, kindIn, contentIn, bitsIn, targetIn, cabinIn, bitIn, recordOf, hasRecord, recordField, counted, imageTable, framed, contentSayable, accepted, imagePlan}
+use Rattle.image.specs.Image.{headerKindOf, headerFieldCount, stepKindOf, stepFieldCount, recordAt, editionIn, capacityIn, lastIn, countIn, quotasIn, stepPlace, numberIn, kindIn, contentIn, bitsIn, targetIn, cabinIn, bitIn, recordOf, hasRecord, recordField, counted, imageTable, framed, contentsSayable, accepted, imagePlan}
 use Rattle.image.proofs.Exits.{exits-four}
 
 -- the clauses of `accepted`, in its order
@@ -32,8 +32,8 @@ pub record Accepted (bs : List ℕ) : Type 0 where
   pub distinct : (j k : ℕ) → j < k → k < countIn bs → numberIn bs j ≡ numberIn bs k → ⊥
   pub numbers : (k : ℕ) → k < countIn bs → numberIn bs k < places
   pub bits : (k : ℕ) → k < countIn bs → bitsIn bs k ≤ 31
-  pub contents : (k : ℕ) → k < countIn bs → contentSayable (editionIn bs) (kindIn bs k) (contentIn bs k) ≡ true
   pub loads : sound (imageTable bs) ≡ true
+  pub contents : contentsSayable (editionIn bs) (imageTable bs) ≡ true
 
 -- the tests of acceptance on the numbers of two records, and on one record
 abbrev differs : List ℕ → ℕ → ℕ → Bool
@@ -41,9 +41,6 @@ differs bs k j = not (eqb (numberIn bs j) (numberIn bs k))
 
 abbrev ranged : List ℕ → ℕ → Bool
 ranged bs k = ltb (numberIn bs k) places && leb (bitsIn bs k) 31
-
-abbrev saidAt : List ℕ → ℕ → Bool
-saidAt bs k = contentSayable (editionIn bs) (kindIn bs k) (contentIn bs k)
 
 -- the plan's entry for step i, as `imagePlan` draws it
 abbrev drawnStep : List ℕ → ℕ → Option PlanStep
@@ -139,8 +136,8 @@ module _ (bs : List ℕ) where
         distinct = differ;
         numbers = λ k h. ltb-true _ _ (and-left _ _ (inRange k h));
         bits = λ k h. leb-true _ _ (and-right (ltb (numberIn bs k) places) _ (inRange k h));
-        contents = all-at (countIn bs) (saidAt bs) (and-left _ _ rest);
-        loads = and-left _ _ (and-right (all (countIn bs) (saidAt bs)) _ rest);
+        loads = and-left _ _ rest;
+        contents = and-left _ _ (and-right (sound (imageTable bs)) _ rest);
       }
 
   pub accepted-test : Accepted bs → accepted bs ≡ true
@@ -152,7 +149,7 @@ module _ (bs : List ℕ) where
       (all-intro _ _ (λ k h. all-intro k (differs bs k) (λ j l. rw (ne-eqb (numberIn bs j) (numberIn bs k) (a .distinct j k l h)))))
       (and-intro
       (all-intro _ _ (λ k h. and-intro (lt-ltb (numberIn bs k) places (a .numbers k h)) (le-leb (bitsIn bs k) 31 (a .bits k h))))
-      (and-intro (all-intro (countIn bs) (saidAt bs) (a .contents)) (and-intro (a .loads) refl))))
+      (and-intro (a .loads) (and-intro (a .contents) refl))))
 
   pub accepted-distinct : accepted bs ≡ true → (j k : ℕ) → j < countIn bs → k < countIn bs → numberIn bs j ≡ numberIn bs k → j ≡ k
   accepted-distinct t j k h l e =

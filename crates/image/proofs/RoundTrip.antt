@@ -3,9 +3,9 @@
 --   decode-encode     the table that its records say
 --   encode-accepted   the image is accepted
 --   load-encode       what the call answers
---   old-contact contact-old unsaid-contact   the contents that edition 1 can say, as a test and as a statement
+--   contents-contacts contacts-contents larger-contact   the contents that edition 1 can say, as a test and as a statement
 --   accepted-says     what an image says, its edition can say; sole-says, edition 1 can say a sound table that cabin 0 has to itself, with contacts up to 99
-use mathlib.Core.Path.{_≡_, refl, sym, _∙_, ap}
+use mathlib.Core.Path.{_≡_, refl, sym, _∙_, ap, ap₂}
 use mathlib.Core.Bool.{true, false, _&&_, not}
 use mathlib.Core.Logic.{⊎-elim}
 use mathlib.Core.List.{List}
@@ -16,7 +16,7 @@ use lib.Dec.{eqb, leb}
 use borrow.Author.Tests.{eqb-true, eq-eqb, lt-ltb, leb-true, le-leb}
 use Rattle.finite.specs.Below.{one, count, tabulate}
 use Rattle.finite.proofs.Bools.{test, clash, same-test, implied, imply}
-use Rattle.finite.proofs.Below.{count-pos, eq-or-ne, le-or-lt}
+use Rattle.finite.proofs.Below.{count-pos, all-at, all-intro, all-missed, eq-or-ne, le-or-lt}
 use Rattle.finite.proofs.Select.{lowest-only, tabulate-entries}
 use Rattle.table.specs.declared.Answer.the-variants.{Given}
 use Rattle.table.specs.Table.{Table, places, exits, exitsOf, exitPlaces, holderAt, exitAt, counters, quotaNumbers, exitPlace, counterPlace, inUse, kindOf, contentOf, ownBit, cabinOf, targetOf, linkBit, counterOf, countsAt, linksTo, withLinks}
@@ -28,11 +28,11 @@ use Rattle.table.proofs.Links.{sound-wired, used-below}
 use Rattle.table.proofs.Formed.{formed-counts}
 use Rattle.table.proofs.Cabins.{used-charged}
 use Rattle.table.proofs.Edits.{getD-zeros}
-use Rattle.image.specs.Image.{Edition, edition1, edition2, bitsOf, stepAdds, stepFieldsOf, image, editionIn, countIn, quotasBy, quotasIn, numberIn, kindIn, contentIn, bitsIn, targetIn, cabinBy, cabinIn, bitIn, recordOf, hasRecord, recordField, counted, imageTable, contentSayable, accepted, loadCall, OldContacts}
+use Rattle.image.specs.Image.{Edition, edition1, edition2, bitsOf, stepAdds, stepFieldsOf, image, editionIn, countIn, quotasBy, quotasIn, numberIn, kindIn, contentIn, bitsIn, targetIn, cabinBy, cabinIn, bitIn, recordOf, hasRecord, recordField, counted, imageTable, oldContent, contentsSayable, accepted, loadCall, OldContacts}
 use Rattle.image.proofs.Exits.{exit-four}
 use Rattle.image.proofs.Bits.{fiveBits, bits-read, bits-most, bitAt, bit-cases}
 use Rattle.image.proofs.Written.{old-fields, image-header, image-edition, image-capacity, image-last, image-quota, image-size, image-field, image-records, image-number, image-index, index-number, image-distinct, index-below}
-use Rattle.image.proofs.Loaded.{record-below, record-number, said-record, said-none, table-used, table-kind, table-content, table-cabin, test-accepted, accepted-test, accepted-table}
+use Rattle.image.proofs.Loaded.{record-below, record-number, said-record, said-none, table-used, table-cabin, test-accepted, accepted-test, accepted-table}
 
 -- a table with all of its capacity for cabin 0, all steps charged to it, and no contact above 99
 pub record SaysOld (t : Table) : Type 0 where
@@ -45,22 +45,38 @@ abbrev pub Says : Edition → Table → Type 0
 Says edition1 t = SaysOld t
 Says edition2 t = Unit {0}
 
--- the contents of edition 1: the test and the statement
-pub old-contact : (kind content : ℕ) → contentSayable edition1 kind content ≡ true → kind ≡ 1 → content ≤ 99
-unfolding contentSayable
+-- the contents: the test and the statement
+old-contact : (kind content : ℕ) → oldContent kind content ≡ true → kind ≡ 1 → content ≤ 99
+unfolding oldContent
 old-contact kind content h e = leb-true content 99 (implied (eqb kind 1) (leb content 99) h (eq-eqb kind 1 e))
 
-pub contact-old : (kind content : ℕ) → (kind ≡ 1 → content ≤ 99) → contentSayable edition1 kind content ≡ true
-unfolding contentSayable
+contact-old : (kind content : ℕ) → (kind ≡ 1 → content ≤ 99) → oldContent kind content ≡ true
+unfolding oldContent
 contact-old kind content h = imply (eqb kind 1) (leb content 99) (λ e. le-leb content 99 (h (eqb-true kind 1 e)))
 
-pub unsaid-contact : (kind content : ℕ) → contentSayable edition1 kind content ≡ false → (kind ≡ 1) × (99 < content)
-unsaid-contact kind content f =
-    ⊎-elim
-    (λ (e : kind ≡ 1).
-    ⊎-elim (λ (l : content ≤ 99). clash (contact-old kind content (λ e. l)) f) (λ (l : 99 < content). (e, l)) (le-or-lt content 99))
-    (λ (d : kind ≡ 1 → ⊥). clash (contact-old kind content (λ e. absurd (d e))) f)
-    (eq-or-ne kind 1)
+-- a contact is in use
+contact-used : (t : Table) → Sound t → (i : ℕ) → i < t .capacity → kindOf t i ≡ 1 → inUse t i ≡ true
+contact-used t s i h e =
+    ⊎-elim (λ u. u) (λ u. absurd (omega (arith, e, s .formed .free i (omega (arith, s .formed .most)) u .kind))) (test (inUse t i))
+
+pub contents-contacts : (t : Table) → Sound t → contentsSayable edition1 t ≡ true → OldContacts t
+unfolding contentsSayable
+contents-contacts t s h i u = old-contact _ _ (all-at (t .capacity) _ h i (used-below (sound-wired s) i u))
+
+pub contacts-contents : (t : Table) → Sound t → OldContacts t → contentsSayable edition1 t ≡ true
+unfolding contentsSayable
+contacts-contents t s p =
+    all-intro (t .capacity) (λ i. oldContent (kindOf t i) (contentOf t i)) (λ i h. contact-old _ _ (λ e. p i (contact-used t s i h e) e))
+
+-- and where the test fails, a contact is larger
+pub larger-contact : (t : Table) → Sound t → contentsSayable edition1 t ≡ false → (i : ℕ) × (inUse t i ≡ true) × (kindOf t i ≡ 1) × (99 < contentOf t i)
+unfolding contentsSayable
+larger-contact t s f =
+    let m = all-missed (t .capacity) (λ i. oldContent (kindOf t i) (contentOf t i)) f in
+    let i = m .0 in
+    let contact : kindOf t i ≡ 1 = ⊎-elim (λ e. e) (λ d. clash (contact-old _ _ (λ e. absurd (d e))) (m .2)) (eq-or-ne (kindOf t i) 1) in
+    let larger : 99 < contentOf t i = ⊎-elim (λ l. clash (contact-old _ _ (λ e. l)) (m .2)) (λ l. l) (le-or-lt (contentOf t i) 99) in
+    (i, contact-used t s i (m .1) contact, contact, larger)
 
 -- of any table: which record is that of step i
 module _ (v : Edition) (t : Table) where
@@ -113,10 +129,11 @@ unfolding quotasBy
 quotas-said edition1 t p l = ap soleQuotas (image-capacity edition1 t) ∙ sym (p .quotas)
 quotas-said edition2 t p l = tabulate-entries quotaNumbers _ (t .quotas) 0 l (image-quota t)
 
-says-content : (v : Edition) (t : Table) → Says v t → (i : ℕ) → inUse t i ≡ true → contentSayable v (kindOf t i) (contentOf t i) ≡ true
-unfolding contentSayable
-says-content edition1 t p i u = contact-old (kindOf t i) (contentOf t i) (p .contacts i u)
-says-content edition2 t p i u = refl
+-- the contents, as an edition can say them
+contents-said : (v : Edition) (t : Table) → Sound t → Says v t → contentsSayable v t ≡ true
+unfolding contentsSayable
+contents-said edition1 t s p = contacts-contents t s (p .contacts)
+contents-said edition2 t s p = refl
 
 -- of a sound table
 module _ (v : Edition) (t : Table) (s : Sound t) where
@@ -262,15 +279,6 @@ module _ (v : Edition) (t : Table) (s : Sound t) where
       let a = image-index v t k h in
       rw (← (a .index), bits-image (a .number) (a .below) (a .passes)) (bits-most (bitAt t (a .number)) (bit-small (a .number) (a .passes)))
 
-  image-contents : Says v t → (k : ℕ) → k < countIn (image v t) →
-      contentSayable (editionIn (image v t)) (kindIn (image v t) k) (contentIn (image v t) k) ≡ true
-  unfolding kindIn contentIn stepFieldsOf
-  image-contents p k h =
-      let a = image-index v t k h in
-      let field = image-field v t (a .number) (a .below) (a .passes) in
-      rw (image-edition v t, ← (a .index), field 1 (omega (arith, old-fields v)), field 2 (omega (arith, old-fields v)))
-      (says-content v t p (a .number) (a .passes))
-
   pub encode-accepted : Says v t → sound t ≡ true → accepted (image v t) ≡ true
   encode-accepted p b =
       accepted-test (image v t)
@@ -281,8 +289,8 @@ module _ (v : Edition) (t : Table) (s : Sound t) where
         distinct = λ j k l h e. let d = image-distinct v t j k (omega arith) h e in omega arith;
         numbers = image-numbers;
         bits = image-bits;
-        contents = image-contents p;
         loads = ap sound (decode-encode p) ∙ b;
+        contents = ap₂ contentsSayable (image-edition v t) (decode-encode p) ∙ contents-said v t s p;
       })
 
   pub load-encode : Says v t → sound t ≡ true → loadCall (image v t) ≡ record { answer = Given 0 0; table = t }
@@ -298,21 +306,15 @@ accepted-says edition1 bs a q =
       quotas = ap (λ v. quotasBy v bs) q;
       cabins =
           λ i u.
+          let w = accepted-table bs a in
+          let h = used-below (sound-wired w) i u in
+          let m = w .formed .most in
           let f : (k : ℕ) → cabinIn bs k ≡ 0 = λ k. ap (λ v. cabinBy v bs k) q in
-          table-cabin bs i (low i u) ∙ said-record bs i (cabinIn bs) (there i u) ∙ f (recordOf bs i);
+          table-cabin bs i (omega arith) ∙ said-record bs i (cabinIn bs) (sym (table-used bs i (omega arith)) ∙ u) ∙ f (recordOf bs i);
       contacts =
-          λ i u e.
-          let kind = table-kind bs i (low i u) ∙ said-record bs i (kindIn bs) (there i u) in
-          let content = table-content bs i (low i u) ∙ said-record bs i (contentIn bs) (there i u) in
-          let said = rw q at (test-accepted bs a .contents (recordOf bs i) (record-below bs i (there i u))) in
-          rw content (old-contact _ _ said (sym kind ∙ e));
+          contents-contacts (imageTable bs) (accepted-table bs a)
+          (ap (λ v. contentsSayable v (imageTable bs)) (sym q) ∙ test-accepted bs a .contents);
     }
-  where
-    low : (i : ℕ) → inUse (imageTable bs) i ≡ true → i < places
-    low i u = let w = accepted-table bs a in let h = used-below (sound-wired w) i u in let m = w .formed .most in omega arith
-
-    there : (i : ℕ) → inUse (imageTable bs) i ≡ true → hasRecord bs i ≡ true
-    there i u = sym (table-used bs i (low i u)) ∙ u
 accepted-says edition2 bs a q = tt
 
 -- a sound table with the list of edition 1 has all steps charged to cabin 0: the other cabins have a limit of 0

@@ -13,7 +13,7 @@
 --   editionIn bs                the edition that the header says; quotasIn, the list of quotas
 --   numberIn kindIn contentIn bitsIn targetIn cabinIn   the fields of the k-th step record of an image
 --   recordOf bs i, recordField   the record of step i, and one of its fields
---   contentSayable e kind content   the edition e can say the content of a step of the kind
+--   oldContent kind content     an old telephone takes the content; contentsSayable e t, the edition e can say the contents of a table
 --   framed bs, accepted bs      the bytes are such records; the image is accepted
 --   withRecord t fields         the table with the fields of a step record; counted t, with its counters worked out
 --   imageTable bs, imagePlan bs   the table and the plain plan that its records say
@@ -269,10 +269,13 @@ framed bs =
     all (countIn bs) (λ k. recordAt bs (stepPlace bs k) (stepKindOf (editionIn bs)) (stepFieldCount (editionIn bs))) ∷
     [])
 
--- W9: "An old telephone still takes 0 to 99", of contacts; the other kinds have in edition 1 the contents that they have in a table
-unfoldable pub contentSayable : Edition → ℕ → ℕ → Bool
-contentSayable edition1 kind content = not (eqb kind 1) || leb content 99
-contentSayable edition2 kind content = true
+-- W9: "An old telephone still takes 0 to 99", of contacts; of the other kinds it takes what a table does
+unfoldable pub oldContent : ℕ → ℕ → Bool
+oldContent kind content = not (eqb kind 1) || leb content 99
+
+unfoldable pub contentsSayable : Edition → Table → Bool
+contentsSayable edition1 t = all (t .capacity) (λ i. oldContent (kindOf t i) (contentOf t i))
+contentsSayable edition2 t = true
 
 -- "An image is accepted exactly if it is these records to its last byte, no step twice, the count right, and the table sound." A record of a
 -- step that no table has, or with bits above 31, is none of these records. W9: "an edition 1 image with more is not accepted"
@@ -282,8 +285,8 @@ accepted bs =
     (framed bs ∷
     all (countIn bs) (λ k. all k (λ j. not (eqb (numberIn bs j) (numberIn bs k)))) ∷
     all (countIn bs) (λ k. ltb (numberIn bs k) places && leb (bitsIn bs k) 31) ∷
-    all (countIn bs) (λ k. contentSayable (editionIn bs) (kindIn bs k) (contentIn bs k)) ∷
     sound (imageTable bs) ∷
+    contentsSayable (editionIn bs) (imageTable bs) ∷
     [])
 
 abbrev pub loadConditions : List ℕ → List (Bool × ℕ)

@@ -7,7 +7,7 @@
 --   filled-accepted      and the image is accepted where that table is sound
 --   ..-refused           each case in which the image is not accepted
 use mathlib.Core.Path.{_≡_, refl, sym, _∙_, ap}
-use mathlib.Core.Bool.{Bool, true, false}
+use mathlib.Core.Bool.{Bool, true, false, _&&_}
 use mathlib.Core.Logic.{⊎-elim}
 use mathlib.Core.List.{List, [], _∷_}
 use Prim.Native.Nat.{ℕ, suc, _+_, _/_, _%_, _^_, _≤_, _<_}
@@ -17,7 +17,7 @@ use lib.Seq.{sets}
 use lib.Dec.{eqb}
 use borrow.Author.Tests.{eq-eqb}
 use Rattle.finite.specs.Below.{one, tabulate}
-use Rattle.finite.proofs.Bools.{refute, same-test, test, clash}
+use Rattle.finite.proofs.Bools.{refute, same-test, test, clash, and-left, and-right, and-intro}
 use Rattle.finite.proofs.Below.{le-or-lt, below-suc, any-intro, getD-tabulate, length-tabulate, tabulate-ext}
 use Rattle.table.specs.declared.Answer.the-variants.{Refused, Given}
 use Rattle.table.specs.Table.{Table, places, exitPlaces, holderAt, exitAt, countsAt, linksTo, withNumbers, withLinks, withSteps}
@@ -25,7 +25,7 @@ use Rattle.table.specs.Sound.{sound}
 use Rattle.table.specs.Answer.{first, unless}
 use Rattle.table.specs.Calls.{refusedTable}
 use Rattle.words.specs.Words.{blankTable}
-use Rattle.image.specs.Image.{Edition, edition1, edition2, headerFieldCount, stepFieldCount, recordSize, imageSize, editionIn, stepPlace, capacityIn, lastIn, countIn, quotasBy, quotasIn, numberIn, kindIn, contentIn, bitsIn, targetIn, cabinBy, cabinIn, bitIn, recordOf, hasRecord, recordField, withRecord, counted, imageTable, accepted, loadCall}
+use Rattle.image.specs.Image.{Edition, edition1, edition2, headerFieldCount, stepFieldCount, recordSize, imageSize, editionIn, stepPlace, capacityIn, lastIn, countIn, quotasBy, quotasIn, numberIn, kindIn, contentIn, bitsIn, targetIn, cabinBy, cabinIn, bitIn, recordOf, hasRecord, recordField, withRecord, counted, imageTable, contentsSayable, accepted, loadCall}
 use Rattle.image.proofs.Words.{image-next}
 use Rattle.image.proofs.Loaded.{test-accepted, accepted-test, accepted-capacity, record-below, record-number, said-record, said-none, has-record-any}
 use Rattle.records.specs.declared.StepRecord.{StepRecord}
@@ -283,11 +283,11 @@ module _ (bs : List ℕ) where
           quotas = quotasIn bs;
         }))
 
-    -- it is accepted where that table is sound
-    pub filled-accepted : sound (imageTable bs) ≡ accepted bs
-    unfolding numberIn kindIn contentIn bitsIn
+    -- it is accepted where that table is sound and its edition can say the contents
+    pub filled-accepted : (sound (imageTable bs) && contentsSayable (editionIn bs) (imageTable bs)) ≡ accepted bs
+    unfolding numberIn bitsIn
     filled-accepted =
-        same-test (sound (imageTable bs)) (accepted bs)
+        same-test (sound (imageTable bs) && contentsSayable (editionIn bs) (imageTable bs)) (accepted bs)
         (λ s.
         accepted-test bs
         (record {
@@ -297,17 +297,17 @@ module _ (bs : List ℕ) where
           distinct = all-distinct;
           numbers = λ k l. f .fits k (rw all l) .number;
           bits = λ k l. f .fits k (rw all l) .bits;
-          contents = λ k l. f .fits k (rw all l) .content;
-          loads = s;
+          loads = and-left (sound (imageTable bs)) _ s;
+          contents = and-right (sound (imageTable bs)) _ s;
         }))
-        (λ a. test-accepted bs a .loads)
+        (λ a. and-intro (test-accepted bs a .loads) (test-accepted bs a .contents))
 
   -- what an accepted image has
   accepted-header : accepted bs ≡ true → HeaderFits bs
   accepted-header t = let a = test-accepted bs t in record { size = a .size; begins = a .header; capacity = accepted-capacity bs t }
 
   accepted-step : accepted bs ≡ true → (k : ℕ) → k < countIn bs → StepFits (editionIn bs) bs (stepPlace bs k)
-  unfolding stepPlace numberIn kindIn contentIn bitsIn
+  unfolding stepPlace numberIn bitsIn
   accepted-step t k l =
       let a = test-accepted bs t in
       record {
@@ -315,7 +315,6 @@ module _ (bs : List ℕ) where
         begins = a .records k l;
         number = a .numbers k l;
         bits = a .bits k l;
-        content = a .contents k l;
       }
 
   -- the cases in which it is not accepted

@@ -1,11 +1,12 @@
-// The call load image (document 01, "Image"; document 02, W5: two editions). What is said of it is in the crate image. An edition is a bool, `newer`:
+// The call load image (document 01, "Image"; document 02, W5: two editions; W9). What is said of it is in the crate image. An edition is a bool, `newer`:
 // true for edition 2; that of an image is its header's.
 ghost use mathlib.Core.Path.{_≡_};
-ghost use mathlib.Core.Bool.{true};
+ghost use mathlib.Core.Bool.{true, _&&_};
 ghost use Prim.Native.Nat.{_≤_};
 ghost use lib.ListN.{length};
 ghost use Rattle.table.specs.Table.{withNumbers};
-ghost use Rattle.image.specs.Image.{loadCall, capacityIn, quotasBy, imageTable, accepted};
+ghost use Rattle.table.specs.Sound.{sound};
+ghost use Rattle.image.specs.Image.{loadCall, capacityIn, quotasBy, imageTable, contentsSayable, accepted};
 ghost use Rattle.words.specs.Words.{words, tableOf, wordsOf, blankTable};
 ghost use Rattle.records.specs.Records.{editionOf};
 use records::Header;
@@ -23,6 +24,16 @@ fn take_header(t: &mut [u16; WORDS], bytes: &[u8], newer: bool, capacity: u16, l
     words::erase(t, capacity, last);
     let quotas = records::quotas_in(bytes, newer, capacity);
     words::put_quotas(t, &quotas);
+}
+
+// Whether the table that an image says is sound, and one whose contents the image's edition can say.
+fn acceptable(t: &[u16; WORDS], newer: bool) -> bool
+    ensures { λ r. ⌜ r ≡ (sound (tableOf (now (t .entry))) && contentsSayable (editionOf newer) (tableOf (now (t .entry)))) ⌝ }
+{
+    if !soundness::is_sound(t) {
+        return false;
+    }
+    newer || recording::has_old_contents(t)
 }
 
 // Whether the image is accepted. Where it is, the table becomes the one that its records say.
@@ -48,7 +59,7 @@ pub fn take_image(t: &mut [u16; WORDS], bytes: &[u8]) -> bool
         at += size;
     }
     recording::count_links(t);
-    soundness::is_sound(t)
+    acceptable(t, newer)
 }
 
 // The table that the records of an image say, where the image is accepted; else a fresh table of capacity 1.

@@ -1,12 +1,14 @@
-// What stands between a step record and a table (document 01, "Image"; document 02, W5): the record of a step, a record put in place, and the counters
-// worked out from the links. What is said of them is in the crate image; the records are of edition 2. They serve the image and the slips.
+// What stands between a step record and a table (document 01, "Image"; document 02, W5 and W9): the record of a step, a record put in place, the counters
+// worked out from the links, and the contents of edition 1. What is said of them is in the crate image; the records are of edition 2. They serve the image
+// and the slips.
 ghost use mathlib.Core.Path.{_≡_};
-ghost use mathlib.Core.Bool.{true};
+ghost use mathlib.Core.Bool.{true, not};
 ghost use Prim.Native.Nat.{ℕ, _+_, _*_, _<_, _≤_};
 ghost use lib.ListN.{getD, replicate};
+ghost use Rattle.finite.specs.Below.{one};
 ghost use Rattle.table.specs.Table.{places, counters};
 ghost use Rattle.table.specs.Sound.{sound};
-ghost use Rattle.image.specs.Image.{edition2, stepFieldsOf, withRecord, counted};
+ghost use Rattle.image.specs.Image.{edition1, edition2, stepFieldsOf, withRecord, counted, oldContent, contentsSayable};
 ghost use Rattle.words.specs.Words.{tableOf, Becomes};
 ghost use Rattle.records.specs.Records.{recordFields};
 use records::StepRecord;
@@ -85,4 +87,27 @@ pub fn recount(t: &mut [u16; WORDS])
 {
     words::zero_counts(t);
     count_links(t);
+}
+
+// 1 for a contact above 99, which an old telephone does not take, else 0.
+fn larger_contact(kind: u16, content: u16) -> u16
+    ensures { λ r. ⌜ r ≡ one (not (oldContent kind content)) ⌝ }
+{
+    if kind != 1 || content <= 99 { 0 } else { 1 }
+}
+
+// Whether edition 1 can say the contents of a table.
+pub fn has_old_contents(t: &[u16; WORDS]) -> bool
+    requires { ⌜ tableOf (now t) .capacity ≤ places ⌝ }
+    ensures { λ r. ⌜ r ≡ contentsSayable edition1 (tableOf (now (t .entry))) ⌝ }
+{
+    let n = words::wide(words::capacity(t));
+    let mut found: u16 = 0;
+    let mut i: usize = 0;
+    // found is the number of larger contacts among the steps below i.
+    while i < n {
+        found += larger_contact(words::kind_at(t, i), words::content_at(t, i));
+        i += 1;
+    }
+    found == 0
 }

@@ -14,7 +14,7 @@ use lib.Dec.{eqb, leb, ltb}
 use borrow.Author.Tests.{eqb-true, eq-eqb, leb-true, le-leb, ltb-true, lt-ltb}
 use Rattle.finite.proofs.Bools.{and-intro, and-left, and-right, refute, test}
 use Rattle.table.specs.Table.{places}
-use Rattle.image.specs.Image.{Edition, edition1, edition2, headerKindOf, headerFieldCount, stepKindOf, stepFieldCount, recordSize, recordAt, wordAt, fieldAt, stepPlace, editionIn, capacityIn, lastIn, countIn, contentSayable}
+use Rattle.image.specs.Image.{Edition, edition1, edition2, headerKindOf, headerFieldCount, stepKindOf, stepFieldCount, recordSize, recordAt, wordAt, fieldAt, stepPlace, editionIn, capacityIn, lastIn, countIn}
 use Rattle.image.proofs.Written.{old-header, old-fields}
 use Rattle.records.specs.declared.StepRecord.{StepRecord}
 use Rattle.records.specs.declared.Read.the-variants.{Step, Nothing}
@@ -83,7 +83,6 @@ pub record StepFits (e : Edition) (bs : List ℕ) (at : ℕ) : Type 0 where
   pub begins : recordAt bs at (stepKindOf e) (stepFieldCount e) ≡ true
   pub number : fieldAt bs at 0 < places
   pub bits : fieldAt bs at 3 ≤ 31
-  pub content : contentSayable e (fieldAt bs at 1) (fieldAt bs at 2) ≡ true
 
 -- the tests of the record reader
 abbrev stepTests : Edition → List ℕ → Bool
@@ -94,7 +93,7 @@ module _ (e : Edition) (bs : List ℕ) where
   unfolding fitsAt
   step-fits f =
       and-intro (le-leb (recordSize (stepFieldCount e)) (length bs) (omega (arith, f .room)))
-      (and-intro (f .begins) (and-intro (lt-ltb (fieldAt bs 0 0) places (f .number)) (and-intro (le-leb (fieldAt bs 0 3) 31 (f .bits)) (f .content))))
+      (and-intro (f .begins) (and-intro (lt-ltb (fieldAt bs 0 0) places (f .number)) (le-leb (fieldAt bs 0 3) 31 (f .bits))))
 
   fits-step : stepTests e bs ≡ true → StepFits e bs 0
   unfolding fitsAt
@@ -105,8 +104,7 @@ module _ (e : Edition) (bs : List ℕ) where
         room = let l = leb-true (recordSize (stepFieldCount e)) (length bs) (and-left _ _ t) in omega arith;
         begins = and-left _ _ rest;
         number = ltb-true _ _ (and-left _ _ last);
-        bits = leb-true _ _ (and-left _ _ (and-right (ltb (fieldAt bs 0 0) places) _ last));
-        content = and-right (leb (fieldAt bs 0 3) 31) _ (and-right (ltb (fieldAt bs 0 0) places) _ last);
+        bits = leb-true _ _ (and-right (ltb (fieldAt bs 0 0) places) _ last);
       }
 
   pub step-found : StepFits e bs 0 → readStep e bs ≡ Step (stepRead e bs 0)
@@ -174,7 +172,6 @@ module _ (bs : List ℕ) (at : ℕ) (within : at ≤ length bs) where
         begins = sym (record-part (stepKindOf e) (stepFieldCount e)) ∙ f .begins;
         number = rw (field-part 0) at (f .number);
         bits = rw (field-part 3) at (f .bits);
-        content = rw (field-part 1, field-part 2) at (f .content);
       }
 
   fits-part : (e : Edition) → StepFits e bs at → StepFits e (drop at bs) 0
@@ -184,7 +181,6 @@ module _ (bs : List ℕ) (at : ℕ) (within : at ≤ length bs) where
         begins = record-part (stepKindOf e) (stepFieldCount e) ∙ f .begins;
         number = rw (field-part 0) (f .number);
         bits = rw (field-part 3) (f .bits);
-        content = rw (field-part 1, field-part 2) (f .content);
       }
 
   part-cabin : (e : Edition) → cabinAt e (drop at bs) 0 ≡ cabinAt e bs at

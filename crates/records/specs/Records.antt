@@ -3,7 +3,7 @@
 --   putWords bs at ns   the bytes with numbers from a place on, two bytes each
 --   added e l           what edition 2 has after the old fields, and edition 1 has not
 --   recordFields e r    the fields of a step record of the edition, in their order
---   fitsAt e bs at      a step record of the edition, of a step that a table has, with bits up to 31 and a content of the edition, begins at a place
+--   fitsAt e bs at      a step record of the edition, of a step that a table has, with bits up to 31, begins at a place
 --   stepRead e bs at    its fields; cabinAt e bs at, its cabin
 --   readStep e bs       what the record reader finds at the start of the bytes
 --   readHeader bs       what the header reader finds
@@ -14,7 +14,7 @@ use lib.ListN.{length}
 use lib.Seq.{sets}
 use lib.Dec.{eqb, leb, ltb}
 use Rattle.table.specs.Table.{places}
-use Rattle.image.specs.Image.{Edition, edition1, edition2, words, headerKindOf, headerFieldCount, stepKindOf, stepFieldCount, recordSize, wordAt, recordAt, fieldAt, stepPlace, editionIn, capacityIn, lastIn, countIn, contentSayable}
+use Rattle.image.specs.Image.{Edition, edition1, edition2, words, headerKindOf, headerFieldCount, stepKindOf, stepFieldCount, recordSize, wordAt, recordAt, fieldAt, stepPlace, editionIn, capacityIn, lastIn, countIn}
 use Rattle.records.specs.declared.StepRecord.{StepRecord}
 use Rattle.records.specs.declared.Read.{Read}
 use Rattle.records.specs.declared.Read.the-variants.{Step, Nothing}
@@ -37,11 +37,9 @@ added edition2 l = l
 unfoldable pub recordFields : Edition → StepRecord → List ℕ
 recordFields e r = r .number ∷ r .kind ∷ r .content ∷ r .bits ∷ r .first ∷ r .second ∷ r .third ∷ r .fourth ∷ added e (r .cabin ∷ [])
 
--- what `accepted` asks of each step record by itself
+-- "A record of a step that no table has, or with bits above 31, is none of these records."
 unfoldable pub fitsAt : Edition → List ℕ → ℕ → Bool
-fitsAt e bs at =
-    recordAt bs at (stepKindOf e) (stepFieldCount e) &&
-    (ltb (fieldAt bs at 0) places && (leb (fieldAt bs at 3) 31 && contentSayable e (fieldAt bs at 1) (fieldAt bs at 2)))
+fitsAt e bs at = recordAt bs at (stepKindOf e) (stepFieldCount e) && (ltb (fieldAt bs at 0) places && leb (fieldAt bs at 3) 31)
 
 -- a record of edition 1 has no cabin
 unfoldable pub cabinAt : Edition → List ℕ → ℕ → ℕ

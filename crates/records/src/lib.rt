@@ -6,7 +6,7 @@ ghost use mathlib.Core.List.{[], _∷_, _++_};
 ghost use Prim.Native.Nat.{_+_, _≤_};
 ghost use lib.ListN.{length, drop};
 ghost use lib.Dec.{eqb};
-ghost use Rattle.image.specs.Image.{edition2, recordBytes, recordSize, headerKindOf, headerFieldCount, stepKindOf, stepFieldCount, imageSize, wordAt, capacityIn, quotasBy, contentSayable};
+ghost use Rattle.image.specs.Image.{edition2, recordBytes, recordSize, headerKindOf, headerFieldCount, stepKindOf, stepFieldCount, imageSize, wordAt, capacityIn, quotasBy};
 ghost use Rattle.records.specs.Records.{editionOf, newerIn, putWords, added, recordFields, cabinAt, stepRead, readStep, readHeader};
 use words::QUOTAS;
 
@@ -264,15 +264,7 @@ pub fn step_fields(part: &[u8], newer: bool) -> StepRecord
     }
 }
 
-// Whether an edition can say the content of a step: an old telephone takes contacts up to 99.
-pub fn content_sayable(newer: bool, kind: u16, content: u16) -> bool
-    ensures { λ r. ⌜ r ≡ contentSayable (editionOf newer) kind content ⌝ }
-{
-    newer || kind != 1 || content <= 99
-}
-
-// The step record that the part begins with, where it is one of the edition, its step is one that a table has, its bits are at most 31 and the
-// edition can say its content.
+// The step record that the part begins with, where it is one of the edition, its step is one that a table has and its bits are at most 31.
 pub fn read_step(part: &[u8], newer: bool) -> Read
     ensures { λ r. ⌜ r ≡ readStep (editionOf newer) (now (part .entry)) ⌝ }
 {
@@ -290,8 +282,5 @@ pub fn read_step(part: &[u8], newer: bool) -> Read
         return Read::Nothing;
     }
     let r = step_fields(part, newer);
-    if !content_sayable(newer, r.kind, r.content) {
-        return Read::Nothing;
-    }
     Read::Step(r)
 }

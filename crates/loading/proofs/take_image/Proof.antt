@@ -1,13 +1,15 @@
 -- `loading::take_image` meets its contract: at each place the records before it are read and stored. Assumes nothing.
-use mathlib.Core.Path.{_≡_, refl, sym, _∙_, ap}
+use mathlib.Core.Path.{_≡_, refl, sym, _∙_, ap, ap₂}
+use mathlib.Core.Bool.{_&&_}
 use mathlib.Core.List.{List}
 use Prim.Native.Nat.{ℕ, _-_, _<_}
 use native.Mathlib.Omega.{arith}
 use lib.ListN.{length, getD, take, drop}
 use borrow.Author.Needs.{needs}
 use Rattle.finite.proofs.Bools.{clash}
+use Rattle.table.specs.Table.{Table}
 use Rattle.table.specs.Sound.{sound}
-use Rattle.image.specs.Image.{Edition, stepFieldCount, recordSize, editionIn, imageTable}
+use Rattle.image.specs.Image.{Edition, stepFieldCount, recordSize, editionIn, imageTable, contentsSayable}
 use Rattle.words.specs.Words.{words, tableOf, wordsOf}
 use Rattle.words.proofs.Laws.{words-table}
 use Rattle.records.specs.declared.StepRecord.{StepRecord}
@@ -164,7 +166,8 @@ returns-4 c =
     let left = n .before .before .loop-test .left in
     let e : tableOf (n .count-links .last .0) ≡ imageTable bytes =
     n .count-links .ensures .table ∙ filled-table bytes _ (l .loop .at) (inv .0) (inv .1) left in (
-      c .is-sound .ensures ∙ ap sound e ∙ filled-accepted bytes _ (l .loop .at) (inv .0) (inv .1) left,
+      c .acceptable .ensures ∙ ap₂ (λ (v : Edition) (t : Table). sound t && contentsSayable v t) (inv .3) e
+          ∙ filled-accepted bytes _ (l .loop .at) (inv .0) (inv .1) left,
       λ _. sym (words-table _ (n .count-links .ensures .size ∙ inv .2)) ∙ ap wordsOf e,
     )
 

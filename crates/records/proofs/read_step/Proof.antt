@@ -8,10 +8,9 @@ use lib.ListN.{length}
 use lib.Dec.{eqb}
 use borrow.Author.Needs.{needs}
 use Rattle.finite.proofs.Bools.{not-true-false, not-false-true, clash}
-use Rattle.image.specs.Image.{Edition, stepKindOf, stepFieldCount, recordSize, recordAt, wordAt, fieldAt, contentSayable}
-use Rattle.records.specs.declared.StepRecord.{StepRecord}
+use Rattle.image.specs.Image.{Edition, stepKindOf, stepFieldCount, recordSize, recordAt, wordAt, fieldAt}
 use Rattle.records.specs.declared.Read.the-variants.{Step}
-use Rattle.records.specs.Records.{editionOf, stepRead}
+use Rattle.records.specs.Records.{editionOf}
 use Rattle.records.proofs.Reading.{step-least, step-found, step-nothing}
 use Rattle.records.proofs.read_step.Statement.{statement}
 use Rattle.records.proofs.read_step.Tie as tie
@@ -68,37 +67,21 @@ returns-4 c =
     let s = c .before .before .before .before .before .before .before .before in
     sym (step-nothing (editionAt s) (partOf s) (λ f. omega (arith, f .bits, c .before .word-at2 .ensures, c .if4 .taken)))
 
--- the test of the content
-content : (c : tie.After-content-sayable) →
-    let s = c .before .before .before .before .before .before .before .before .before .before in
-    c .content-sayable .result ≡ contentSayable (editionAt s) (fieldAt (partOf s) 0 1) (fieldAt (partOf s) 0 2)
-unfolding stepRead
-content c =
-    let s = c .before .before .before .before .before .before .before .before .before .before in
-    c .content-sayable .ensures ∙ ap (λ (r : StepRecord). contentSayable (editionAt s) (r .kind) (r .content)) (c .before .step-fields .ensures)
-
 returns-5 : tie.Need-returns-5
-returns-5 c =
-    let s = c .before .before .before .before .before .before .before .before .before .before .before in
-    sym (step-nothing (editionAt s) (partOf s) (λ f. clash (content (c .before) ∙ f .content) (not-true-false _ (c .if5 .taken))))
-
-returns-6 : tie.Need-returns-6
 unfolding fieldAt
-returns-6 c =
-    let r = c .before .before in
-    let b = r .before .before .before .before .before .before in
+returns-5 c =
+    let b = c .before .before .before .before .before .before in
     let s = b .before .before .before in
-    let number = r .before .before .before .before .word-at .ensures in
-    let bits = r .before .before .word-at2 .ensures in
-    ap Step (r .step-fields .ensures)
+    let number = c .before .before .before .before .word-at .ensures in
+    let bits = c .before .before .word-at2 .ensures in
+    ap Step (c .step-fields .ensures)
     ∙ sym
     (step-found (editionAt s) (partOf s)
     (record {
       room = omega (arith, room (b .before .before));
-      begins = sym (begins b) ∙ not-false-true _ (r .before .before .before .before .before .if2 .left);
-      number = omega (arith, number, r .before .before .before .if3 .left);
-      bits = omega (arith, bits, r .before .if4 .left);
-      content = sym (content (c .before)) ∙ not-false-true _ (c .if5 .left);
+      begins = sym (begins b) ∙ not-false-true _ (c .before .before .before .before .before .if2 .left);
+      number = omega (arith, number, c .before .before .before .if3 .left);
+      bits = omega (arith, bits, c .before .if4 .left);
     }))
 
 pub read-step-spec : {M : Type 1} → statement M
@@ -115,6 +98,4 @@ read-step-spec =
     (λ c κs. omega (arith, old (c .before .before .before .before .before)))
     returns-4
     (λ c κs. (old (c .before .before .before .before .before .before .before), cabin (c .before .before .before .before .before .before .before)))
-    (λ c κs. search needs)
-    returns-5
-    returns-6)
+    returns-5)
