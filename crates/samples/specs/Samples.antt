@@ -100,29 +100,28 @@ conversions =
     refuses (convert edition1 newImageF4 (replicate 29 7)) 11 ∷
     []
 
--- W9: the alarm and one step, of a kind and with a content given as its two bytes, in edition 1 and in edition 2
+-- W9: capacity 2 with the alarm and one step, of a kind and with a content given as its two bytes, in edition 1 and in edition 2
 unfoldable pub oldBook : ℕ → ℕ → ℕ → List ℕ
 oldBook kind low high =
-    0x0A ∷ 0 ∷ 1 ∷ 0 ∷ 4 ∷ 0 ∷ 1 ∷ 0 ∷ 2 ∷ 0 ∷
+    0x0A ∷ 0 ∷ 1 ∷ 0 ∷ 2 ∷ 0 ∷ 1 ∷ 0 ∷ 2 ∷ 0 ∷
     0x14 ∷ 0 ∷ 2 ∷ 0 ∷ 0 ∷ 0 ∷ 0 ∷ 0 ∷ 0 ∷ 0 ∷ 0 ∷ 0 ∷ 1 ∷ 0 ∷ 0 ∷ 0 ∷ 0 ∷ 0 ∷ 0 ∷ 0 ∷
     0x14 ∷ 0 ∷ 2 ∷ 0 ∷ 1 ∷ 0 ∷ kind ∷ 0 ∷ low ∷ high ∷ 0 ∷ 0 ∷ replicate 8 0
 
 unfoldable pub newBook : ℕ → ℕ → ℕ → List ℕ
 newBook kind low high =
-    0x2A ∷ 0 ∷ 3 ∷ 0 ∷ 4 ∷ 0 ∷ 1 ∷ 0 ∷ 2 ∷ 0 ∷ 3 ∷ 0 ∷ 3 ∷ 0 ∷
+    0x2A ∷ 0 ∷ 3 ∷ 0 ∷ 2 ∷ 0 ∷ 1 ∷ 0 ∷ 2 ∷ 0 ∷ 1 ∷ 0 ∷ 1 ∷ 0 ∷
     (replicate 28 0 ++
     (0x16 ∷ 0 ∷ 4 ∷ 0 ∷ 0 ∷ 0 ∷ 0 ∷ 0 ∷ 0 ∷ 0 ∷ 0 ∷ 0 ∷ 1 ∷ 0 ∷ 0 ∷ 0 ∷ 0 ∷ 0 ∷ 0 ∷ 0 ∷ 0 ∷ 0 ∷
     0x16 ∷ 0 ∷ 4 ∷ 0 ∷ 1 ∷ 0 ∷ kind ∷ 0 ∷ low ∷ high ∷ 0 ∷ 0 ∷ replicate 10 0))
 
 unfoldable pub books : List Entry
 books =
-    -- edition 1: contact 99 loads and goes up; 100 does neither, and nor does 999 (E7 03 hex)
+    -- edition 1: contact 99 loads and goes up; 100 does neither
     accepts (begin (load (oldBook 1 99 0))) (steps is (0 ∷ 1 ∷ []) ∷ what 1 is (1 ∷ 99 ∷ []) ∷ []) ∷
     accepts (convert edition2 (oldBook 1 99 0) (replicate 86 0xFF)) (answer is (86 ∷ 0 ∷ []) ∷ bytes is newBook 1 99 0 ∷ []) ∷
     refuses (begin (load (oldBook 1 100 0))) 12 ∷
     refuses (convert edition2 (oldBook 1 100 0) (replicate 86 7)) 12 ∷
-    refuses (begin (load (oldBook 1 0xE7 3))) 12 ∷
-    -- edition 2: contacts 100 and 999 load, 1000 does not
+    -- edition 2: contacts 100 and 999 (E7 03 hex) load, 1000 does not
     accepts (begin (load (newBook 1 100 0))) (what 1 is (1 ∷ 100 ∷ []) ∷ []) ∷
     accepts (begin (load (newBook 1 0xE7 3))) (what 1 is (1 ∷ 999 ∷ []) ∷ []) ∷
     refuses (begin (load (newBook 1 0xE8 3))) 12 ∷
