@@ -273,6 +273,7 @@ framed bs =
 unfoldable pub oldContent : ℕ → ℕ → Bool
 oldContent kind content = not (eqb kind 1) || leb content 99
 
+-- the edition can say the contents of the table: edition 1 is an old telephone's
 unfoldable pub contentsSayable : Edition → Table → Bool
 contentsSayable edition1 t = all (t .capacity) (λ i. oldContent (kindOf t i) (contentOf t i))
 contentsSayable edition2 t = true

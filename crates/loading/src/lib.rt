@@ -1,5 +1,5 @@
-// The call load image (document 01, "Image"; document 02, W5: two editions; W9). What is said of it is in the crate image. An edition is a bool, `newer`:
-// true for edition 2; that of an image is its header's.
+// The call load image (document 01, "Image"; document 02, W5: two editions; W9). What is said of it is in the crate image. An edition is a bool,
+// `newer`: true for edition 2; that of an image is its header's.
 ghost use mathlib.Core.Path.{_≡_};
 ghost use mathlib.Core.Bool.{true, _&&_};
 ghost use Prim.Native.Nat.{_≤_};

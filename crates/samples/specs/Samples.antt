@@ -1,6 +1,6 @@
 -- Examples of images and slips, byte by byte: P10 of document 01 ("Edits on F4"), sorted records (document 02, W1), editions (W5), conversions (W6),
--- slips (W7) and phone books (W9); and two tables with one plan and different images (W1). The entries of a run are made one after the other, each on the table that the
--- one before left. Assumes nothing.
+-- slips (W7) and phone books (W9); and two tables with one plan and different images (W1). The entries of a run are made one after the other, each on
+-- the table that the one before left. Assumes nothing.
 --   samples            the table
 --   Twins              two tables with one plan and different images
 use mathlib.Core.Path.{_≡_}

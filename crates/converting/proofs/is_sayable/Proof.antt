@@ -1,10 +1,8 @@
 -- `converting::is_sayable` meets its contract: edition 1 can say a sound table exactly if it has the quotas and the contents of edition 1. Assumes
 -- nothing.
 use mathlib.Core.Path.{_≡_, sym, _∙_, ap}
-use mathlib.Core.Bool.{Bool, false, _&&_}
+use mathlib.Core.Bool.{Bool, _&&_}
 use borrow.Author.Needs.{needs}
-use Rattle.table.specs.Table.{Table}
-use Rattle.table.specs.Sound.{sound}
 use Rattle.table.proofs.Sound.{test-sound}
 use Rattle.image.specs.Image.{edition1, contentsSayable}
 use Rattle.image.specs.Convert.{hasSoleQuotas, sayable}
