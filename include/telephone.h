@@ -65,7 +65,7 @@
 extern "C" {
 #endif
 
-#define PLAN_VERSION "0.9.0"  /* of this software; CHANGELOG.md says what changed, and PLAN_EDITION what a host has to follow */
+#define PLAN_VERSION "0.10.0"  /* of this software; CHANGELOG.md says what changed, and PLAN_EDITION what a host has to follow */
 #define PLAN_EDITION 4        /* of this interface; in edition 1 tables went by value, in 2 a trial had no limit, in 3 there were no cabins */
 #define PLAN_PLACES 128       /* the largest capacity */
 #define PLAN_EXITS 4          /* exits of a step */
@@ -225,7 +225,8 @@ plan_reply plan_add(plan_table *t, uint16_t holder, uint16_t exit, uint16_t kind
  * first and second: 0. Refusals, in order: 1, of the source 3, 4, 6, of the second 3, 4, 5. */
 plan_reply plan_link(plan_table *t, uint16_t source, uint16_t source_exit, uint16_t second, uint16_t second_exit);
 
-/* Empties an exit, and frees the steps that nothing reaches any more.
+/* Empties an exit, and frees the steps that nothing reaches any more. From one table, clearings of the same exits leave one plan and free as many steps
+ * in all, in whatever order, refused and repeated ones included; strengths, images and doubtful counts may differ. One whose step was freed gets 3.
  * first: steps made doubtful; second: steps freed. Refusals, in order: 1, 3, 4, 6. */
 plan_reply plan_clear(plan_table *t, uint16_t step, uint16_t exit);
 

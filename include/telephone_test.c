@@ -1,8 +1,8 @@
 /* Links libtelephone.a and tries each call from C, or from C++: edition, names and words, the worked examples P1 to P10, every refusal of every call,
  * cabins with their guarantees and limits, images of both editions and their conversions, contacts of both editions, squeezes, trials, clearings
- * taken back, previews of clearings, the case of `keys`, fields that all differ, lengths past 16 bits, damaged images and slips, and bytes that are no
- * sound table. A table is lent with bytes around it, which have to stay; a refused call has to leave every byte. Prints a line for each case that
- * fails, and 'N passed, M failed' last. */
+ * taken back, told beforehand and made in either order, the case of `keys`, fields that all differ, lengths past 16 bits, damaged images and slips, and
+ * bytes that are no sound table. A table is lent with bytes around it, which have to stay; a refused call has to leave every byte. Prints a line for
+ * each case that fails, and 'N passed, M failed' last. */
 #include "telephone.h"
 #include <stdio.h>
 #include <string.h>
@@ -1184,11 +1184,12 @@ static void slips_refused(void) {
     expect(gave(plan_take_back(&cleared.table, slip, sizeof slip), 0, 1, 0) && memcmp(&cleared, &m, sizeof m) == 0, "the slip that was refused");
 }
 
+static const plan_quota two_cabins[PLAN_CABINS] = {{1, 2}, {0, 3}};
+
 /* A table of two cabins: steps 1 and 2, which leads back to 1, are of cabin 1, step 3 is of cabin 0. Clearing exit 0 of step 0 frees 1 and 2. */
 static lent shared(void) {
-    static const plan_quota quotas[PLAN_CABINS] = {{1, 2}, {0, 3}};
     lent m = f4();
-    plan_fresh(&m.table, 8, quotas);
+    plan_fresh(&m.table, 8, two_cabins);
     plan_add(&m.table, 0, 0, PLAN_CONTACT, 0, 1);
     plan_add(&m.table, 1, 2, PLAN_MESSAGE, 15, 1);
     plan_add(&m.table, 0, 3, PLAN_WAIT, 600, 0);
@@ -1246,8 +1247,7 @@ static void regrets(void) {
     expect(gave(plan_add(t, 2, 1, PLAN_CONTACT, 0, 0), 0, 1, 0) && not_taken_back(&m, other, 94, 18), "a number given again");
     expect(gave(plan_clear(t, 2, 1), 0, 1, 1) && gave(plan_take_back(t, other, 94), 0, 1, 0), "and freed again");
     m = cleared;
-    plan_quota quotas[PLAN_CABINS] = {{1, 2}, {0, 3}};
-    expect(gave(plan_squeeze(t, 4, quotas), 0, 0, 0) && not_taken_back(&m, slip, LENGTH, 18), "a squeeze in between");
+    expect(gave(plan_squeeze(t, 4, two_cabins), 0, 0, 0) && not_taken_back(&m, slip, LENGTH, 18), "a squeeze in between");
     m = before;
     expect(gave(plan_clear_with_slip(t, 2, 2, other, 50), 0, 0, 0) && gave(plan_clear_with_slip(t, 0, 0, slip, LENGTH), 0, 2, 2), "two clearings");
     expect(not_taken_back(&m, other, 50, 18), "the first cannot be taken back before the second");
@@ -1589,6 +1589,65 @@ static void previews_refused(void) {
     expect(not_previewed(&m, 0, 3, 126, PLAN_TOO_SHORT) && not_previewed(&m, 0, 3, 2, PLAN_TOO_SHORT), "a short buffer, for a table of two steps");
 }
 
+/* Whether two tables have one plan: the numbers, the list, and of each step what plan_read says but for bits and counters. */
+static int same_plan(const plan_table *a, const plan_table *b) {
+    int all = a->capacity == b->capacity && a->last == b->last && memcmp(a->quotas, b->quotas, sizeof a->quotas) == 0;
+    for (uint16_t step = 0; step < PLAN_PLACES; step++) {
+        const plan_read_reply r = plan_read(a, step), s = plan_read(b, step);
+        all = all && r.refusal == s.refusal && r.kind == s.kind && r.content == s.content && r.cabin == s.cabin;
+        all = all && memcmp(r.targets, s.targets, sizeof r.targets) == 0;
+    }
+    return all;
+}
+
+/* Whether the written images of two tables are the same. */
+static int same_image(const plan_table *a, const plan_table *b) {
+    uint8_t image[PLAN_IMAGE_MAX], other[PLAN_IMAGE_MAX];
+    const size_t length = plan_write_image(a, image, sizeof image).length;
+    return plan_write_image(b, other, sizeof other).length == length && memcmp(image, other, length) == 0;
+}
+
+/* Steps 2 and 3 lead to each other. Step 1 leads to both by strong links, and step 0 by weak ones. The cabins differ. */
+static lent two_ways(void) {
+    lent m = f4();
+    plan_table *t = &m.table;
+    plan_fresh(t, 5, two_cabins);
+    plan_add(t, 0, PLAN_ANSWERED, PLAN_CONTACT, 0, 1);
+    plan_add(t, 1, PLAN_NO_REPLY, PLAN_CONTACT, 1, 0);
+    plan_add(t, 1, PLAN_ENGAGED, PLAN_WAIT, 60, 1);
+    plan_link(t, 1, PLAN_NO_REPLY, 0, PLAN_ENGAGED);
+    plan_link(t, 1, PLAN_ENGAGED, 0, PLAN_LINE_FAULT);
+    plan_link(t, 1, PLAN_ENGAGED, 2, PLAN_ENGAGED);
+    plan_link(t, 1, PLAN_NO_REPLY, 3, PLAN_ANSWERED);
+    return m;
+}
+
+/* Two clearings in either order (W14), at all places of that table, a free step and exit 4 among them: one plan, and as many steps freed. The second
+ * gets 3 if the first freed its step, 6 if it is the first again, and else what it gets alone. An exit that can be cleared first gets 3 in one order at
+ * most. Some pairs leave two tables of one plan, also where one order has the 3. */
+static void either_order(void) {
+    enum { PLACES = 5 * 5 };
+    const lent m = two_ways();
+    int others = 0, others_refused = 0;
+    for (uint16_t a = 0; a < PLACES; a++) {
+        int all = 1;
+        for (uint16_t b = 0; b < PLACES; b++) {
+            lent one = m, other = m;
+            const plan_reply first = plan_clear(&one.table, a / 5, a % 5), alone = plan_clear(&other.table, b / 5, b % 5);
+            const int stays = one.table.used[b / 5], twice = a == b && alone.refusal == 0;
+            const plan_reply second = plan_clear(&one.table, b / 5, b % 5), last = plan_clear(&other.table, a / 5, a % 5);
+            const int differ = !same(&one.table, &other.table), refused = alone.refusal == 0 && second.refusal == 3;
+            all = all && same_plan(&one.table, &other.table) && first.second + second.second == alone.second + last.second;
+            all = all && second.refusal == (!stays ? 3 : twice ? 6 : alone.refusal);
+            all = all && (!refused || last.refusal == 0) && same_image(&one.table, &other.table) == !differ;
+            all = all && edges_stand(&one) && edges_stand(&other);
+            others += differ, others_refused += differ && refused;
+        }
+        expect(all, "two clearings in either order");
+    }
+    expect(others == 6 && others_refused == 1, "tables of one plan that differ");
+}
+
 static void keys(void) {
     static const char *const lines[5] = {"H*100001000A", "H*200000012A", "H*30000A", "H*4A", "H*30000A"};
     static const int answers[5][3] = {{0, 1, 0}, {0, 0, 0}, {0, 1, 1}, {0, 1, 127}, {6, 0, 0}};
@@ -1646,6 +1705,7 @@ int main(void) {
     previews();
     every_exit();
     previews_refused();
+    either_order();
     keys();
     wild();
     printf("%d passed, %d failed\n", passed, failed);

@@ -343,20 +343,34 @@ pub fn both(table: &mut Table, call: &Call) -> Outcome {
     outcome
 }
 
-/// A call on a copy of a table, made by both programs, which have to agree. The plain plan is held to it too: what it says of the call is answered,
-/// and it becomes that of the copy. A table that is not sound gets 1.
-pub fn as_said(table: &Table, call: &Call) -> Outcome {
-    let mut made = table.clone();
-    let outcome = both(&mut made, call);
-    if sound(table) {
-        let mut plan = plan_of(table);
+/// A call made by the proved library alone: nothing that the second program says comes into it.
+pub fn proved(table: &mut Table, made: &Call) -> Outcome {
+    let mut lent = Lent::new(lend(table));
+    let outcome = call(&mut lent.lent, made);
+    assert!(lent.edges_stand());
+    *table = kept(&lent.lent);
+    outcome
+}
+
+/// A call made by both programs, which have to agree. The plain plan is held to it too: what it says of the call is answered, and it becomes that of the
+/// table. A table that is not sound gets 1.
+pub fn both_and_plan(table: &mut Table, call: &Call) -> Outcome {
+    let before = table.clone();
+    let outcome = both(table, call);
+    if sound(&before) {
+        let mut plan = plan_of(&before);
         let said = plan.draw(call, call.told(outcome.refusal));
         assert!(agrees(&outcome, said), "{call:?}: {outcome:?}, plan: {said:?}");
-        assert!(plan_of(&made) == plan, "{call:?}: another plan");
+        assert!(plan_of(table) == plan, "{call:?}: another plan");
     } else {
-        assert!(agrees(&outcome, Err(1)) && made == *table, "{call:?}: {outcome:?}");
+        assert!(agrees(&outcome, Err(1)) && *table == before, "{call:?}: {outcome:?}");
     }
     outcome
+}
+
+/// Such a call on a copy of a table.
+pub fn as_said(table: &Table, call: &Call) -> Outcome {
+    both_and_plan(&mut table.clone(), call)
 }
 
 /// Calls with any step and exit and with each of these buffers, made by both programs and by the plan: some are accepted, 3, 4, 6 and 11 come up, and no

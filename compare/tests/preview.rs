@@ -3,8 +3,7 @@
 //! tables that are not sound, and one that nobody can write to; and the laws.
 
 use compare::{
-    any_exit, as_said, begin, both, call, kept, lend, ring, tables_of_histories, Lent, Pair,
-    Refusals,
+    any_exit, as_said, begin, both, kept, proved, ring, tables_of_histories, Lent, Pair, Refusals,
 };
 use reference::calls::{add, fresh_for_cabin_0, link, Command};
 use reference::faults::Fault;
@@ -267,7 +266,6 @@ fn laws_hold_of_both() {
     laws_hold(&load, &both, [1940..2000, 2500..2560, 126..180]);
 }
 
-/// Each call is made by the proved library alone: nothing that the second program says comes into it.
 #[test]
 fn laws_hold_of_the_proved_library() {
     let load = |start: &Start| {
@@ -275,12 +273,5 @@ fn laws_hold_of_the_proved_library() {
         let outcome = begin(&mut lent.lent, start);
         (kept(&lent.lent), outcome)
     };
-    let program = |table: &mut Table, made: &Call| {
-        let mut lent = Lent::new(lend(table));
-        let outcome = call(&mut lent.lent, made);
-        assert!(lent.edges_stand());
-        *table = kept(&lent.lent);
-        outcome
-    };
-    laws_hold(&load, &program, [2600..2700, 2700..2760, 180..252]);
+    laws_hold(&load, &proved, [2600..2700, 2700..2760, 180..252]);
 }

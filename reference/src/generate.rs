@@ -209,7 +209,7 @@ impl Random {
     }
 
     /// A step and an exit: mostly one of the plan that is filled, or empty, as asked for.
-    fn place(&mut self, plan: &Plan, filled: bool) -> (u16, u16) {
+    pub fn place(&mut self, plan: &Plan, filled: bool) -> (u16, u16) {
         let any = self.once_in(16);
         let mut places = Vec::new();
         for (&number, step) in &plan.steps {

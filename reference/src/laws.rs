@@ -1,8 +1,9 @@
 //! What a squeeze has to keep, what the limit of a trial does, what cabins are promised, what
-//! conversions leave, what slips say and bring back, and what a preview foretells, checked on
-//! generated tables with any strengths, and histories. It is stated of any program that makes calls,
-//! so that it can be asked of this one and of the one it is held to. Renders W2, W3, W5, W6, W7 and
-//! W8 of document 02. Each law gives how often it met the case that it is about.
+//! conversions leave, what slips say and bring back, what a preview foretells, and what clearings
+//! give in any order, checked on generated tables with any strengths, and histories. It is stated of
+//! any program that makes calls, so that it can be asked of this one and of the one it is held to.
+//! Renders W2, W3, W5, W6, W7, W8 and W14 of document 02. Each law gives how often it met the case
+//! that it is about.
 
 use std::collections::BTreeMap;
 use std::ops::Range;
@@ -11,7 +12,7 @@ use crate::cabins::pairs;
 use crate::calls::{Command, Ending};
 use crate::convert::{Conversion, Way};
 use crate::faults::Fault;
-use crate::generate::{for_old_telephone, start, Generator, Random};
+use crate::generate::{for_old_telephone, small_tables, start, Generator, Random};
 use crate::history::{begin, Call, Outcome, Start, UNTOUCHED};
 use crate::image::{bytes, encode, fields, in_edition_1, number, record, sorted, HEADER, RECORD};
 use crate::plan::{plan_of, Plan};
@@ -132,17 +133,12 @@ pub fn clearings_count_alike(program: Program, seeds: Range<u64>) -> usize {
     let mut taken_back = 0;
     for (table, capacity, quotas) in tables(seeds) {
         let squeezed = |table: &Table| squeezed(program, table, capacity, quotas);
-        let cleared = |table: &Table, step, exit| {
-            let mut cleared = table.clone();
-            let step = step as u16;
-            let outcome = program(&mut cleared, &Call::Edit(Command::Clear { step, exit }));
-            (cleared, outcome)
-        };
         let start = squeezed(&table);
         for step in members(table.in_use()) {
             for exit in 0..EXITS as u16 {
-                let (old, counts) = cleared(&table, step, exit);
-                let (new, same) = cleared(&start, renumbered(&table, step), exit);
+                let (old, counts) = cleared(program, &table, step as u16, exit);
+                let number = renumbered(&table, step) as u16;
+                let (new, same) = cleared(program, &start, number, exit);
                 assert_eq!(same, counts);
                 assert_eq!(squeezed(&new), squeezed(&old));
                 taken_back += usize::from(counts.numbers[0] > counts.numbers[1] + 1);
@@ -243,28 +239,24 @@ pub fn charges_are_counted(program: Program, seeds: Range<u64>) -> [usize; 2] {
 pub fn slips_bring_back(program: Program, seeds: Range<u64>) -> usize {
     let mut both = 0;
     for (table, ..) in tables(seeds) {
-        for step in members(table.in_use()) {
-            for exit in (0..EXITS as u16).filter(|&exit| table.target(step as u16, exit) != 0) {
-                let step = step as u16;
-                let mut cleared = table.clone();
-                let counts = program(&mut cleared, &Call::Edit(Command::Clear { step, exit }));
-                let (after, slip) = cleared_with_slip(program, &table, step, exit, &counts);
-                assert_eq!(after, cleared);
-                let mut changed = table.in_use() & !mark(1, &emptied(&table, step, exit));
-                assert_eq!(changed.count_ones() as usize, counts.numbers[0]);
-                changed |= 1 << step;
-                let steps: Vec<usize> = members(changed).collect();
-                let head = bytes([step, exit, steps.len() as u16]);
-                let of = |&step: &usize| [record(&table, step), record(&cleared, step)].concat();
-                assert_eq!(slip, [head, steps.iter().flat_map(of).collect()].concat());
-                let [doubtful, freed] = [counts.numbers[0], counts.numbers[1]];
-                for last in [table.last, (table.last + 1) % table.capacity] {
-                    let present = Table { last, ..cleared.clone() };
-                    let back = taken_back(program, &present, &slip, freed);
-                    assert_eq!(back, Table { last, ..table.clone() });
-                }
-                both += usize::from(freed > 0 && doubtful > freed);
+        for (step, exit) in table.filled() {
+            let (cleared, counts) = cleared(program, &table, step, exit);
+            let (after, slip) = cleared_with_slip(program, &table, step, exit, &counts);
+            assert_eq!(after, cleared);
+            let mut changed = table.in_use() & !mark(1, &emptied(&table, step, exit));
+            assert_eq!(changed.count_ones() as usize, counts.numbers[0]);
+            changed |= 1 << step;
+            let steps: Vec<usize> = members(changed).collect();
+            let head = bytes([step, exit, steps.len() as u16]);
+            let of = |&step: &usize| [record(&table, step), record(&cleared, step)].concat();
+            assert_eq!(slip, [head, steps.iter().flat_map(of).collect()].concat());
+            let [doubtful, freed] = [counts.numbers[0], counts.numbers[1]];
+            for last in [table.last, (table.last + 1) % table.capacity] {
+                let present = Table { last, ..cleared.clone() };
+                let back = taken_back(program, &present, &slip, freed);
+                assert_eq!(back, Table { last, ..table.clone() });
             }
+            both += usize::from(freed > 0 && doubtful > freed);
         }
     }
     both
@@ -327,7 +319,7 @@ pub fn retraces(program: Program, present: &Table, rebuilt: &Table, slip: &[u8])
         assert!(rebuilt.used[step] >= present.used[step]);
     }
     let [step, exit, _] = fields(slip);
-    let counts = program(&mut rebuilt.clone(), &Call::Edit(Command::Clear { step, exit }));
+    let (_, counts) = cleared(program, rebuilt, step, exit);
     let again = cleared_with_slip(program, rebuilt, step, exit, &counts);
     assert_eq!(again, (present.clone(), slip.to_vec()));
 }
@@ -476,6 +468,180 @@ fn freed_between(before: &Table, after: &Table) -> Vec<u8> {
     members(before.in_use() & !after.in_use()).map(|step| step as u8).collect()
 }
 
+/// What pairs of clearings came across. Each pair is made in both orders, and counts in one of the
+/// first five.
+#[derive(Default, Debug)]
+pub struct Orders {
+    /// Both clearings are accepted in both orders, of exits of two steps or of one.
+    pub two_steps: usize,
+    pub one_step: usize,
+    /// One clearing frees the step of the other, which then gets 3.
+    pub holder_freed: usize,
+    /// Both are of the same exit, so that the second gets 6.
+    pub same_exit: usize,
+    /// One of them is refused on the table as it was.
+    pub refused: usize,
+    /// The tables at the end differ; of these, the ones in which links differ in strength.
+    pub other_tables: usize,
+    pub other_strengths: usize,
+    /// The sums of the doubtful counts differ.
+    pub other_doubtful: usize,
+}
+
+impl Orders {
+    /// All of these came up as often as that.
+    pub fn came_up(&self, times: usize) {
+        println!("{self:?}");
+        let Orders { two_steps, one_step, holder_freed, same_exit, refused, .. } = self;
+        let Orders { other_tables, other_strengths, other_doubtful, .. } = self;
+        let pairs = [two_steps, one_step, holder_freed, same_exit, refused];
+        let ends = [other_tables, other_strengths, other_doubtful];
+        assert!(pairs.iter().chain(&ends).all(|&&met| met >= times), "{self:?}");
+    }
+}
+
+/// Pairs of clearings of generated tables.
+pub fn pairs_in_either_order(program: Program, seeds: Range<u64>) -> Orders {
+    let mut met = Orders::default();
+    tables(seeds).for_each(|(table, ..)| some_pairs(program, &table, &mut met));
+    met
+}
+
+/// Pairs of clearings of every two filled exits of small tables, with all the strengths that these
+/// may have.
+pub fn pairs_of_small_tables(program: Program) -> Orders {
+    let mut met = Orders::default();
+    small_tables().for_each(|table| either_order(program, &table, &table.filled(), &mut met));
+    met
+}
+
+/// Pairs of clearings of the tables of histories, every so many calls.
+pub fn pairs_in_histories(program: Program, seeds: Range<u64>) -> Orders {
+    let mut met = Orders::default();
+    for (table, ..) in seeds.flat_map(|seed| calls(program, seed).step_by(20)) {
+        some_pairs(program, &table, &mut met);
+    }
+    met
+}
+
+/// Pairs of clearings of one table: of exits that are filled, and of some that are empty or not
+/// there.
+fn some_pairs(program: Program, table: &Table, met: &mut Orders) {
+    let (plan, mut random) = (plan_of(table), Random(table.size().into()));
+    let exits: Vec<(u16, u16)> = (0..10).map(|_| random.place(&plan, true)).collect();
+    either_order(program, table, &exits, met);
+}
+
+/// Lists of clearings of generated tables: of a few exits, of more, or of all that are filled, and
+/// of one that is empty or not there. Gives what `any_order` gives, added up.
+pub fn lists_in_any_order(program: Program, seeds: Range<u64>) -> [usize; 5] {
+    let mut met = [0; 5];
+    for (table, ..) in tables(seeds) {
+        let (mut exits, mut random) = (table.filled(), Random(table.size().into()));
+        random.shuffle(&mut exits);
+        let (few, more) = (2 + random.below(8), random.below(exits.len() + 1));
+        exits.truncate(random.pick(&[few, few, few, more, exits.len()]));
+        exits.push(random.place(&plan_of(&table), false));
+        let found = any_order(program, &table, &exits, &mut random);
+        met = std::array::from_fn(|i| met[i] + found[i]);
+    }
+    met
+}
+
+/// Clears every two of these exits in both orders, which have to agree. The second clearing gets 3
+/// if the first freed its step, 6 if the first emptied the same exit, and else what it gets on the
+/// table as it was. Two clearings never free each other's step.
+pub fn either_order(program: Program, table: &Table, exits: &[(u16, u16)], met: &mut Orders) {
+    let start = Cleared::new(table);
+    let alone: Vec<(Cleared, u16)> = exits.iter().map(|&exit| start.then(program, exit)).collect();
+    for (i, j) in (0..exits.len()).flat_map(|i| (0..=i).map(move |j| (i, j))) {
+        let pair = [exits[i], exits[j]];
+        let same = pair[0] == pair[1];
+        let [one, other] = [(i, j), (j, i)].map(|(first, second)| {
+            let (left, step) = (&alone[first].0, exits[second].0);
+            let freed = table.has(step) && !left.table.has(step);
+            let expected = match alone[second].1 {
+                _ if freed => 3,
+                0 if same => 6,
+                refusal => refusal,
+            };
+            let (end, refusal) = left.then(program, exits[second]);
+            (end, freed, [refusal, expected])
+        });
+        let [tables, strengths, doubtful] = agree(&one.0, &other.0, &pair);
+        for [refusal, expected] in [one.2, other.2] {
+            assert_eq!(refusal, expected, "refusal of the second of {pair:?}");
+        }
+        assert!(!(one.1 && other.1), "each frees the other's step: {pair:?}");
+        *match alone[i].1 == 0 && alone[j].1 == 0 {
+            false => &mut met.refused,
+            _ if same => &mut met.same_exit,
+            _ if one.1 || other.1 => &mut met.holder_freed,
+            _ if pair[0].0 == pair[1].0 => &mut met.one_step,
+            _ => &mut met.two_steps,
+        } += 1;
+        met.other_tables += tables;
+        met.other_strengths += strengths;
+        met.other_doubtful += doubtful;
+    }
+}
+
+/// Makes two lists of clearings, which have to agree: each of these exits is in both, in any order
+/// and once or more often. Gives what `agree` gives, and how many clearings got 3 and 6.
+pub fn any_order(
+    program: Program,
+    table: &Table,
+    exits: &[(u16, u16)],
+    random: &mut Random,
+) -> [usize; 5] {
+    let [mut freed, mut empty] = [0, 0];
+    let [one, other] = [(); 2].map(|()| {
+        let again = random.below(exits.len() + 1);
+        let mut list = exits.to_vec();
+        list.extend((0..again).map(|_| random.pick(exits)));
+        random.shuffle(&mut list);
+        list.into_iter().fold(Cleared::new(table), |made, exit| {
+            let (made, refusal) = made.then(program, exit);
+            freed += usize::from(refusal == 3);
+            empty += usize::from(refusal == 6);
+            made
+        })
+    });
+    let [tables, strengths, doubtful] = agree(&one, &other, exits);
+    [tables, strengths, doubtful, freed, empty]
+}
+
+/// What clearings of a table have led to: the table after them, and the sums of their counts.
+struct Cleared {
+    table: Table,
+    doubtful: usize,
+    freed: usize,
+}
+
+impl Cleared {
+    fn new(table: &Table) -> Cleared {
+        Cleared { table: table.clone(), doubtful: 0, freed: 0 }
+    }
+
+    /// Makes one clearing more; gives its refusal too.
+    fn then(&self, program: Program, (step, exit): (u16, u16)) -> (Cleared, u16) {
+        let (table, outcome) = cleared(program, &self.table, step, exit);
+        let doubtful = self.doubtful + outcome.numbers[0];
+        let freed = self.freed + outcome.numbers[1];
+        (Cleared { table, doubtful, freed }, outcome.refusal)
+    }
+}
+
+/// Two orders of clearing these exits end in one plain plan and have one sum of freed counts. Gives
+/// 1 or 0: whether the tables differ, whether strengths do, and whether the doubtful sums do.
+fn agree(one: &Cleared, other: &Cleared, exits: &[(u16, u16)]) -> [usize; 3] {
+    assert_eq!(plan_of(&one.table), plan_of(&other.table), "plan after {exits:?}");
+    assert_eq!(one.freed, other.freed, "freed by {exits:?}");
+    let tables = one.table != other.table;
+    let strengths = tables && one.table.strong_exits() != other.table.strong_exits();
+    [tables, strengths, one.doubtful != other.doubtful].map(usize::from)
+}
+
 /// An image converted to the other edition loads as the same table, and its plan is the one that
 /// its records say; converted back, it is the first image, sorted. What an image of edition 1 is
 /// converted to is what it is loaded and written as. Gives the images that were not sorted.
@@ -531,6 +697,13 @@ fn add(program: Program, table: &mut Table, cabin: usize) -> u16 {
         cabin: cabin as u16,
     };
     program(table, &Call::Edit(command)).refusal
+}
+
+/// A copy of a table with a clearing made, and what it gave.
+fn cleared(program: Program, table: &Table, step: u16, exit: u16) -> (Table, Outcome) {
+    let mut table = table.clone();
+    let outcome = program(&mut table, &Call::Edit(Command::Clear { step, exit }));
+    (table, outcome)
 }
 
 /// Generated tables, each with a capacity that it fits, no place more than it needs, or some, and

@@ -5,7 +5,7 @@
 //! `history` runs calls given as values; `generate` makes up calls, key lines, tables, lists,
 //! images, conversions and slips; `faults` has deliberate errors; `laws` has what every squeeze has
 //! to keep, what the limit of a trial does, what cabins are promised, what conversions leave, what
-//! slips say and bring back, and what a preview foretells.
+//! slips say and bring back, what a preview foretells, and what clearings give in any order.
 
 pub mod cabins;
 pub mod calls;

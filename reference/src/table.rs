@@ -93,6 +93,22 @@ impl Table {
         }
     }
 
+    /// The exits of steps in use that hold links: each as its step and its number.
+    pub fn filled(&self) -> Vec<(u16, u16)> {
+        members(self.in_use())
+            .flat_map(|step| (0..EXITS as u16).map(move |exit| (step as u16, exit)))
+            .filter(|&(step, exit)| self.target(step, exit) != 0)
+            .collect()
+    }
+
+    /// The filled exits whose links are strong. All targets have to be in range.
+    pub fn strong_exits(&self) -> Vec<(u16, u16)> {
+        let is_strong = |&(step, exit): &(u16, u16)| {
+            self.is_strong(place(step.into(), exit.into()), self.target(step, exit).into())
+        };
+        self.filled().into_iter().filter(is_strong).collect()
+    }
+
     /// The charges: the steps in use but 0 are sorted by their cabins, so that each cabin's stand
     /// in a row. Cabins above 7 are charged nowhere.
     pub fn charges(&self) -> Charges {

@@ -10,7 +10,8 @@
 --   squeeze-*                 an accepted squeeze, and what its table does (W2)
 --   slip-demand take-back-demand told-demand   a clearing with a slip, its taking back, and what the plan is told of them (W7)
 --   preview-demand preview-refusals   what a clearing would free, and the clearing made next; when a preview is refused (W8)
---   trial-demand trial-only trial-longer   an accepted trial, and one with a larger limit (W3)
+--   clears-any-order two-clears   clearings of the same exits in any order, and of two (W14)
+--   trial-demand trial-only trial-longer   an accepted trial, and one with a larger limit (W3); trials-by-plan, trials of one plan
 --   examples-shown ..         P1 to P10, each refusal of each call, key lines byte by byte, a table for each clause of soundness
 --   keys-demand keys-blocks   the program `keys`
 --   words-table table-words   the table in memory
@@ -31,6 +32,7 @@ use Rattle.table.specs.Clear.{clearRefusal, clearCall}
 use Rattle.table.specs.Preview.{previewRefusal, previewCall}
 use Rattle.table.specs.Squeeze.{newNumber, squeezeRefusal, squeezeCall, ClearsAlike}
 use Rattle.table.specs.Plan.{planOf}
+use Rattle.table.specs.Orders.{Exit, freedSum, SameExits, SameEnd, TwoClearsDemand}
 use Rattle.table.proofs.Sound as Soundness
 use Rattle.image.specs.Image.{Edition, edition1, edition2, image, editionIn, imageSize, largest, imageLength, writeCall, written, accepted, loadCall, Bytes, OldContacts}
 use Rattle.image.specs.Convert.{convertRefusal, convertCall}
@@ -45,13 +47,15 @@ use Rattle.history.proofs.Demand2
 use Rattle.history.proofs.Slips
 use Rattle.history.proofs.Preview
 use Rattle.table.proofs.Trials
+use Rattle.table.proofs.Rings
+use Rattle.table.proofs.Orders
 use Rattle.history.proofs.Demand3 as Histories
 use Rattle.history.proofs.Accounts
 use Rattle.cases.specs.Cases.{Run, Entry, Shown, tableLeft, tableF4}
 use Rattle.cases.proofs.Laws as Cases
 use Rattle.examples.specs.Examples.{examples, refusals, keyLines, Decodes, unsound, failAsSaid}
 use Rattle.examples.proofs.Examples as Examples
-use Rattle.samples.specs.Samples.{samples, firstStrong, secondStrong, Twins}
+use Rattle.samples.specs.Samples.{samples, firstStrong, secondStrong, Twins, crossed, firstOrder, secondOrder, chained}
 use Rattle.samples.proofs.Samples as Samples
 use Rattle.words.specs.Words.{words, tableOf, wordsOf}
 use Rattle.words.proofs.Laws as Memory
@@ -252,6 +256,14 @@ preview-demand = Preview.preview-demand
 pub preview-refusals : (t : Table) (i e : ℕ) (buffer : List ℕ) → PreviewRefusalDemand t i e buffer (previewCall t i e buffer)
 preview-refusals = Preview.preview-refusals
 
+-- W14: clearings of the same exits, in any order and refused or not, leave one plan and free as many steps, whatever the table
+pub clears-any-order : (t : Table) (xs ys : List Exit) → SameExits xs ys → SameEnd t xs ys
+clears-any-order = Orders.clears-any-order
+
+-- and two of different exits from a sound table; when the second is refused
+pub two-clears : (t : Table) → Sound t → (x y : Exit) → (x ≡ y → ⊥) → TwoClearsDemand t x y
+two-clears t s x y d = Orders.two-clears s x y d
+
 -- W2: an accepted squeeze of a sound table, and a second one
 pub squeeze-demand : (t : Table) → Sound t → (c : ℕ) (q : List ℕ) → squeezeRefusal t c q ≡ 0 → SqueezeDemand t c q (squeezeCall t c q)
 squeeze-demand = Demand2.squeeze-demand
@@ -285,6 +297,11 @@ pub trial-longer : (t : Table) (limit more : ℕ) (results trace room : List ℕ
     trialRefusal t more results room ≡ 0 → LongerDemand (trialCall t limit results trace) (trialCall t more results room)
 trial-longer = Trials.trial-longer
 
+-- and the plan alone decides: two sound tables with one plan ring alike, whatever their strengths
+pub trials-by-plan : (t u : Table) → Sound t → Sound u → planOf t ≡ planOf u → (limit : ℕ) (results trace : List ℕ) →
+    trialCall t limit results trace ≡ trialCall u limit results trace
+trials-by-plan = Rings.trials-by-plan
+
 -- The examples: every entry says what it states, of the table that the entries before it in its run leave.
 pub examples-shown : (r : Run) → List·Memᴰ r (examples ++ refusals ++ samples) → (before : List Entry) (x : Entry) (after : List Entry) →
     r .entries ≡ before ++ (x ∷ after) → Shown (tableLeft (r .table) before) x
@@ -293,6 +310,17 @@ examples-shown = Cases.runs-shown (examples ++ refusals ++ samples) (Cases.runs-
 -- W1: two tables with one plan and other strengths have different images
 pub twins : Twins (tableLeft tableF4 firstStrong) (tableLeft tableF4 secondStrong)
 twins = Samples.twins
+
+-- W14: two exits of one step, cleared in either order, and one of them again: one plan and different images
+pub orders : Twins (tableLeft crossed firstOrder) (tableLeft crossed secondOrder)
+orders = Samples.orders (clears-any-order crossed ((0, 0) ∷ (0, 1) ∷ []) ((0, 1) ∷ (0, 0) ∷ (0, 1) ∷ []) Samples.cleared-again)
+
+pub one-step : TwoClearsDemand crossed (0, 0) (0, 1)
+one-step = two-clears crossed Samples.crossed-sound (0, 0) (0, 1) Samples.exits-differ
+
+-- and where the second is refused in one order: two steps are freed in both
+pub freed-together : (freedSum chained ((0, 0) ∷ (1, 0) ∷ []) ≡ 2) × (freedSum chained ((1, 0) ∷ (0, 0) ∷ []) ≡ 2)
+freed-together = Samples.freed-together
 
 pub lines-decoded : Decodes keyLines
 lines-decoded = Examples.lines-decoded

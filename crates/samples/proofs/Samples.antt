@@ -2,18 +2,22 @@
 --   samples-hold     every entry of the table passes
 use mathlib.Core.Path.{_≡_, refl, ap}
 use mathlib.Core.Bool.{Bool, true}
-use mathlib.Core.List.{List}
+use mathlib.Core.Logic.{⊎-elim}
+use mathlib.Core.List.{List, [], _∷_, List·Memᴰ·head, List·Memᴰ·tail, List·Memᴰ·not-nil, List·Memᴰ·cases-cons}
 use native.Mathlib.Omega.{arith}
 use Prim.Native.Nat.{ℕ}
 use lib.ListN.{getD}
 use Rattle.finite.proofs.Bools.{and-intro}
+use Rattle.table.specs.Sound.{Sound}
 use Rattle.table.specs.Plan.{planStep, planOf}
-use Rattle.cases.specs.Cases.{tableLeft, walk, everyRun, tableF4, steps}
+use Rattle.table.specs.Orders.{Exit, clearAll, freedSum, SameExits, SameEnd}
+use Rattle.table.proofs.Sound.{test-sound}
+use Rattle.cases.specs.Cases.{tableLeft, walk, everyRun, tableF4}
 use Rattle.cases.proofs.Computes.{computes}
-use Rattle.samples.specs.Samples.{imageF4, newImageF4, p10, sorted, editions, imageTwin, conversions, oldBook, newBook, books, firstStrong, secondStrong, Twins, freedSlip, turnedSlip, regrets, samples}
+use Rattle.samples.specs.Samples.{imageF4, newImageF4, p10, sorted, editions, imageTwin, conversions, oldBook, newBook, books, firstStrong, secondStrong, Twins, freedSlip, turnedSlip, regrets, crossing, crossed, imageCrossed, firstOrder, secondOrder, chaining, chained, holderFirst, holderLast, samples}
 
 runs : Bool
-unfolding computes freedSlip turnedSlip regrets conversions oldBook newBook books newImageF4 editions sorted imageTwin firstStrong secondStrong imageF4 p10
+unfolding computes freedSlip turnedSlip regrets conversions oldBook newBook books newImageF4 editions sorted imageTwin firstStrong secondStrong imageF4 p10 tableLeft crossing crossed imageCrossed firstOrder secondOrder chaining chained holderFirst holderLast
 runs = true
 
 -- one declaration for each run, since antt bounds the steps of one
@@ -49,6 +53,30 @@ second-strong-holds : walk tableF4 secondStrong ≡ true
 unfolding runs
 second-strong-holds = refl
 
+crossing-holds : walk tableF4 crossing ≡ true
+unfolding runs
+crossing-holds = refl
+
+first-order-holds : walk crossed firstOrder ≡ true
+unfolding runs
+first-order-holds = refl
+
+second-order-holds : walk crossed secondOrder ≡ true
+unfolding runs
+second-order-holds = refl
+
+chaining-holds : walk tableF4 chaining ≡ true
+unfolding runs
+chaining-holds = refl
+
+holder-first-holds : walk chained holderFirst ≡ true
+unfolding runs
+holder-first-holds = refl
+
+holder-last-holds : walk chained holderLast ≡ true
+unfolding runs
+holder-last-holds = refl
+
 pub samples-hold : everyRun samples ≡ true
 unfolding everyRun samples
 samples-hold =
@@ -59,9 +87,38 @@ samples-hold =
     (and-intro books-hold
     (and-intro regrets-hold
     (and-intro first-strong-holds
-    (and-intro second-strong-holds refl)))))))
+    (and-intro second-strong-holds
+    (and-intro crossing-holds
+    (and-intro first-order-holds
+    (and-intro second-order-holds
+    (and-intro chaining-holds
+    (and-intro holder-first-holds
+    (and-intro holder-last-holds refl)))))))))))))
 
 -- W1: one plan and other strengths, other images
 pub twins : Twins (tableLeft tableF4 firstStrong) (tableLeft tableF4 secondStrong)
-unfolding runs planStep planOf tableLeft
+unfolding runs planStep planOf
 twins = record { plan = refl; images = λ e. let x : _≡_ {A = ℕ} 2 1 = ap (λ (bs : List ℕ). getD bs 52 0) e in omega arith }
+
+-- W14: the tables that are cleared are sound, and what is said of them
+pub crossed-sound : Sound crossed
+unfolding runs
+crossed-sound = test-sound crossed refl
+
+pub exits-differ : _≡_ {A = Exit} (0, 0) (0, 1) → ⊥
+exits-differ q = let x : _≡_ {A = ℕ} 0 1 = ap (λ (e : Exit). e .1) q in omega arith
+
+-- an exit twice in a list is there once
+pub cleared-again : SameExits ((0, 0) ∷ (0, 1) ∷ []) ((0, 1) ∷ (0, 0) ∷ (0, 1) ∷ [])
+cleared-again x = (
+  (λ m. ⊎-elim (λ q. List·Memᴰ·tail (List·Memᴰ·head q)) (λ n. ⊎-elim List·Memᴰ·head (λ k. absurd (List·Memᴰ·not-nil k)) (List·Memᴰ·cases-cons n)) (List·Memᴰ·cases-cons m)),
+  λ m. ⊎-elim (λ q. List·Memᴰ·tail (List·Memᴰ·head q)) (λ n. ⊎-elim List·Memᴰ·head (λ k. List·Memᴰ·tail k) (List·Memᴰ·cases-cons n)) (List·Memᴰ·cases-cons m),
+)
+
+pub orders : SameEnd crossed ((0, 0) ∷ (0, 1) ∷ []) ((0, 1) ∷ (0, 0) ∷ (0, 1) ∷ []) → Twins (tableLeft crossed firstOrder) (tableLeft crossed secondOrder)
+unfolding runs clearAll
+orders end = record { plan = end .plan; images = λ e. let x : _≡_ {A = ℕ} 19 17 = ap (λ (bs : List ℕ). getD bs 74 0) e in omega arith }
+
+pub freed-together : (freedSum chained ((0, 0) ∷ (1, 0) ∷ []) ≡ 2) × (freedSum chained ((1, 0) ∷ (0, 0) ∷ []) ≡ 2)
+unfolding runs freedSum
+freed-together = (refl, refl)

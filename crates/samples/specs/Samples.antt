@@ -1,20 +1,19 @@
 -- Examples of images and slips, byte by byte: P10 of document 01 ("Edits on F4"), sorted records (document 02, W1), editions (W5), conversions (W6),
--- slips (W7) and phone books (W9); and two tables with one plan and different images (W1). The entries of a run are made one after the other, each on
--- the table that the one before left. Assumes nothing.
+-- slips (W7), phone books (W9) and clearings in two orders (W14); and two tables with one plan and different images (W1). The entries of a run are made
+-- one after the other, each on the table that the one before left. Assumes nothing.
 --   samples            the table
 --   Twins              two tables with one plan and different images
+--   crossed chained    the tables that are cleared in two orders
 use mathlib.Core.Path.{_≡_}
 use mathlib.Core.List.{List, [], _∷_, _++_}
 use Prim.Native.Nat.{ℕ, _+_}
 use lib.ListN.{set, take, replicate}
-use Rattle.finite.specs.Below.{same}
-use Rattle.table.specs.Table.{Table, holds, strong}
-use Rattle.table.specs.Cabins.{charge}
+use Rattle.table.specs.Table.{Table}
 use Rattle.table.specs.Plan.{planOf}
 use Rattle.image.specs.Image.{edition1, edition2, writtenEdition, image}
-use Rattle.history.specs.History.{load, add, link, write, clearSlip, takeBack}
+use Rattle.history.specs.History.{load, add, link, clear, write, clearSlip, takeBack}
 use Rattle.history.specs.Acts.{begin, call, convert}
-use Rattle.cases.specs.Cases.{taken, weakLink, strongLink, Entry, Run, tableF4, _is_, accepts, refuses, answer, bytes, order, sizes, steps, what, own, counts, exit, cabin, quotas, charges}
+use Rattle.cases.specs.Cases.{weakLink, strongLink, Entry, Run, tableLeft, tableF4, _is_, accepts, refuses, answer, bytes, sizes, steps, what, own, counts, exit, quotas, charges}
 use Rattle.cases.specs.Bytes.{headerP5, step0P5, step1P5, step2P5, imageP5, oldHeaderP5, oldStep0P5, oldStep1P5, oldStep2P5}
 
 -- P10 "F4 as an image, hex: 0A 00 01 00 04 00 00 00 01 00 14 00 02 00, then sixteen 00."
@@ -215,6 +214,69 @@ regrets =
     counts 2 is (1 ∷ 0 ∷ []) ∷ []) ∷
     []
 
+-- W14: step 0 holds steps 1 and 2, step 1 by two exits; step 1 holds steps 2 and 3, step 2 holds step 3
+unfoldable pub crossing : List Entry
+crossing =
+    accepts (call (add 0 0 1 1 0)) [] ∷
+    accepts (call (add 0 1 1 2 0)) [] ∷
+    accepts (call (link 0 0 0 2)) [] ∷
+    accepts (call (add 1 0 1 3 0)) [] ∷
+    accepts (call (link 0 1 1 1)) [] ∷
+    accepts (call (link 1 0 2 0)) (exit 0 2 is (weakLink ∷ 1 ∷ []) ∷ exit 1 1 is (weakLink ∷ 2 ∷ []) ∷ exit 2 0 is (weakLink ∷ 3 ∷ []) ∷ []) ∷
+    []
+
+unfoldable pub crossed : Table
+crossed = tableLeft tableF4 crossing
+
+-- what is left of it when exits 0 and 1 of step 0 are cleared, by the bits of steps 1 and 2: all four steps are still in use
+unfoldable pub imageCrossed : ℕ → ℕ → List ℕ
+imageCrossed bits1 bits2 =
+    0x2A ∷ 0 ∷ 3 ∷ 0 ∷ 4 ∷ 0 ∷ 3 ∷ 0 ∷ 4 ∷ 0 ∷ 3 ∷ 0 ∷ 3 ∷ 0 ∷
+    (replicate 28 0 ++
+    (0x16 ∷ 0 ∷ 4 ∷ 0 ∷ 0 ∷ 0 ∷ 0 ∷ 0 ∷ 0 ∷ 0 ∷ 4 ∷ 0 ∷ 0 ∷ 0 ∷ 0 ∷ 0 ∷ 1 ∷ 0 ∷ 0 ∷ 0 ∷ 0 ∷ 0 ∷
+    0x16 ∷ 0 ∷ 4 ∷ 0 ∷ 1 ∷ 0 ∷ 1 ∷ 0 ∷ 1 ∷ 0 ∷ bits1 ∷ 0 ∷ 3 ∷ 0 ∷ 2 ∷ 0 ∷ 0 ∷ 0 ∷ 0 ∷ 0 ∷ 0 ∷ 0 ∷
+    0x16 ∷ 0 ∷ 4 ∷ 0 ∷ 2 ∷ 0 ∷ 1 ∷ 0 ∷ 2 ∷ 0 ∷ bits2 ∷ 0 ∷ 3 ∷ 0 ∷ 0 ∷ 0 ∷ 0 ∷ 0 ∷ 0 ∷ 0 ∷ 0 ∷ 0 ∷
+    0x16 ∷ 0 ∷ 4 ∷ 0 ∷ 3 ∷ 0 ∷ 1 ∷ 0 ∷ 3 ∷ 0 ∷ 16 ∷ 0 ∷ replicate 10 0))
+
+-- one order makes 2 and 1 steps doubtful and leaves step 2's link weak
+unfoldable pub firstOrder : List Entry
+firstOrder =
+    accepts (call (clear 0 0)) (answer is (2 ∷ 0 ∷ []) ∷ []) ∷
+    accepts (call (clear 0 1)) (answer is (1 ∷ 0 ∷ []) ∷ steps is (0 ∷ 1 ∷ 2 ∷ 3 ∷ []) ∷ exit 2 0 is (weakLink ∷ 3 ∷ []) ∷ []) ∷
+    accepts (call (write (replicate 130 0xFF))) (bytes is imageCrossed 19 16 ∷ []) ∷
+    []
+
+-- the other makes 1 and 3 doubtful and leaves it strong; an exit that was cleared is empty
+unfoldable pub secondOrder : List Entry
+secondOrder =
+    accepts (call (clear 0 1)) (answer is (1 ∷ 0 ∷ []) ∷ []) ∷
+    accepts (call (clear 0 0)) (answer is (3 ∷ 0 ∷ []) ∷ steps is (0 ∷ 1 ∷ 2 ∷ 3 ∷ []) ∷ exit 2 0 is (strongLink ∷ 3 ∷ []) ∷ []) ∷
+    refuses (call (clear 0 1)) 6 ∷
+    accepts (call (write (replicate 130 0xFF))) (bytes is imageCrossed 17 1 ∷ []) ∷
+    []
+
+-- step 0 holds step 1, which holds step 2: the first clearing frees the holder of the second exit, and in the other order both are accepted
+unfoldable pub chaining : List Entry
+chaining =
+    accepts (call (add 0 0 1 1 0)) [] ∷
+    accepts (call (add 1 0 1 2 0)) [] ∷
+    []
+
+unfoldable pub chained : Table
+chained = tableLeft tableF4 chaining
+
+unfoldable pub holderFirst : List Entry
+holderFirst =
+    accepts (call (clear 0 0)) (answer is (2 ∷ 2 ∷ []) ∷ steps is (0 ∷ []) ∷ sizes is (4 ∷ 2 ∷ []) ∷ []) ∷
+    refuses (call (clear 1 0)) 3 ∷
+    []
+
+unfoldable pub holderLast : List Entry
+holderLast =
+    accepts (call (clear 1 0)) (answer is (1 ∷ 1 ∷ []) ∷ steps is (0 ∷ 1 ∷ []) ∷ []) ∷
+    accepts (call (clear 0 0)) (answer is (1 ∷ 1 ∷ []) ∷ steps is (0 ∷ []) ∷ sizes is (4 ∷ 2 ∷ []) ∷ []) ∷
+    []
+
 unfoldable pub samples : List Run
 samples =
     record { table = tableF4; entries = p10 } ∷
@@ -225,4 +287,10 @@ samples =
     record { table = tableF4; entries = regrets } ∷
     record { table = tableF4; entries = firstStrong } ∷
     record { table = tableF4; entries = secondStrong } ∷
+    record { table = tableF4; entries = crossing } ∷
+    record { table = crossed; entries = firstOrder } ∷
+    record { table = crossed; entries = secondOrder } ∷
+    record { table = tableF4; entries = chaining } ∷
+    record { table = chained; entries = holderFirst } ∷
+    record { table = chained; entries = holderLast } ∷
     []

@@ -11,11 +11,11 @@ use mathlib.Core.Bool.{Bool, true, false, _&&_, not, cond}
 use mathlib.Core.Logic.{⊎-elim}
 use mathlib.Core.List.{List, [], _∷_, _++_}
 use mathlib.Core.Option.{some}
-use Prim.Native.Nat.{ℕ, _-_, _<_}
+use Prim.Native.Nat.{ℕ, _+_, _-_, _<_}
 use native.Mathlib.Omega.{arith}
 use lib.ListN.{length, set, replicate}
 use lib.Dec.{eqb}
-use borrow.Author.Tests.{eqb-false, eq-eqb, ne-eqb, leb-false}
+use borrow.Author.Tests.{eqb-false, eq-eqb, ne-eqb, leb-false, lt-leb}
 use Rattle.finite.proofs.Bools.{and-left, and-right, test, not-true-false, not-false-true}
 use Rattle.finite.proofs.Below.{eq-or-ne, find-ext}
 use Rattle.table.specs.declared.Answer.the-variants.{Given, Refused}
@@ -23,7 +23,7 @@ use Rattle.table.specs.declared.Tried.the-variants.{Refused as TrialRefu
 use Rattle.table.specs.Table.{Table, exits, exitsOf, cabinCount, inUse, targetOf, holds, stepsInUse}
 use Rattle.table.specs.Cabins.{atLimit, noneToSpare, charge, freeSteps}
 use Rattle.table.specs.Sound.{Sound, contentFits}
-use Rattle.table.specs.Answer.{Outcome, tooShort, first, refusalOf, unless}
+use Rattle.table.specs.Answer.{Outcome, notInUse, tooShort, first, refusalOf, secondOf, unless}
 use Rattle.table.specs.Calls.{tableTests, exitTests, fillTests, holdTests, HoldFits, numberGiven, addConditions, addRefusal, withStep, addTable, linkConditions, linkRefusal, weakBit, linkTable, noFields, readConditions, readRefusal, readCall}
 use Rattle.table.specs.Trial.{tryFrom, trialRefusal, trialCall}
 use Rattle.table.specs.Clear.{emptied, stops, repairOf, repaired, clearConditions, cleared, clearRefusal, clearCall}
@@ -32,7 +32,7 @@ use Rattle.table.proofs.Places.{own-exit}
 use Rattle.table.proofs.Links.{Wired, formed-wired, sound-wired}
 use Rattle.table.proofs.Sound.{test-sound, sound-test}
 use Rattle.table.proofs.Edits.{number-given, sound-link, sound-add, formed-with-step, with-step-kept}
-use Rattle.table.proofs.Clear.{reached-in-use, Cleared, formed-emptied, cleared-stop, cleared-repair}
+use Rattle.table.proofs.Clear.{reached-in-use, Cleared, emptied-used, emptied-steps, formed-emptied, cleared-stop, cleared-repair}
 use Rattle.table.proofs.Plan.{plan-capacity, plan-used, plan-target, plan-holds, plan-count, plan-charge, plan-relink, plan-with-step, plan-pruned}
 
 -- two orders with the same conditions, each asked for only where those before it do not hold
@@ -161,6 +161,10 @@ clear-sound t i e z = clear-passed t i e z .0
 pub clear-fits : (t : Table) (i e : ℕ) → clearRefusal t i e ≡ 0 → HoldFits t i e
 clear-fits t i e z = hold-fits t i e [] (clear-passed t i e z .1) .0
 
+-- and the exit is one of the four
+pub clear-exit : (t : Table) (i e : ℕ) → clearRefusal t i e ≡ 0 → e < exits
+clear-exit t i e z = exit-fits t i e _ (clear-passed t i e z .1) .0 .1
+
 pub read-fits : (t : Table) (i : ℕ) → readRefusal t i ≡ 0 → inUse t i ≡ true
 unfolding readRefusal nonzero
 read-fits t i z = not-false-true _ (passed-next (table-fits t _ (first-passed (readConditions t i) z refl) .1) .0)
@@ -207,6 +211,15 @@ module _ {t : Table} (s : Sound t) where
   pub past-sound : (xs : List (Bool × ℕ)) → first (tableTests t ++ xs) ≡ first xs
   unfolding first
   past-sound xs = rw (sound-test t s)
+
+  -- a clearing that nothing is in the way of, and one of a step that is not in use
+  pub clear-accepted : (i e : ℕ) → inUse t i ≡ true → e < exits → holds t i e ≡ true → clearRefusal t i e ≡ 0
+  unfolding clearRefusal first
+  clear-accepted i e u l h = past-sound (holdTests t i e) ∙ rw (u, lt-leb exits e l, h)
+
+  pub clear-unused : (i e : ℕ) → inUse t i ≡ false → clearRefusal t i e ≡ notInUse
+  unfolding clearRefusal first
+  clear-unused i e u = past-sound (holdTests t i e) ∙ rw u
 
   pub add-refusal : (holder e kind content cabin : ℕ) →
       addRefusal t holder e kind content cabin ≡ planAddRefusal (planOf t) holder e kind content cabin
@@ -346,21 +359,27 @@ module _ {t : Table} (s : Sound t) where
         (λ (h : stops t i e ≡ false). rw h (_, _, refl, cleared-repair t s i e (g .used) (g .exit) (g .filled)))
         (test (stops t i e))
 
+    -- no step comes, and as many go as the answer says
+    pub clear-still : (k : ℕ) → inUse (cleared t i e .table) k ≡ true → inUse t k ≡ true
+    clear-still k y =
+        let f = formed-emptied t s i e (g .used) (g .exit) (g .filled) in
+        sym (emptied-used t i e k) ∙ reached-in-use (formed-wired f) (f .alarm) k (sym (clear-cleared .3 .used k) ∙ y)
+
+    pub clear-fall : stepsInUse (cleared t i e .table) + secondOf (cleared t i e .answer) ≡ stepsInUse t
+    clear-fall =
+        let second : secondOf (cleared t i e .answer) ≡ clear-cleared .1 = ap secondOf (clear-cleared .2) ∙ (unfold secondOf in refl) in
+        ap (λ (n : ℕ). stepsInUse (cleared t i e .table) + n) second ∙ clear-cleared .3 .fall ∙ emptied-steps t i e
+
     pub clear-plan : planOf (cleared t i e .table) ≡ planClear (planOf t) i e
     unfolding planClear
     clear-plan =
         let c = clear-cleared .3 in
         let formed = formed-emptied t s i e (g .used) (g .exit) (g .filled) in
         plan-pruned (emptied t i e) (cleared t i e .table) (formed-wired formed) (c .capacity) (c .last) (c .used)
-        (λ k y. cleared-still k y)
+        (λ k y. emptied-used t i e k ∙ clear-still k y)
         (c .kind)
         (c .content)
         (c .target)
         (c .cabin)
         (c .quotas)
         ∙ ap pruned (unfold emptied in plan-relink t (s .formed) i e 0 0 (g .used) (g .exit))
-      where
-        cleared-still : (k : ℕ) → inUse (cleared t i e .table) k ≡ true → inUse (emptied t i e) k ≡ true
-        cleared-still k y =
-            let f = formed-emptied t s i e (g .used) (g .exit) (g .filled) in
-            reached-in-use (formed-wired f) (f .alarm) k (sym (clear-cleared .3 .used k) ∙ y)

@@ -17,7 +17,9 @@ pub mod Follow
 pub mod Plan
 pub mod Calls
 pub mod Preview
+pub mod Orders
 pub mod Trials
+pub mod Rings
 pub mod Squeeze
 pub mod Squeezed
 pub mod SqueezeClear

@@ -1,6 +1,6 @@
 -- The plain plan of a table, read and redrawn: what a table says of its steps its plan says too, and each edit of a table is the plan's edit.
 -- Assumes nothing.
---   plan-used plan-target plan-holds plan-linked plan-count plan-charge   the plan says what the table says
+--   plan-used plan-kind plan-target plan-holds plan-linked plan-count plan-charge   the plan says what the table says
 --   plan-fresh plan-relink plan-with-step plan-cleared        the plan after an edit
 use mathlib.Core.Path.{_≡_, refl, sym, _∙_, ap, ap₂, fun-ext}
 use mathlib.Core.Bool.{Bool, true, false, _&&_, not, cond}
@@ -54,6 +54,11 @@ entry-target : (n : ℕ) (u : Bool) (k c : ℕ) (f : ℕ → ℕ) (b e : ℕ) �
 entry-target n true k c f b e l z = getD-tabulate n f 0 e l
 entry-target n false k c f b e l z = sym (z refl)
 
+-- the kind that a plan's entry says
+abbrev pub stepKind : Option PlanStep → ℕ
+stepKind none = 0
+stepKind (some s) = s .kind
+
 -- a step charged to a cabin: the same said of a plan's entry
 entry-cabin : (n : ℕ) (u m : Bool) (k c : ℕ) (f : ℕ → ℕ) (b d : ℕ) → (m && stepOfCabin d (entry n u k c f b)) ≡ (u && m && eqb b d)
 entry-cabin n true true k c f b d = refl
@@ -80,6 +85,9 @@ module _ {t : Table} (w : Wired t) where
   pub plan-used : (i : ℕ) → planInUse (planOf t) i ≡ inUse t i
   unfolding planInUse
   plan-used i = ap isStep (plan-step i ∙ plan-step-entry t i) ∙ is-entry (exitsOf i) (inUse t i) _ _ _ _
+
+  pub plan-kind : (i : ℕ) → inUse t i ≡ true → stepKind (stepOf (planOf t) i) ≡ kindOf t i
+  plan-kind i u = ap stepKind (plan-step i ∙ plan-step-entry t i) ∙ rw u
 
   pub plan-target : (i e : ℕ) → e < exitsOf i → planTarget (planOf t) i e ≡ targetOf t i e
   unfolding planTarget
@@ -261,4 +269,20 @@ plan-pruned u v w size last used still kind content target cabin quotas =
     (λ x. sym (cabin k y)))))
     (λ (y : inUse v k ≡ false). rw (m, y))
     (test (inUse v k))))
+    quotas
+
+-- tables that agree in what a plan keeps have one plan
+pub plan-same : (u v : Table) → u .capacity ≡ v .capacity → u .last ≡ v .last → u .quotas ≡ v .quotas → ((i : ℕ) → inUse u i ≡ inUse v i) →
+    ((i : ℕ) → inUse u i ≡ true → kindOf u i ≡ kindOf v i) → ((i : ℕ) → inUse u i ≡ true → contentOf u i ≡ contentOf v i) →
+    ((i e : ℕ) → inUse u i ≡ true → e < exitsOf i → targetOf u i e ≡ targetOf v i e) → ((i : ℕ) → inUse u i ≡ true → cabinOf u i ≡ cabinOf v i) →
+    planOf u ≡ planOf v
+unfolding planOf
+plan-same u v size last quotas used kind content target cabin =
+    plan-path size last
+    (ap (λ (n : ℕ). tabulate n (planStep u)) size
+    ∙ tabulate-ext (v .capacity) _ _
+    (λ i l.
+    plan-step-entry u i
+    ∙ entry-same (exitsOf i) _ _ _ _ _ _ _ _ _ _ (used i) (kind i) (content i) (λ y e b. target i e y b) (cabin i)
+    ∙ sym (plan-step-entry v i)))
     quotas

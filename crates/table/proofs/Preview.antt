@@ -15,7 +15,7 @@ use lib.Dec.{eqb, ltb}
 use borrow.Author.Tests.{eq-eqb, ne-eqb, ltb-false}
 use Rattle.finite.specs.Below.{count}
 use Rattle.finite.specs.Reach.{marked, reaches}
-use Rattle.finite.proofs.Bools.{and-left, and-right, and-intro, same-test, refute, clash, not-true-false}
+use Rattle.finite.proofs.Bools.{and-left, and-right, and-intro, same-test, refute, clash, test, not-true-false}
 use Rattle.finite.proofs.Below.{eq-or-ne, any-ext, count-ext, count-le, count-pos, count-split}
 use Rattle.finite.proofs.Those.{length-those, those-none}
 use Rattle.table.specs.declared.Answer.the-variants.{Refused}
@@ -26,12 +26,12 @@ use Rattle.table.specs.Calls.{HoldFits, relink}
 use Rattle.table.specs.Clear.{emptied, stops, doubtful, repairOf, repaired, cleared, clearRefusal}
 use Rattle.table.specs.Preview.{isFreed, wouldGo, previewRoom, previewRefusal, previewCall}
 use Rattle.table.proofs.Formed.{formed-place, formed-below}
-use Rattle.finite.proofs.Reach.{reach-start, reach-closed}
-use Rattle.table.proofs.Links.{formed-wired, exit-strongly}
+use Rattle.finite.proofs.Reach.{chain-map, reach-sound, reach-complete, reach-start, reach-closed}
+use Rattle.table.proofs.Links.{formed-wired, exit-strongly, strongly-linked, linked-below}
 use Rattle.table.proofs.Relink.{relink-target-other}
 use Rattle.table.proofs.Spine.{sound-spine}
-use Rattle.table.proofs.Clear.{Cleared, reached-in-use, emptied-used, emptied-steps, emptied-strongly, goes-strong, formed-emptied, doubtful-at, freed-marked}
-use Rattle.table.proofs.Calls.{cleared-given, into-order, into-accepted, clear-cleared}
+use Rattle.table.proofs.Clear.{Cleared, emptied-used, emptied-strongly, goes-strong, formed-emptied, doubtful-at, freed-marked}
+use Rattle.table.proofs.Calls.{cleared-given, into-order, into-accepted, clear-cleared, clear-still, clear-fall}
 
 module _ (t : Table) (i e : ℕ) (buffer : List ℕ) where
   -- refused as the clearing is, then for the room
@@ -71,16 +71,6 @@ module _ (t : Table) (i e : ℕ) (s : Sound t) (g : HoldFits t i e) where
   done : Cleared u (clear-cleared s i e g .0) (clear-cleared s i e g .1) v
   done = clear-cleared s i e g .3
 
-  still-used : (k : ℕ) → inUse v k ≡ true → inUse t k ≡ true
-  still-used k y =
-      let f = formed-emptied t s i e (g .used) (g .exit) (g .filled) in
-      sym (emptied-used t i e k) ∙ reached-in-use (formed-wired f) (f .alarm) k (sym (done .used k) ∙ y)
-
-  fall : stepsInUse v + secondOf (cleared t i e .answer) ≡ stepsInUse t
-  fall =
-      let second : secondOf (cleared t i e .answer) ≡ clear-cleared s i e g .1 = ap secondOf (clear-cleared s i e g .2) ∙ (unfold secondOf in refl) in
-      ap (λ (n : ℕ). stepsInUse v + n) second ∙ done .fall ∙ emptied-steps t i e
-
   -- step 0 stays, so that at most 127 go
   pub go-fits : secondOf (cleared t i e .answer) ≤ previewRoom
   unfolding stepsInUse
@@ -89,7 +79,7 @@ module _ (t : Table) (i e : ℕ) (s : Sound t) (g : HoldFits t i e) where
       let kept = done .sound .formed in
       let one-stays = count-pos (v .capacity) (inUse v) 0 (kept .least) (kept .alarm) in
       let all = count-le (t .capacity) (inUse t) in
-      let parts = fall in
+      let parts = clear-fall s i e g in
       omega arith
 
   pub freed-counted : count (t .capacity) (isFreed t v) ≡ secondOf (cleared t i e .answer)
@@ -97,10 +87,10 @@ module _ (t : Table) (i e : ℕ) (s : Sound t) (g : HoldFits t i e) where
   freed-counted =
       let split = count-split (t .capacity) (inUse t) (inUse v) in
       let kept : count (t .capacity) (λ k. inUse t k && inUse v k) ≡ count (t .capacity) (inUse v) =
-      count-ext (t .capacity) _ _ (λ k l. same-test _ _ (λ y. and-right (inUse t k) _ y) (λ y. and-intro (still-used k y) y)) in
+      count-ext (t .capacity) _ _ (λ k l. same-test _ _ (λ y. and-right (inUse t k) _ y) (λ y. and-intro (clear-still s i e g k y) y)) in
       let size : count (v .capacity) (inUse v) ≡ count (t .capacity) (inUse v) =
       ap (λ (n : ℕ). count n (inUse v)) (done .capacity ∙ (unfold emptied relink withLinks in refl)) in
-      let all = fall in
+      let all = clear-fall s i e g in
       omega arith
 
   pub go-length : length (wouldGo t i e) ≡ secondOf (cleared t i e .answer)
@@ -151,9 +141,25 @@ module _ (t : Table) (s : Sound t) (i e : ℕ) (g : HoldFits t i e) (h : stops t
       doubtful-at t s i e (g .used) (g .exit) (g .filled) i
       ∙ refute _ (λ y. clash (before-reached (suc (rank i)) i (omega arith) holder-below (g .used)) (not-true-false _ (and-right (inUse (emptied t i e) i) _ y)))
 
+  -- and so it stays in use
+  holder-reached : reaches (linked (emptied t i e)) (emptied t i e .capacity) 0 i ≡ true
+  holder-reached =
+      let u = emptied t i e in
+      let f = formed-emptied t s i e (g .used) (g .exit) (g .filled) in
+      let c = reach-sound (stronglyLinked u) (u .capacity) 0 i (before-reached (suc (rank i)) i (omega arith) holder-below (g .used)) in
+      reach-complete (linked u) (u .capacity) (linked-below (formed-wired f)) (f .least) (chain-map (strongly-linked u) (c .1))
+
   pub doubtful-links : (k j : ℕ) → marked (doubtful (emptied t i e)) k ≡ true → linked t k j ≡ linked (emptied t i e) k j
   unfolding linked leads holds emptied
   doubtful-links k j m =
       let d : k ≡ i → ⊥ = λ q. clash (rw q at m) (unfold emptied in holder-certain) in
       any-ext (exitsOf k) _ _
       (λ f l. ap (λ (n : ℕ). not (eqb n 0) && eqb n j) (sym (relink-target-other t (s .formed .shape) i e 0 0 (formed-place (s .formed) i (g .used)) (g .exit) k f l (λ q. d (q .0)))))
+
+-- a clearing keeps the step that held the link
+pub holder-kept : (t : Table) (s : Sound t) (i e : ℕ) → HoldFits t i e → inUse (cleared t i e .table) i ≡ true
+holder-kept t s i e g =
+    ⊎-elim
+    (λ (h : stops t i e ≡ true). rw h (emptied-used t i e i ∙ g .used))
+    (λ (h : stops t i e ≡ false). clear-cleared s i e g .3 .used i ∙ holder-reached t s i e g h)
+    (test (stops t i e))

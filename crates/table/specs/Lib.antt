@@ -1,4 +1,5 @@
--- Document 01 as definitions: the table, sound, the calls, the plain plan; and document 02's preview, squeeze and trial.
+-- Document 01 as definitions: the table, sound, the calls, the plain plan; and document 02's preview, squeeze, trial
+-- and clearings in two orders.
 pub mod Table
 pub mod Cabins
 pub mod Sound
@@ -9,3 +10,4 @@ pub mod Preview
 pub mod Squeeze
 pub mod Trial
 pub mod Plan
+pub mod Orders

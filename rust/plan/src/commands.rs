@@ -260,8 +260,10 @@ const DIFF: &str = "\
 Whether two images are one table, one plan with other strengths, or two plans;
 then cabin by cabin and step by step how they differ. A link is strong if its
 bit is the own bit of the step that it leads to; bits may differ where strengths
-do not. Status 0 where they are one table, whatever the editions of the images,
-1 where not, 2 where one could not be read or is not accepted.
+do not. Images of one plan ring alike, and still do after the same edits, but a
+slip may fit one of them alone. The same exits of an image, cleared in two
+orders, leave one plan. Status 0 where the images are one table, whatever their
+editions, 1 where not, 2 where one could not be read or is not accepted.
 ";
 
 const CHECK: &str = "\

@@ -1,12 +1,14 @@
 //! The program `plan` on stored images: what it writes is held to stored outputs. STORE_OUTPUTS=1 writes them anew; read the difference then.
 
+use plan::diff::{diff, Verdict};
+use plan::view::View;
 use plan::words::count;
 use std::fs::{self, File};
 use std::io::Read;
 use std::os::unix::fs::PermissionsExt;
 use std::path::{Path, PathBuf};
 use std::process::{Command, Output, Stdio};
-use telephone::{Exit, Table, IMAGE_MAX};
+use telephone::{Exit, Refusal, Table, IMAGE_MAX};
 
 /// Each command line, by the name of its output. The images stand in tests/images; those with a file .keys beside them were keyed. They are of edition 1
 /// but for ring-2, which is ring in edition 2, contacts, which has contacts above 99, and those of several cabins. contacts-old has the records of
@@ -212,7 +214,7 @@ fn outputs_as_stored() {
         assert!(given.status.code() != Some(2) || is_failure(&given), "{name}");
     }
     let outputs = fs::read_dir(folder("outputs")).unwrap().count();
-    let others = CHECKED.len() + KEYED.len() + 2 * DRAWN.len();
+    let others = CHECKED.len() + KEYED.len() + 2 * DRAWN.len() + ORDERS.len();
     assert_eq!(outputs, CASES.len() + others, "outputs that no test writes");
 }
 
@@ -308,6 +310,14 @@ fn scratch(name: &str) -> PathBuf {
     Path::new(env!("CARGO_TARGET_TMPDIR")).join(name)
 }
 
+/// An empty folder for a test's own files.
+fn scratch_folder(name: &str) -> PathBuf {
+    let folder = scratch(name);
+    let _ = fs::remove_dir_all(&folder);
+    fs::create_dir(&folder).unwrap();
+    folder
+}
+
 #[test]
 fn key_lines() {
     for (name, image, options, lines) in KEYED {
@@ -320,7 +330,7 @@ fn key_lines() {
 /// The images that were keyed come out of their lines.
 #[test]
 fn keyed_images() {
-    for name in ["ring", "thirty", "full", "squeezable", "waits", "contacts"] {
+    for name in ["ring", "thirty", "full", "squeezable", "waits", "contacts", "two-ways"] {
         let lines = image(&format!("{name}.keys"));
         let given = output(fed(&mut plan(&["key", "fresh128.img"]), &lines));
         assert!(given.status.success(), "{name}: {}", text(&given.stderr));
@@ -518,6 +528,63 @@ fn every_preview() {
     assert_eq!((seen, others), ([174, 41, 30], 5));
 }
 
+/// Two clearings, each a step and an exit, on two-ways.img: the name of the output, the clearings. Where one is refused, the other freed its step.
+const ORDERS: [(&str, [&str; 2]); 5] = [
+    ("orders-strengths", ["1 1", "1 2"]),
+    ("orders-bits", ["0 0", "0 1"]),
+    ("orders-same", ["1 1", "2 1"]),
+    ("orders-refused", ["0 0", "1 2"]),
+    ("orders-refused-strengths", ["0 0", "1 1"]),
+];
+
+/// Two mechanics make the same two clearings, each in an order of their own, and the office compares the images.
+#[test]
+fn two_mechanics() {
+    let folder = scratch_folder("two_mechanics");
+    fs::write(folder.join("two-ways.img"), image("two-ways.img")).unwrap();
+    for (name, [a, b]) in ORDERS {
+        let lines = [
+            format!("clear two-ways.img {a} -o one.img"),
+            format!("clear one.img {b} -o one.img"),
+            format!("clear two-ways.img {b} -o other.img"),
+            format!("clear other.img {a} -o other.img"),
+            "diff one.img other.img".to_string(),
+        ];
+        let session = lines.map(|line| {
+            let words: Vec<&str> = line.split(' ').collect();
+            transcript(&line, &output(plan(&words).current_dir(&folder)))
+        });
+        stored(&format!("{name}.txt"), &session.concat());
+    }
+    fs::remove_dir_all(&folder).unwrap();
+}
+
+/// Every two filled exits of stored images, cleared in both orders: the plans never differ, strengths and bits do for some.
+#[test]
+fn every_two_clearings() {
+    for (name, refused, verdicts) in
+        [("ring", 1, [15, 0, 0]), ("two-ways", 2, [18, 1, 2]), ("thirty", 52, [1282, 12, 32])]
+    {
+        let table = Table::load(&image(&format!("{name}.img"))).unwrap();
+        let exits: Vec<_> = View::of(&table).links().map(|held| (held.step, held.exit)).collect();
+        let (mut refusals, mut met) = (vec![], vec![]);
+        for (at, &a) in exits.iter().enumerate() {
+            for &b in &exits[at + 1..] {
+                let [one, other] = [[a, b], [b, a]].map(|order| {
+                    let mut after = table.clone();
+                    refusals.extend(order.into_iter().filter_map(|(s, e)| after.clear(s, e).err()));
+                    View::of(&after)
+                });
+                met.push(diff(&one, &other).0);
+            }
+        }
+        assert_eq!(refusals, vec![Refusal::NotInUse; refused], "{name}");
+        let kinds = [Verdict::Same, Verdict::OtherBits, Verdict::OtherStrengths];
+        let counted = kinds.map(|kind| met.iter().filter(|&&verdict| verdict == kind).count());
+        assert_eq!((counted, counted.iter().sum()), (verdicts, met.len()), "{name}");
+    }
+}
+
 /// Where nobody hears any more that an image is stored, it is stored all the same, and the status says so.
 #[test]
 fn stored_unheard() {
@@ -534,9 +601,7 @@ fn stored_unheard() {
 /// A slip and an image are stored both or not at all, and nothing is left beside them.
 #[test]
 fn stored_slips() {
-    let folder = scratch("stored_slips");
-    let _ = fs::remove_dir_all(&folder);
-    fs::create_dir(&folder).unwrap();
+    let folder = scratch_folder("stored_slips");
     let (image_path, slip_path) = (folder.join("plan.img"), folder.join("plan.slip"));
     let (file, slip) = (image_path.to_str().unwrap(), slip_path.to_str().unwrap());
     let other = folder.join("./plan.slip");
@@ -578,9 +643,7 @@ fn stored_slips() {
 /// -o stores what standard output would get, also over the image itself; a command that fails leaves the file as it was, and nothing beside it.
 #[test]
 fn stored_files() {
-    let folder = scratch("stored_files");
-    let _ = fs::remove_dir_all(&folder);
-    fs::create_dir(&folder).unwrap();
+    let folder = scratch_folder("stored_files");
     let path = folder.join("plan.img");
     let file = path.to_str().unwrap();
     assert!(output(&mut plan(&["clear", "ring.img", "0", "0", "-o", file])).status.success());

@@ -522,6 +522,10 @@ impl Table {
     }
 
     /// Empties an exit, and frees the steps that nothing reaches any more.
+    ///
+    /// From one table, clearings of the same exits leave one plan in whatever order they are made, refused and repeated ones included, and their freed
+    /// counts have one sum. Strengths, images and doubtful counts may differ. A clearing whose step another has freed is refused as
+    /// [`Refusal::NotInUse`].
     pub fn clear(&mut self, step: u16, exit: Exit) -> Result<Cleared, Refusal> {
         cleared(raw::clear(&mut self.0, step, exit.number()))
     }

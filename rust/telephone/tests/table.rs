@@ -1,5 +1,6 @@
 //! The types of this crate: a table is sound and changed in place, a refusal is an error and changes nothing, and no number makes a panic.
 
+use std::fmt::Debug;
 use telephone::{
     check_edition, convert_down, convert_up, raw, sole_quotas, Cleared, Counts, Ending, Exit, Kind,
     Link, Quota, Quotas, Refusal, Table, CABINS, IMAGE_MAX, PREVIEW_ROOM, SLIP_MAX,
@@ -548,6 +549,77 @@ fn changes_before_a_take_back() {
     table.clear(3, Exit::Answered).unwrap();
     assert_eq!(add(&mut table, 3, Exit::Answered, 0), Ok(1));
     not_taken_back(&table, &slip);
+}
+
+/// What a table holds but for bits and counters: its numbers, its list, and of each step the kind, the targets and the cabin.
+fn plan_of(table: &Table) -> impl PartialEq + Debug {
+    let raw = table.as_raw();
+    let steps = (0..raw.capacity).map(|number| {
+        let step = table.read(number).ok()?;
+        Some((step.kind, step.exits.map(|link| link.map(|link| link.target)), step.cabin))
+    });
+    (raw.capacity, raw.last, raw.quotas, steps.collect::<Vec<_>>())
+}
+
+/// The table after clearings, made one after the other, and their answers.
+type Made = (Table, Vec<Result<Cleared, Refusal>>);
+
+fn in_order(table: &Table, exits: &[(u16, Exit)]) -> Made {
+    let mut after = table.clone();
+    let answers = exits.iter().map(|&(step, exit)| after.clear(step, exit)).collect();
+    (after, answers)
+}
+
+/// What has to be the same in every order: the plan, and the sum of the freed counts.
+fn ends(made: &Made) -> (impl PartialEq + Debug, u16) {
+    let freed = made.1.iter().flatten().map(|cleared| cleared.freed).sum();
+    (plan_of(&made.0), freed)
+}
+
+/// The ring, held at its third step too; and all exits of its steps, and of one past them.
+fn held_ring() -> (Table, Vec<(u16, Exit)>) {
+    let mut table = ring();
+    table.link(2, Exit::Answered, 0, Exit::Engaged).unwrap();
+    (table, (0..8).flat_map(|step| Exit::ALL.map(|exit| (step, exit))).collect())
+}
+
+/// Two clearings in either order (W14). The second gets 3 if the first freed its step, 6 if it is the first again, and else what it gets alone. An exit
+/// that can be cleared first gets 3 in one order at most. Some pairs leave two tables of one plan.
+#[test]
+fn clearings_in_either_order() {
+    let (table, exits) = held_ring();
+    let (mut refused, mut others) = (0, 0);
+    for (a, b) in exits.iter().flat_map(|&a| exits.iter().map(move |&b| (a, b))) {
+        let [one, other] = [[a, b], [b, a]].map(|exits| in_order(&table, &exits));
+        assert_eq!(ends(&one), ends(&other), "{a:?}, {b:?}");
+        let (alone, stays) = (other.1[0], in_order(&table, &[a]).0.read(b.0).is_ok());
+        let expected = match alone {
+            _ if !stays => Err(Refusal::NotInUse),
+            Ok(_) if a == b => Err(Refusal::ExitEmpty),
+            _ => alone.map(|_| ()),
+        };
+        assert_eq!(one.1[1].map(|_| ()), expected, "{a:?}, {b:?}");
+        if alone.is_ok() && !stays {
+            assert!(other.1[1].is_ok(), "{a:?}, {b:?}");
+            refused += 1;
+        }
+        assert_eq!(one.0 == other.0, image_of(&one.0) == image_of(&other.0));
+        others += usize::from(one.0 != other.0);
+    }
+    assert_eq!((refused, others), (4, 6));
+}
+
+/// Three clearings in any order, refused and repeated ones too, end as their exits do, each cleared once and in ascending order.
+#[test]
+fn clearings_in_any_order() {
+    let (table, exits) = held_ring();
+    for (i, j, k) in (0..32 * 32 * 32).map(|row| (row / 1024, row / 32 % 32, row % 32)) {
+        let row = [i, j, k].map(|at| exits[at]);
+        let mut once = row.to_vec();
+        once.sort();
+        once.dedup();
+        assert_eq!(ends(&in_order(&table, &row)), ends(&in_order(&table, &once)), "{row:?}");
+    }
 }
 
 /// The most moves, by a wait and by a contact, and lengths that 16 bits do not hold.
