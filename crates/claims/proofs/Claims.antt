@@ -10,13 +10,13 @@
 --   squeeze-*                 an accepted squeeze, and what its table does (W2)
 --   slip-demand take-back-demand told-demand   a clearing with a slip, its taking back, and what the plan is told of them (W7)
 --   preview-demand preview-refusals   what a clearing would free, and the clearing made next; when a preview is refused (W8)
---   clears-any-order two-clears   clearings of the same exits in any order, and of two (W14)
+--   clears-any-order two-clears second-clear   clearings of the same exits in any order, and of two (W14)
 --   trial-demand trial-only trial-longer   an accepted trial, and one with a larger limit (W3); trials-by-plan, trials of one plan
 --   examples-shown ..         P1 to P10, each refusal of each call, key lines byte by byte, a table for each clause of soundness
 --   keys-demand keys-blocks   the program `keys`
 --   words-table table-words   the table in memory
 --   plan-*                    each exported function meets its contract, which is the equation with its definition (crates/telephone/src/lib.rt)
-use mathlib.Core.Path.{_≡_}
+use mathlib.Core.Path.{_≡_, sym, _∙_}
 use mathlib.Core.Bool.{true}
 use mathlib.Core.Logic.{_⊎_, _↔_}
 use mathlib.Core.List.{List, [], _∷_, _++_, flatten, List·Memᴰ}
@@ -32,7 +32,7 @@ use Rattle.table.specs.Clear.{clearRefusal, clearCall}
 use Rattle.table.specs.Preview.{previewRefusal, previewCall}
 use Rattle.table.specs.Squeeze.{newNumber, squeezeRefusal, squeezeCall, ClearsAlike}
 use Rattle.table.specs.Plan.{planOf}
-use Rattle.table.specs.Orders.{Exit, freedSum, SameExits, SameEnd, TwoClearsDemand}
+use Rattle.table.specs.Orders.{Exit, clearAll, freedSum, SameExits, SameEnd, TwoClearsDemand, SecondDemand}
 use Rattle.table.proofs.Sound as Soundness
 use Rattle.image.specs.Image.{Edition, edition1, edition2, image, editionIn, imageSize, largest, imageLength, writeCall, written, accepted, loadCall, Bytes, OldContacts}
 use Rattle.image.specs.Convert.{convertRefusal, convertCall}
@@ -55,7 +55,7 @@ use Rattle.cases.specs.Cases.{Run, Entry, Shown, tableLeft, tableF4}
 use Rattle.cases.proofs.Laws as Cases
 use Rattle.examples.specs.Examples.{examples, refusals, keyLines, Decodes, unsound, failAsSaid}
 use Rattle.examples.proofs.Examples as Examples
-use Rattle.samples.specs.Samples.{samples, firstStrong, secondStrong, Twins, crossed, firstOrder, secondOrder, chained}
+use Rattle.samples.specs.Samples.{samples, firstStrong, secondStrong, Twins, crossed, firstOrder, secondOrder, oneOrder, otherOrder, CrossedEnd, chained}
 use Rattle.samples.proofs.Samples as Samples
 use Rattle.words.specs.Words.{words, tableOf, wordsOf}
 use Rattle.words.proofs.Laws as Memory
@@ -264,6 +264,10 @@ clears-any-order = Orders.clears-any-order
 pub two-clears : (t : Table) → Sound t → (x y : Exit) → (x ≡ y → ⊥) → TwoClearsDemand t x y
 two-clears t s x y d = Orders.two-clears s x y d
 
+-- so, where each of them can be cleared, the second is accepted or gets 3, and in one order both are accepted
+pub second-clear : (t : Table) (x y : Exit) → (x ≡ y → ⊥) → clearRefusal t (x .0) (x .1) ≡ 0 → clearRefusal t (y .0) (y .1) ≡ 0 → SecondDemand t x y
+second-clear = Orders.second-clear
+
 -- W2: an accepted squeeze of a sound table, and a second one
 pub squeeze-demand : (t : Table) → Sound t → (c : ℕ) (q : List ℕ) → squeezeRefusal t c q ≡ 0 → SqueezeDemand t c q (squeezeCall t c q)
 squeeze-demand = Demand2.squeeze-demand
@@ -313,14 +317,20 @@ twins = Samples.twins
 
 -- W14: two exits of one step, cleared in either order, and one of them again: one plan and different images
 pub orders : Twins (tableLeft crossed firstOrder) (tableLeft crossed secondOrder)
-orders = Samples.orders (clears-any-order crossed ((0, 0) ∷ (0, 1) ∷ []) ((0, 1) ∷ (0, 0) ∷ (0, 1) ∷ []) Samples.cleared-again)
+orders = Samples.orders (clears-any-order crossed oneOrder otherOrder Samples.cleared-again)
 
-pub one-step : TwoClearsDemand crossed (0, 0) (0, 1)
-one-step = two-clears crossed Samples.crossed-sound (0, 0) (0, 1) Samples.exits-differ
+pub other-end : CrossedEnd (clearAll crossed otherOrder)
+other-end = Samples.other-end (clears-any-order crossed oneOrder otherOrder Samples.cleared-again)
+
+pub one-step : TwoClearsDemand crossed (0, 1) (0, 2)
+one-step = two-clears crossed Samples.crossed-sound (0, 1) (0, 2) Samples.exits-differ
 
 -- and where the second is refused in one order: two steps are freed in both
-pub freed-together : (freedSum chained ((0, 0) ∷ (1, 0) ∷ []) ≡ 2) × (freedSum chained ((1, 0) ∷ (0, 0) ∷ []) ≡ 2)
-freed-together = Samples.freed-together
+pub freed-first : freedSum chained ((0, 0) ∷ (1, 0) ∷ []) ≡ 2
+freed-first = Samples.freed-first
+
+pub freed-last : freedSum chained ((1, 0) ∷ (0, 0) ∷ []) ≡ 2
+freed-last = sym (two-clears chained Samples.chained-sound (0, 0) (1, 0) Samples.steps-differ .same .freed) ∙ freed-first
 
 pub lines-decoded : Decodes keyLines
 lines-decoded = Examples.lines-decoded

@@ -1,6 +1,6 @@
 -- The examples of images and slips hold: each run is one test that computes. Assumes nothing.
 --   samples-hold     every entry of the table passes
-use mathlib.Core.Path.{_≡_, refl, ap}
+use mathlib.Core.Path.{_≡_, refl, sym, _∙_, ap}
 use mathlib.Core.Bool.{Bool, true}
 use mathlib.Core.Logic.{⊎-elim}
 use mathlib.Core.List.{List, [], _∷_, List·Memᴰ·head, List·Memᴰ·tail, List·Memᴰ·not-nil, List·Memᴰ·cases-cons}
@@ -14,7 +14,7 @@ use Rattle.table.specs.Orders.{Exit, clearAll, freedSum, SameExits, SameEnd}
 use Rattle.table.proofs.Sound.{test-sound}
 use Rattle.cases.specs.Cases.{tableLeft, walk, everyRun, tableF4}
 use Rattle.cases.proofs.Computes.{computes}
-use Rattle.samples.specs.Samples.{imageF4, newImageF4, p10, sorted, editions, imageTwin, conversions, oldBook, newBook, books, firstStrong, secondStrong, Twins, freedSlip, turnedSlip, regrets, crossing, crossed, imageCrossed, firstOrder, secondOrder, chaining, chained, holderFirst, holderLast, samples}
+use Rattle.samples.specs.Samples.{imageF4, newImageF4, p10, sorted, editions, imageTwin, conversions, oldBook, newBook, books, firstStrong, secondStrong, Twins, freedSlip, turnedSlip, regrets, crossing, crossed, imageCrossed, firstOrder, secondOrder, oneOrder, otherOrder, CrossedEnd, chaining, chained, holderFirst, holderLast, samples}
 
 runs : Bool
 unfolding computes freedSlip turnedSlip regrets conversions oldBook newBook books newImageF4 editions sorted imageTwin firstStrong secondStrong imageF4 p10 tableLeft crossing crossed imageCrossed firstOrder secondOrder chaining chained holderFirst holderLast
@@ -105,20 +105,45 @@ pub crossed-sound : Sound crossed
 unfolding runs
 crossed-sound = test-sound crossed refl
 
-pub exits-differ : _≡_ {A = Exit} (0, 0) (0, 1) → ⊥
-exits-differ q = let x : _≡_ {A = ℕ} 0 1 = ap (λ (e : Exit). e .1) q in omega arith
+pub exits-differ : _≡_ {A = Exit} (0, 1) (0, 2) → ⊥
+exits-differ q = let x : _≡_ {A = ℕ} 1 2 = ap (λ (e : Exit). e .1) q in omega arith
+
+pub chained-sound : Sound chained
+unfolding runs
+chained-sound = test-sound chained refl
+
+pub steps-differ : _≡_ {A = Exit} (0, 0) (1, 0) → ⊥
+steps-differ q = let x : _≡_ {A = ℕ} 0 1 = ap (λ (e : Exit). e .0) q in omega arith
 
 -- an exit twice in a list is there once
-pub cleared-again : SameExits ((0, 0) ∷ (0, 1) ∷ []) ((0, 1) ∷ (0, 0) ∷ (0, 1) ∷ [])
+pub cleared-again : SameExits oneOrder otherOrder
 cleared-again x = (
   (λ m. ⊎-elim (λ q. List·Memᴰ·tail (List·Memᴰ·head q)) (λ n. ⊎-elim List·Memᴰ·head (λ k. absurd (List·Memᴰ·not-nil k)) (List·Memᴰ·cases-cons n)) (List·Memᴰ·cases-cons m)),
   λ m. ⊎-elim (λ q. List·Memᴰ·tail (List·Memᴰ·head q)) (λ n. ⊎-elim List·Memᴰ·head (λ k. List·Memᴰ·tail k) (List·Memᴰ·cases-cons n)) (List·Memᴰ·cases-cons m),
 )
 
-pub orders : SameEnd crossed ((0, 0) ∷ (0, 1) ∷ []) ((0, 1) ∷ (0, 0) ∷ (0, 1) ∷ []) → Twins (tableLeft crossed firstOrder) (tableLeft crossed secondOrder)
+pub orders : SameEnd crossed oneOrder otherOrder → Twins (tableLeft crossed firstOrder) (tableLeft crossed secondOrder)
 unfolding runs clearAll
 orders end = record { plan = end .plan; images = λ e. let x : _≡_ {A = ℕ} 19 17 = ap (λ (bs : List ℕ). getD bs 74 0) e in omega arith }
 
-pub freed-together : (freedSum chained ((0, 0) ∷ (1, 0) ∷ []) ≡ 2) × (freedSum chained ((1, 0) ∷ (0, 0) ∷ []) ≡ 2)
+one-end : CrossedEnd (clearAll crossed oneOrder)
+unfolding runs clearAll
+one-end = record { used = refl; kind = refl; content = refl; cabin = refl; stays = refl; target = refl; rung = refl }
+
+-- by each part of what both leave alike
+pub other-end : SameEnd crossed oneOrder otherOrder → CrossedEnd (clearAll crossed otherOrder)
+other-end end =
+    let one = one-end in
+    record {
+      used = sym (end .used 3) ∙ one .used;
+      kind = sym (end .kinds 3 (one .used)) ∙ one .kind;
+      content = sym (end .contents 3 (one .used)) ∙ one .content;
+      cabin = sym (end .cabins 3 (one .used)) ∙ one .cabin;
+      stays = sym (end .used 2) ∙ one .stays;
+      target = sym (end .targets 2 0 (one .stays) (omega arith)) ∙ one .target;
+      rung = sym (end .trials 4 (1 ∷ 0 ∷ []) (7 ∷ 7 ∷ 7 ∷ 7 ∷ [])) ∙ one .rung;
+    }
+
+pub freed-first : freedSum chained ((0, 0) ∷ (1, 0) ∷ []) ≡ 2
 unfolding runs freedSum
-freed-together = (refl, refl)
+freed-first = refl

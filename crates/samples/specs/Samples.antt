@@ -3,13 +3,17 @@
 -- one after the other, each on the table that the one before left. Assumes nothing.
 --   samples            the table
 --   Twins              two tables with one plan and different images
---   crossed chained    the tables that are cleared in two orders
+--   crossed chained    the tables that are cleared in two orders; CrossedEnd, what both orders leave of the first
 use mathlib.Core.Path.{_≡_}
+use mathlib.Core.Bool.{true}
 use mathlib.Core.List.{List, [], _∷_, _++_}
 use Prim.Native.Nat.{ℕ, _+_}
 use lib.ListN.{set, take, replicate}
-use Rattle.table.specs.Table.{Table}
+use Rattle.table.specs.Table.{Table, inUse, kindOf, contentOf, cabinOf, targetOf}
+use Rattle.table.specs.declared.Ending.the-variants.{Spent}
+use Rattle.table.specs.Trial.{ended, trialCall}
 use Rattle.table.specs.Plan.{planOf}
+use Rattle.table.specs.Orders.{Exit}
 use Rattle.image.specs.Image.{edition1, edition2, writtenEdition, image}
 use Rattle.history.specs.History.{load, add, link, clear, write, clearSlip, takeBack}
 use Rattle.history.specs.Acts.{begin, call, convert}
@@ -217,23 +221,23 @@ regrets =
 -- W14: step 0 holds steps 1 and 2, step 1 by two exits; step 1 holds steps 2 and 3, step 2 holds step 3
 unfoldable pub crossing : List Entry
 crossing =
-    accepts (call (add 0 0 1 1 0)) [] ∷
-    accepts (call (add 0 1 1 2 0)) [] ∷
-    accepts (call (link 0 0 0 2)) [] ∷
+    accepts (call (add 0 1 1 1 0)) [] ∷
+    accepts (call (add 0 2 1 2 0)) [] ∷
+    accepts (call (link 0 1 0 0)) [] ∷
     accepts (call (add 1 0 1 3 0)) [] ∷
-    accepts (call (link 0 1 1 1)) [] ∷
-    accepts (call (link 1 0 2 0)) (exit 0 2 is (weakLink ∷ 1 ∷ []) ∷ exit 1 1 is (weakLink ∷ 2 ∷ []) ∷ exit 2 0 is (weakLink ∷ 3 ∷ []) ∷ []) ∷
+    accepts (call (link 0 2 1 1)) [] ∷
+    accepts (call (link 1 0 2 0)) (exit 0 0 is (weakLink ∷ 1 ∷ []) ∷ exit 1 1 is (weakLink ∷ 2 ∷ []) ∷ exit 2 0 is (weakLink ∷ 3 ∷ []) ∷ []) ∷
     []
 
 unfoldable pub crossed : Table
 crossed = tableLeft tableF4 crossing
 
--- what is left of it when exits 0 and 1 of step 0 are cleared, by the bits of steps 1 and 2: all four steps are still in use
+-- what is left of it when exits 1 and 2 of step 0 are cleared, by the bits of steps 1 and 2: all four steps are still in use
 unfoldable pub imageCrossed : ℕ → ℕ → List ℕ
 imageCrossed bits1 bits2 =
     0x2A ∷ 0 ∷ 3 ∷ 0 ∷ 4 ∷ 0 ∷ 3 ∷ 0 ∷ 4 ∷ 0 ∷ 3 ∷ 0 ∷ 3 ∷ 0 ∷
     (replicate 28 0 ++
-    (0x16 ∷ 0 ∷ 4 ∷ 0 ∷ 0 ∷ 0 ∷ 0 ∷ 0 ∷ 0 ∷ 0 ∷ 4 ∷ 0 ∷ 0 ∷ 0 ∷ 0 ∷ 0 ∷ 1 ∷ 0 ∷ 0 ∷ 0 ∷ 0 ∷ 0 ∷
+    (0x16 ∷ 0 ∷ 4 ∷ 0 ∷ 0 ∷ 0 ∷ 0 ∷ 0 ∷ 0 ∷ 0 ∷ 1 ∷ 0 ∷ 1 ∷ 0 ∷ 0 ∷ 0 ∷ 0 ∷ 0 ∷ 0 ∷ 0 ∷ 0 ∷ 0 ∷
     0x16 ∷ 0 ∷ 4 ∷ 0 ∷ 1 ∷ 0 ∷ 1 ∷ 0 ∷ 1 ∷ 0 ∷ bits1 ∷ 0 ∷ 3 ∷ 0 ∷ 2 ∷ 0 ∷ 0 ∷ 0 ∷ 0 ∷ 0 ∷ 0 ∷ 0 ∷
     0x16 ∷ 0 ∷ 4 ∷ 0 ∷ 2 ∷ 0 ∷ 1 ∷ 0 ∷ 2 ∷ 0 ∷ bits2 ∷ 0 ∷ 3 ∷ 0 ∷ 0 ∷ 0 ∷ 0 ∷ 0 ∷ 0 ∷ 0 ∷ 0 ∷ 0 ∷
     0x16 ∷ 0 ∷ 4 ∷ 0 ∷ 3 ∷ 0 ∷ 1 ∷ 0 ∷ 3 ∷ 0 ∷ 16 ∷ 0 ∷ replicate 10 0))
@@ -241,19 +245,36 @@ imageCrossed bits1 bits2 =
 -- one order makes 2 and 1 steps doubtful and leaves step 2's link weak
 unfoldable pub firstOrder : List Entry
 firstOrder =
-    accepts (call (clear 0 0)) (answer is (2 ∷ 0 ∷ []) ∷ []) ∷
-    accepts (call (clear 0 1)) (answer is (1 ∷ 0 ∷ []) ∷ steps is (0 ∷ 1 ∷ 2 ∷ 3 ∷ []) ∷ exit 2 0 is (weakLink ∷ 3 ∷ []) ∷ []) ∷
+    accepts (call (clear 0 1)) (answer is (2 ∷ 0 ∷ []) ∷ []) ∷
+    accepts (call (clear 0 2)) (answer is (1 ∷ 0 ∷ []) ∷ steps is (0 ∷ 1 ∷ 2 ∷ 3 ∷ []) ∷ exit 2 0 is (weakLink ∷ 3 ∷ []) ∷ []) ∷
     accepts (call (write (replicate 130 0xFF))) (bytes is imageCrossed 19 16 ∷ []) ∷
     []
 
 -- the other makes 1 and 3 doubtful and leaves it strong; an exit that was cleared is empty
 unfoldable pub secondOrder : List Entry
 secondOrder =
-    accepts (call (clear 0 1)) (answer is (1 ∷ 0 ∷ []) ∷ []) ∷
-    accepts (call (clear 0 0)) (answer is (3 ∷ 0 ∷ []) ∷ steps is (0 ∷ 1 ∷ 2 ∷ 3 ∷ []) ∷ exit 2 0 is (strongLink ∷ 3 ∷ []) ∷ []) ∷
-    refuses (call (clear 0 1)) 6 ∷
+    accepts (call (clear 0 2)) (answer is (1 ∷ 0 ∷ []) ∷ []) ∷
+    accepts (call (clear 0 1)) (answer is (3 ∷ 0 ∷ []) ∷ steps is (0 ∷ 1 ∷ 2 ∷ 3 ∷ []) ∷ exit 2 0 is (strongLink ∷ 3 ∷ []) ∷ []) ∷
+    refuses (call (clear 0 2)) 6 ∷
     accepts (call (write (replicate 130 0xFF))) (bytes is imageCrossed 17 1 ∷ []) ∷
     []
+
+-- the same clearings as lists
+abbrev pub oneOrder : List Exit
+oneOrder = (0, 1) ∷ (0, 2) ∷ []
+
+abbrev pub otherOrder : List Exit
+otherOrder = (0, 2) ∷ (0, 1) ∷ (0, 2) ∷ []
+
+-- what both leave, in numbers: step 3, what the exit of step 2 leads to, and a trial that goes by all steps
+pub record CrossedEnd (t : Table) : Type 0 where
+  pub used : inUse t 3 ≡ true
+  pub kind : kindOf t 3 ≡ 1
+  pub content : contentOf t 3 ≡ 3
+  pub cabin : cabinOf t 3 ≡ 0
+  pub stays : inUse t 2 ≡ true
+  pub target : targetOf t 2 0 ≡ 3
+  pub rung : trialCall t 4 (1 ∷ 0 ∷ []) (7 ∷ 7 ∷ 7 ∷ 7 ∷ []) ≡ ended Spent 3 3 (1 ∷ 2 ∷ 3 ∷ 7 ∷ [])
 
 -- step 0 holds step 1, which holds step 2: the first clearing frees the holder of the second exit, and in the other order both are accepted
 unfoldable pub chaining : List Entry

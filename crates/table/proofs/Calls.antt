@@ -5,6 +5,7 @@
 --   table-fits exit-fits hold-fits fill-fits   what the conditions that calls share say where none holds, and that the rest of the order is passed
 --   add-refusal link-refusal clear-refusal read-refusal trial-refusal   the table's refusal is the plan's
 --   read-refused trial-refused   what a refused read and a refused trial do
+--   clear-cleared clear-still clear-fall clear-plan   what a clearing that is made comes to: its steps in use, its counts and its plan
 --   FillFits AddFits LinkFits   the conditions of an accepted call, as facts; HoldFits, of the definitions, is that of a clearing
 use mathlib.Core.Path.{_≡_, refl, sym, _∙_, ap, ap₂}
 use mathlib.Core.Bool.{Bool, true, false, _&&_, not, cond}

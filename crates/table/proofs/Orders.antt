@@ -1,7 +1,7 @@
 -- Exits cleared in two orders end in one plan (document 02, W14). Assumes nothing.
 --   Left t P u        clearings of the exits P leave u of t; left-same, one plan for one set of exits
 --   left-clear left-all   one clearing more, and a list of them, refused or not
---   clears-any-order two-clears   the claims
+--   clears-any-order two-clears second-clear   the claims
 use mathlib.Core.Path.{_≡_, refl, sym, _∙_, ap, ap₂}
 use mathlib.Core.Bool.{true, false}
 use mathlib.Core.Logic.{_⊎_, inl, inr, _↔_, ⊎-elim}
@@ -19,7 +19,7 @@ use Rattle.table.specs.Calls.{relink}
 use Rattle.table.specs.Clear.{emptied, cleared, clearRefusal, clearCall}
 use Rattle.table.specs.Trial.{trialCall}
 use Rattle.table.specs.Plan.{planOf, planCount}
-use Rattle.table.specs.Orders.{Exit, clearAt, clearAll, freedSum, SameExits, SameEnd, TwoClearsDemand}
+use Rattle.table.specs.Orders.{Exit, clearAt, clearAll, freedSum, SameExits, SameEnd, TwoClearsDemand, SecondDemand}
 use Rattle.table.proofs.Sound.{test-sound, sound-test}
 use Rattle.table.proofs.Links.{sound-wired, holds-target, target-holds, empty-target, linked-exit, exit-linked, linked-used}
 use Rattle.table.proofs.Relink.{relink-target, relink-target-other}
@@ -288,6 +288,15 @@ clears-any-order t xs ys same =
           freed = omega (arith, steps, gone, others);
         }
 
+swapped : (x y : Exit) → SameExits (x ∷ y ∷ []) (y ∷ x ∷ [])
+swapped x y v = (swap v x y, swap v y x)
+  where
+    swap : (v x y : Exit) → List·Memᴰ v (x ∷ y ∷ []) → List·Memᴰ v (y ∷ x ∷ [])
+    swap v x y m =
+        ⊎-elim (λ q. List·Memᴰ·tail (List·Memᴰ·head q))
+        (λ n. ⊎-elim List·Memᴰ·head (λ k. absurd (List·Memᴰ·not-nil k)) (List·Memᴰ·cases-cons n))
+        (List·Memᴰ·cases-cons m)
+
 -- Two clearings, in either order.
 module _ {t : Table} (s : Sound t) (x y : Exit) (d : x ≡ y → ⊥) where
   abbrev a : Table
@@ -333,14 +342,19 @@ module _ {t : Table} (s : Sound t) (x y : Exit) (d : x ≡ y → ⊥) where
   pub two-clears : TwoClearsDemand t x y
   two-clears =
       record {
-        same = clears-any-order t (x ∷ y ∷ []) (y ∷ x ∷ []) (λ v. (swap v x y, swap v y x));
+        same = clears-any-order t (x ∷ y ∷ []) (y ∷ x ∷ []) (swapped x y);
         freed = second-gone;
         kept = second-kept;
         either = λ z. ⊎-elim (λ h. inl h) (λ h. inr (holder-stays z h)) (test (inUse a (y .0)));
       }
-    where
-      swap : (v x y : Exit) → List·Memᴰ v (x ∷ y ∷ []) → List·Memᴰ v (y ∷ x ∷ [])
-      swap v x y m =
-          ⊎-elim (λ q. List·Memᴰ·tail (List·Memᴰ·head q))
-          (λ n. ⊎-elim List·Memᴰ·head (λ k. absurd (List·Memᴰ·not-nil k)) (List·Memᴰ·cases-cons n))
-          (List·Memᴰ·cases-cons m)
+
+-- and where each of the two can be cleared
+pub second-clear : (t : Table) (x y : Exit) → (x ≡ y → ⊥) → clearRefusal t (x .0) (x .1) ≡ 0 → clearRefusal t (y .0) (y .1) ≡ 0 → SecondDemand t x y
+second-clear t x y d z w =
+    let s = clear-sound t (x .0) (x .1) z in
+    let one = two-clears s x y d in
+    let other = two-clears s y x (λ q. d (sym q)) in
+    record {
+      only = ⊎-elim (λ h. inl (one .kept w h)) (λ h. inr (one .freed h)) (test (inUse (clearAt t x .table) (y .0)));
+      once = ⊎-elim (λ h. inl (one .kept w h)) (λ h. inr (other .kept z h)) (one .either z);
+    }

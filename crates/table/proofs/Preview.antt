@@ -4,6 +4,7 @@
 --   freed-counted go-length   as many steps would go as the clearing counts; go-fits, the room is enough for them
 --   doubtful-links    the table as it is shows the links of the doubtful steps, since the exit's holder is not one of them
 --   go-none go-marked   the same by the rules of clearing: none where rule 1 stops, else the steps still doubtful
+--   holder-kept       a clearing keeps the step that held the link
 use mathlib.Core.Path.{_≡_, refl, sym, _∙_, ap, ap₂}
 use mathlib.Core.Bool.{Bool, true, false, _&&_, not, cond}
 use mathlib.Core.Logic.{⊎-elim}
@@ -156,7 +157,6 @@ module _ (t : Table) (s : Sound t) (i e : ℕ) (g : HoldFits t i e) (h : stops t
       any-ext (exitsOf k) _ _
       (λ f l. ap (λ (n : ℕ). not (eqb n 0) && eqb n j) (sym (relink-target-other t (s .formed .shape) i e 0 0 (formed-place (s .formed) i (g .used)) (g .exit) k f l (λ q. d (q .0)))))
 
--- a clearing keeps the step that held the link
 pub holder-kept : (t : Table) (s : Sound t) (i e : ℕ) → HoldFits t i e → inUse (cleared t i e .table) i ≡ true
 holder-kept t s i e g =
     ⊎-elim

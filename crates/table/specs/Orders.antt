@@ -3,7 +3,7 @@
 --   clearAll t xs     the exits xs cleared one after the other; freedSum, the sum of their freed counts
 --   SameExits xs ys   both lists have the same exits
 --   SameEnd t xs ys   what both leave of t
---   TwoClearsDemand   of two clearings
+--   TwoClearsDemand   of two clearings; SecondDemand, of the second, where each could be the first
 use mathlib.Core.Path.{_≡_}
 use mathlib.Core.Bool.{true, false}
 use mathlib.Core.Logic.{_⊎_, _↔_}
@@ -50,13 +50,24 @@ pub record SameEnd (t : Table) (xs ys : List Exit) : Type 0 where
   -- "and so is the sum of the freed counts"
   pub freed : freedSum t xs ≡ freedSum t ys
 
+-- the second of two clearings, after that of x
+abbrev pub clearSecond : Table → Exit → Exit → Outcome
+clearSecond t x y = clearAt (clearAt t x .table) y
+
 -- "Two people clear different exits from any sound table.": x and y
 pub record TwoClearsDemand (t : Table) (x y : Exit) : Type 0 where
   -- "Where both clearings are accepted in either order", and where one is refused too
   pub same : SameEnd t (x ∷ y ∷ []) (y ∷ x ∷ [])
   -- "If the first frees the holder of the second exit, the second gets 3."
-  pub freed : inUse (clearAt t x .table) (y .0) ≡ false → refusalOf (clearAt (clearAt t x .table) y .answer) ≡ 3
+  pub freed : inUse (clearAt t x .table) (y .0) ≡ false → refusalOf (clearSecond t x y .answer) ≡ 3
   -- a second that could have been the first gets nothing else
-  pub kept : clearRefusal t (y .0) (y .1) ≡ 0 → inUse (clearAt t x .table) (y .0) ≡ true → refusalOf (clearAt (clearAt t x .table) y .answer) ≡ 0
-  -- and in one of the two orders, at least, its holder stays
+  pub kept : clearRefusal t (y .0) (y .1) ≡ 0 → inUse (clearAt t x .table) (y .0) ≡ true → refusalOf (clearSecond t x y .answer) ≡ 0
+  -- and in one of the two orders, at least, the holder of the second stays
   pub either : clearRefusal t (x .0) (x .1) ≡ 0 → (inUse (clearAt t x .table) (y .0) ≡ true) ⊎ (inUse (clearAt t y .table) (x .0) ≡ true)
+
+-- and where each of the two can be cleared on t
+pub record SecondDemand (t : Table) (x y : Exit) : Type 0 where
+  -- the second is accepted or gets 3
+  pub only : (refusalOf (clearSecond t x y .answer) ≡ 0) ⊎ (refusalOf (clearSecond t x y .answer) ≡ 3)
+  -- and gets 3 in one order at most
+  pub once : (refusalOf (clearSecond t x y .answer) ≡ 0) ⊎ (refusalOf (clearSecond t y x .answer) ≡ 0)
