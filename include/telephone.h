@@ -65,7 +65,7 @@
 extern "C" {
 #endif
 
-#define PLAN_VERSION "0.10.0"  /* of this software; CHANGELOG.md says what changed, and PLAN_EDITION what a host has to follow */
+#define PLAN_VERSION "0.10.0" /* of this software; CHANGELOG.md says what changed, and PLAN_EDITION what a host has to follow */
 #define PLAN_EDITION 4        /* of this interface; in edition 1 tables went by value, in 2 a trial had no limit, in 3 there were no cabins */
 #define PLAN_PLACES 128       /* the largest capacity */
 #define PLAN_EXITS 4          /* exits of a step */
