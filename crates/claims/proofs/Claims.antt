@@ -55,7 +55,7 @@ use Rattle.cases.specs.Cases.{Run, Entry, Shown, tableLeft, tableF4}
 use Rattle.cases.proofs.Laws as Cases
 use Rattle.examples.specs.Examples.{examples, refusals, keyLines, Decodes, unsound, failAsSaid}
 use Rattle.examples.proofs.Examples as Examples
-use Rattle.samples.specs.Samples.{samples, firstStrong, secondStrong, Twins, crossed, firstOrder, secondOrder, oneOrder, otherOrder, CrossedEnd, chained}
+use Rattle.samples.specs.Samples.{samples, firstStrong, secondStrong, Twins, crossed, firstOrder, secondOrder, oneOrder, otherOrder, CrossedEnd, chained, HolderFreed}
 use Rattle.samples.proofs.Samples as Samples
 use Rattle.words.specs.Words.{words, tableOf, wordsOf}
 use Rattle.words.proofs.Laws as Memory
@@ -315,6 +315,11 @@ examples-shown = Cases.runs-shown (examples ++ refusals ++ samples) (Cases.runs-
 pub twins : Twins (tableLeft tableF4 firstStrong) (tableLeft tableF4 secondStrong)
 twins = Samples.twins
 
+-- and the same trials
+pub twins-ring : (limit : ℕ) (results trace : List ℕ) →
+    trialCall (tableLeft tableF4 firstStrong) limit results trace ≡ trialCall (tableLeft tableF4 secondStrong) limit results trace
+twins-ring = trials-by-plan _ _ Samples.first-strong-sound Samples.second-strong-sound (twins .plan)
+
 -- W14: two exits of one step, cleared in either order, and one of them again: one plan and different images
 pub orders : Twins (tableLeft crossed firstOrder) (tableLeft crossed secondOrder)
 orders = Samples.orders (clears-any-order crossed oneOrder otherOrder Samples.cleared-again)
@@ -325,7 +330,11 @@ other-end = Samples.other-end (clears-any-order crossed oneOrder otherOrder Samp
 pub one-step : TwoClearsDemand crossed (0, 1) (0, 2)
 one-step = two-clears crossed Samples.crossed-sound (0, 1) (0, 2) Samples.exits-differ
 
--- and where the second is refused in one order: two steps are freed in both
+-- and where the second is refused in one order: by 3, in the other it is accepted, and two steps are freed in both
+pub holder-freed : HolderFreed
+holder-freed =
+    Samples.holder-freed (second-clear chained (0, 0) (1, 0) Samples.steps-differ (Samples.chained-clears .0) (Samples.chained-clears .1))
+
 pub freed-first : freedSum chained ((0, 0) ∷ (1, 0) ∷ []) ≡ 2
 freed-first = Samples.freed-first
 

@@ -10,11 +10,13 @@ use lib.ListN.{getD}
 use Rattle.finite.proofs.Bools.{and-intro}
 use Rattle.table.specs.Sound.{Sound}
 use Rattle.table.specs.Plan.{planStep, planOf}
-use Rattle.table.specs.Orders.{Exit, clearAll, freedSum, SameExits, SameEnd}
+use Rattle.table.specs.Answer.{refusalOf}
+use Rattle.table.specs.Clear.{clearRefusal}
+use Rattle.table.specs.Orders.{Exit, clearAll, freedSum, SameExits, SameEnd, clearSecond, SecondDemand}
 use Rattle.table.proofs.Sound.{test-sound}
 use Rattle.cases.specs.Cases.{tableLeft, walk, everyRun, tableF4}
 use Rattle.cases.proofs.Computes.{computes}
-use Rattle.samples.specs.Samples.{imageF4, newImageF4, p10, sorted, editions, imageTwin, conversions, oldBook, newBook, books, firstStrong, secondStrong, Twins, freedSlip, turnedSlip, regrets, crossing, crossed, imageCrossed, firstOrder, secondOrder, oneOrder, otherOrder, CrossedEnd, chaining, chained, holderFirst, holderLast, samples}
+use Rattle.samples.specs.Samples.{imageF4, newImageF4, p10, sorted, editions, imageTwin, conversions, oldBook, newBook, books, firstStrong, secondStrong, Twins, freedSlip, turnedSlip, regrets, crossing, crossed, imageCrossed, firstOrder, secondOrder, oneOrder, otherOrder, CrossedEnd, chaining, chained, holderFirst, holderLast, HolderFreed, samples}
 
 runs : Bool
 unfolding computes freedSlip turnedSlip regrets conversions oldBook newBook books newImageF4 editions sorted imageTwin firstStrong secondStrong imageF4 p10 tableLeft crossing crossed imageCrossed firstOrder secondOrder chaining chained holderFirst holderLast
@@ -100,6 +102,14 @@ pub twins : Twins (tableLeft tableF4 firstStrong) (tableLeft tableF4 secondStron
 unfolding runs planStep planOf
 twins = record { plan = refl; images = λ e. let x : _≡_ {A = ℕ} 2 1 = ap (λ (bs : List ℕ). getD bs 52 0) e in omega arith }
 
+pub first-strong-sound : Sound (tableLeft tableF4 firstStrong)
+unfolding runs
+first-strong-sound = test-sound (tableLeft tableF4 firstStrong) refl
+
+pub second-strong-sound : Sound (tableLeft tableF4 secondStrong)
+unfolding runs
+second-strong-sound = test-sound (tableLeft tableF4 secondStrong) refl
+
 -- W14: the tables that are cleared are sound, and what is said of them
 pub crossed-sound : Sound crossed
 unfolding runs
@@ -147,3 +157,17 @@ other-end end =
 pub freed-first : freedSum chained ((0, 0) ∷ (1, 0) ∷ []) ≡ 2
 unfolding runs freedSum
 freed-first = refl
+
+pub chained-clears : (clearRefusal chained 0 0 ≡ 0) × (clearRefusal chained 1 0 ≡ 0)
+unfolding runs
+chained-clears = (refl, refl)
+
+-- in the one order the second is not accepted, so it gets 3, and is accepted in the other
+pub holder-freed : SecondDemand chained (0, 0) (1, 0) → HolderFreed
+holder-freed d = (⊎-elim (λ z. absurd (refused z)) (λ q. q) (d .only), ⊎-elim (λ z. absurd (refused z)) (λ q. q) (d .once))
+  where
+    gets-3 : refusalOf (clearSecond chained (0, 0) (1, 0) .answer) ≡ 3
+    gets-3 = unfold runs in refl
+
+    refused : refusalOf (clearSecond chained (0, 0) (1, 0) .answer) ≡ 0 → ⊥
+    refused z = let x : _≡_ {A = ℕ} 3 0 = sym gets-3 ∙ z in omega arith

@@ -11,9 +11,10 @@ use Prim.Native.Nat.{ℕ, _+_}
 use lib.ListN.{set, take, replicate}
 use Rattle.table.specs.Table.{Table, inUse, kindOf, contentOf, cabinOf, targetOf}
 use Rattle.table.specs.declared.Ending.the-variants.{Spent}
+use Rattle.table.specs.Answer.{refusalOf}
 use Rattle.table.specs.Trial.{ended, trialCall}
 use Rattle.table.specs.Plan.{planOf}
-use Rattle.table.specs.Orders.{Exit}
+use Rattle.table.specs.Orders.{Exit, clearSecond}
 use Rattle.image.specs.Image.{edition1, edition2, writtenEdition, image}
 use Rattle.history.specs.History.{load, add, link, clear, write, clearSlip, takeBack}
 use Rattle.history.specs.Acts.{begin, call, convert}
@@ -297,6 +298,10 @@ holderLast =
     accepts (call (clear 1 0)) (answer is (1 ∷ 1 ∷ []) ∷ steps is (0 ∷ 1 ∷ []) ∷ []) ∷
     accepts (call (clear 0 0)) (answer is (1 ∷ 1 ∷ []) ∷ steps is (0 ∷ []) ∷ sizes is (4 ∷ 2 ∷ []) ∷ []) ∷
     []
+
+-- the same of the second clearings alone
+abbrev pub HolderFreed : Type 0
+HolderFreed = (refusalOf (clearSecond chained (0, 0) (1, 0) .answer) ≡ 3) × (refusalOf (clearSecond chained (1, 0) (0, 0) .answer) ≡ 0)
 
 unfoldable pub samples : List Run
 samples =
