@@ -19,24 +19,30 @@
  * want of a step (8, 14, 15), whatever the others add or keep. A list of guarantees and limits is good if no guarantee is above its limit and all
  * guarantees together are at most the capacity less 1. Where one cabin has the plan to itself, it is cabin 0, with the list of plan_sole_quotas.
  *
- * Memory. A table has 3,876 bytes. The caller owns it and lends it to a call by its address; a call that changes it does so in place. Other buffers
- * are lent by an address and a length, and a list of guarantees and limits by the address of its eight pairs. A call reads and writes what it is lent
- * only while it runs, and only within its length; the library allocates nothing and holds no pointer after it returns. No pointer is null: to lend a
- * buffer of length 0, give any valid address. Things lent to one call do not overlap, and nobody else writes them during the call.
+ * One line. Apart from any plan, the alarms of sixteen cabins, 0 to 15, wait for one line. A dispatcher has a word for each cabin, not 0 while the
+ * cabin waits, and the cabin last served. A cabin that waits and does not withdraw is served within 16 accepted calls of plan_line_next, whatever
+ * other calls come in between, refused ones too. That holds while each call is on the dispatcher as the one before left it, and none makes it fresh.
  *
- * Threads. The library keeps no state between calls: any number of threads may call it at once, with each table in one call at a time. Calls that
- * take a const table only read it, and may share one that nobody changes.
+ * Memory. A table has 3,876 bytes, a dispatcher 34. The caller owns them and lends each to a call by its address; a call that changes one does so in
+ * place. Other buffers are lent by an address and a length, and a list of guarantees and limits by the address of its eight pairs. A call reads and
+ * writes what it is lent only while it runs, and only within its length; the library allocates nothing and holds no pointer after it returns. No
+ * pointer is null: to lend a buffer of length 0, give any valid address. Things lent to one call do not overlap, and nobody else writes them during
+ * the call.
  *
- * Any bytes may stand in a table: every field is a number. A call on a table that is not sound answers refusal 1; plan_is_sound says so by 0, and
- * plan_fresh and plan_load_image do not look at what stood there. All calls end.
+ * Threads. The library keeps no state between calls: any number of threads may call it at once, with each table and each dispatcher in one call at a
+ * time. Calls that take a const table only read it, and may share one that nobody changes.
+ *
+ * Any bytes may stand in a table or a dispatcher: every field is a number. A call on a table that is not sound, or on a dispatcher whose last served is
+ * above 15, answers refusal 1; plan_is_sound says so by 0, and plan_fresh, plan_load_image and plan_line_fresh do not look at what stood there. All
+ * calls end.
  *
  * Refusals. `refusal` is PLAN_DONE, or the number of the first condition of the call's order that holds. All other numbers of the reply are then 0,
- * every byte of the table is as it was, and no lent byte was written. Only plan_fresh and plan_load_image differ: refused, they leave a fresh table of
- * capacity 1, whose guarantees and limits are all 0.
+ * every byte of the table or the dispatcher is as it was, and no lent byte was written. Only plan_fresh and plan_load_image differ: refused, they leave
+ * a fresh table of capacity 1, whose guarantees and limits are all 0.
  *
  * Stack. A call and the table lent to it together take at most PLAN_STACK_MAX bytes of stack; a table that stands elsewhere takes none of them.
- * Measured, without the caller's table of 3,876 bytes. A conversion is lent none and keeps one of its own on the stack; a clearing with a slip and a
- * take-back keep one beside the lent one:
+ * Measured, without the caller's table of 3,876 bytes or dispatcher of 34. A conversion is lent no table and keeps one of its own on the stack; a
+ * clearing with a slip and a take-back keep one beside the lent one:
  *
  *     plan_edition, plan_sole_quotas, plan_fresh                                   88 bytes
  *     plan_is_sound, plan_counts, plan_image_length, plan_read                  7,280
@@ -50,6 +56,7 @@
  *     plan_load_image                                                           7,344
  *     plan_convert_up, plan_convert_down                                       11,312
  *     plan_key_line                                                             7,440
+ *     plan_line_fresh, plan_line_raise, plan_line_withdraw, plan_line_next         56
  *
  * `cargo test --release --test stack -- --nocapture` in compare/ prints them.
  *
@@ -65,11 +72,12 @@
 extern "C" {
 #endif
 
-#define PLAN_VERSION "0.10.0" /* of this software; CHANGELOG.md says what changed, and PLAN_EDITION what a host has to follow */
+#define PLAN_VERSION "0.11.0" /* of this software; CHANGELOG.md says what changed, and PLAN_EDITION what a host has to follow */
 #define PLAN_EDITION 4        /* of this interface; in edition 1 tables went by value, in 2 a trial had no limit, in 3 there were no cabins */
 #define PLAN_PLACES 128       /* the largest capacity */
 #define PLAN_EXITS 4          /* exits of a step */
 #define PLAN_CABINS 8         /* cabins that share a plan */
+#define PLAN_LINE_CABINS 16   /* cabins that wait for one line */
 #define PLAN_IMAGE_MAX 2858   /* bytes of the largest image that is written; the largest of edition 1 has 2,570 */
 #define PLAN_SLIP_MAX 5638    /* bytes of the largest slip of a clearing */
 #define PLAN_PREVIEW_ROOM 127 /* bytes that the buffer of a preview must have: as many as there are steps that can go */
@@ -92,25 +100,27 @@ enum plan_exit {
 };
 
 enum plan_refusal {
-    PLAN_DONE = 0,              /* not refused */
-    PLAN_NOT_SOUND = 1,         /* table not sound */
-    PLAN_BAD_CAPACITY = 2,      /* capacity not 1 to 128 */
-    PLAN_NOT_IN_USE = 3,        /* step not in use */
-    PLAN_BAD_EXIT = 4,          /* exit above 3 */
-    PLAN_EXIT_FILLED = 5,       /* exit to be filled holds a link */
-    PLAN_EXIT_EMPTY = 6,        /* exit to copy or clear is empty */
-    PLAN_BAD_KIND = 7,          /* kind not 1 to 3, or content out of range */
-    PLAN_FULL = 8,              /* steps in use equal the capacity */
-    PLAN_NOT_KEY_LINE = 9,      /* not a key line */
-    PLAN_BAD_RESULT = 10,       /* some line result above 3 */
-    PLAN_TOO_SHORT = 11,        /* lent buffer shorter than needed */
-    PLAN_NOT_ACCEPTED = 12,     /* image not accepted; of a conversion also: image of the other edition */
-    PLAN_DOES_NOT_FIT = 13,     /* capacity below the steps in use, or the charges do not fit the new list */
-    PLAN_CABIN_AT_LIMIT = 14,   /* cabin at its limit */
-    PLAN_STEPS_RESERVED = 15,   /* only steps reserved for other cabins are free */
-    PLAN_BAD_CABINS = 16,       /* cabin above 7, or bad list of guarantees and limits */
-    PLAN_NEEDS_EDITION_2 = 17,  /* image needs edition 2: a cabin, guarantee, limit or contact that edition 1 cannot say */
-    PLAN_SLIP_NOT_ACCEPTED = 18 /* slip not accepted */
+    PLAN_DONE = 0,               /* not refused */
+    PLAN_NOT_SOUND = 1,          /* table not sound, or the dispatcher's last served is above 15 */
+    PLAN_BAD_CAPACITY = 2,       /* capacity not 1 to 128 */
+    PLAN_NOT_IN_USE = 3,         /* step not in use */
+    PLAN_BAD_EXIT = 4,           /* exit above 3 */
+    PLAN_EXIT_FILLED = 5,        /* exit to be filled holds a link */
+    PLAN_EXIT_EMPTY = 6,         /* exit to copy or clear is empty */
+    PLAN_BAD_KIND = 7,           /* kind not 1 to 3, or content out of range */
+    PLAN_FULL = 8,               /* steps in use equal the capacity */
+    PLAN_NOT_KEY_LINE = 9,       /* not a key line */
+    PLAN_BAD_RESULT = 10,        /* some line result above 3 */
+    PLAN_TOO_SHORT = 11,         /* lent buffer shorter than needed */
+    PLAN_NOT_ACCEPTED = 12,      /* image not accepted; of a conversion also: image of the other edition */
+    PLAN_DOES_NOT_FIT = 13,      /* capacity below the steps in use, or the charges do not fit the new list */
+    PLAN_CABIN_AT_LIMIT = 14,    /* cabin at its limit */
+    PLAN_STEPS_RESERVED = 15,    /* only steps reserved for other cabins are free */
+    PLAN_BAD_CABINS = 16,        /* cabin above 7, or bad list of guarantees and limits */
+    PLAN_NEEDS_EDITION_2 = 17,   /* image needs edition 2: a cabin, guarantee, limit or contact that edition 1 cannot say */
+    PLAN_SLIP_NOT_ACCEPTED = 18, /* slip not accepted */
+    PLAN_NO_SUCH_CABIN = 20,     /* cabin above 15, of those that wait for the line. No call gives 19 */
+    PLAN_NOBODY_WAITS = 21       /* nobody waits for the line */
 };
 
 enum plan_ending {
@@ -139,6 +149,12 @@ typedef struct {
     uint16_t cabins[128];     /* the cabin that added each step; 0 for step 0 and for a free step */
     plan_quota quotas[8];     /* by cabin */
 } plan_table;
+
+/* A dispatcher: which cabins wait for the line, and which was served last. */
+typedef struct {
+    uint16_t waiting[16];     /* by cabin: 0 if it does not wait, any other number if it does */
+    uint16_t last;            /* the cabin last served; 0 to 15, else refusal 1 */
+} plan_line;
 
 /* A refusal, and two numbers that each call gives a meaning. */
 typedef struct {
@@ -193,6 +209,8 @@ PLAN_LAYOUT(offsetof(plan_table, cabins) == 3588, cabins);
 PLAN_LAYOUT(offsetof(plan_table, quotas) == 3844, quotas);
 PLAN_LAYOUT(sizeof(plan_quota) == 4, size_of_a_quota);
 PLAN_LAYOUT(offsetof(plan_quota, limit) == 2, limit_in_a_quota);
+PLAN_LAYOUT(sizeof(plan_line) == 34, size_of_a_line);
+PLAN_LAYOUT(offsetof(plan_line, last) == 32, last_in_a_line);
 PLAN_LAYOUT(sizeof(plan_reply) == 6, size_of_a_reply);
 PLAN_LAYOUT(sizeof(plan_read_reply) == 30, size_of_a_read_reply);
 PLAN_LAYOUT(offsetof(plan_read_reply, counts) == 24, counts_in_a_read_reply);
@@ -306,11 +324,28 @@ plan_write_reply plan_convert_down(const uint8_t *bytes, size_t length, uint8_t 
  * with no space between; "H*100001007A" adds contact 7 at exit 0 of step 0. Other numbers are 0. Refusals: 1, 9, then those of its call. */
 plan_reply plan_key_line(plan_table *t, const uint8_t *line, size_t length);
 
+/* Makes a dispatcher at which nobody waits, with cabin 15 as last served, whatever stood there. So cabin 0 is the first in turn.
+ * first and second: 0. No refusal. */
+plan_reply plan_line_fresh(plan_line *line);
+
+/* Raises the alarm of a cabin, 0 to 15, which then waits for the line: its word becomes 1. If it waits already, nothing changes, whatever its word.
+ * first and second: 0. Refusals, in order: 1, 20. */
+plan_reply plan_line_raise(plan_line *line, uint16_t cabin);
+
+/* Withdraws the alarm of a cabin, 0 to 15: its word becomes 0. If it does not wait, nothing changes.
+ * first and second: 0. Refusals, in order: 1, 20. */
+plan_reply plan_line_withdraw(plan_line *line, uint16_t cabin);
+
+/* Serves the first waiting cabin after the one last served. After 15 comes 0, and the one last served comes last. The cabin served no longer waits, its
+ * word becomes 0, and it is now the one last served.
+ * first: the cabin; second: 0. Refusals, in order: 1, 21; a refused call has 0 in first, which is a cabin too, so look at refusal first. */
+plan_reply plan_line_next(plan_line *line);
+
 /* The words of a refusal. */
 static inline const char *plan_refusal_words(uint16_t refusal) {
     switch (refusal) {
     case PLAN_DONE: return "done";
-    case PLAN_NOT_SOUND: return "table not sound";
+    case PLAN_NOT_SOUND: return "table not sound, or the dispatcher's last served is above 15";
     case PLAN_BAD_CAPACITY: return "capacity not 1 to 128";
     case PLAN_NOT_IN_USE: return "step not in use";
     case PLAN_BAD_EXIT: return "exit above 3";
@@ -328,6 +363,8 @@ static inline const char *plan_refusal_words(uint16_t refusal) {
     case PLAN_BAD_CABINS: return "cabin above 7, or bad list of guarantees and limits";
     case PLAN_NEEDS_EDITION_2: return "image needs edition 2: a cabin, guarantee, limit or contact that edition 1 cannot say";
     case PLAN_SLIP_NOT_ACCEPTED: return "slip not accepted";
+    case PLAN_NO_SUCH_CABIN: return "cabin above 15";
+    case PLAN_NOBODY_WAITS: return "nobody waits for the line";
     default: return "unknown refusal";
     }
 }

@@ -1,8 +1,8 @@
 /* Links libtelephone.a and tries each call from C, or from C++: edition, names and words, the worked examples P1 to P10, every refusal of every call,
  * cabins with their guarantees and limits, images of both editions and their conversions, contacts of both editions, squeezes, trials, clearings
- * taken back, told beforehand and made in either order, the case of `keys`, fields that all differ, lengths past 16 bits, damaged images and slips, and
- * bytes that are no sound table. A table is lent with bytes around it, which have to stay; a refused call has to leave every byte. Prints a line for
- * each case that fails, and 'N passed, M failed' last. */
+ * taken back, told beforehand and made in either order, the case of `keys`, sixteen cabins on one line, fields that all differ, lengths past 16 bits,
+ * damaged images and slips, and bytes that are no sound table. A table or a dispatcher is lent with bytes around it, which have to stay; a refused call
+ * has to leave every byte. Prints a line for each case that fails, and 'N passed, M failed' last. */
 #include "telephone.h"
 #include <stdio.h>
 #include <string.h>
@@ -70,30 +70,32 @@ static lent p1(void) {
 }
 
 static void names(void) {
-    enum { KNOWN = 19 };
+    enum { KNOWN = 22, NOT_GIVEN = 19 };
     static const char *const words[KNOWN] = {
-        "done", "table not sound", "capacity not 1 to 128", "step not in use", "exit above 3", "exit to be filled holds a link",
-        "exit to copy or clear is empty", "kind not 1 to 3, or content out of range", "steps in use equal the capacity", "not a key line",
-        "some line result above 3", "lent buffer shorter than needed", "image not accepted",
+        "done", "table not sound, or the dispatcher's last served is above 15", "capacity not 1 to 128", "step not in use", "exit above 3",
+        "exit to be filled holds a link", "exit to copy or clear is empty", "kind not 1 to 3, or content out of range",
+        "steps in use equal the capacity", "not a key line", "some line result above 3", "lent buffer shorter than needed", "image not accepted",
         "capacity below the steps in use, or the charges do not fit the new list", "cabin at its limit",
         "only steps reserved for other cabins are free", "cabin above 7, or bad list of guarantees and limits",
-        "image needs edition 2: a cabin, guarantee, limit or contact that edition 1 cannot say", "slip not accepted"};
+        "image needs edition 2: a cabin, guarantee, limit or contact that edition 1 cannot say", "slip not accepted", "unknown refusal",
+        "cabin above 15", "nobody waits for the line"};
     static const int refusals[KNOWN] = {
         PLAN_DONE, PLAN_NOT_SOUND, PLAN_BAD_CAPACITY, PLAN_NOT_IN_USE, PLAN_BAD_EXIT, PLAN_EXIT_FILLED, PLAN_EXIT_EMPTY, PLAN_BAD_KIND, PLAN_FULL,
         PLAN_NOT_KEY_LINE, PLAN_BAD_RESULT, PLAN_TOO_SHORT, PLAN_NOT_ACCEPTED, PLAN_DOES_NOT_FIT, PLAN_CABIN_AT_LIMIT, PLAN_STEPS_RESERVED,
-        PLAN_BAD_CABINS, PLAN_NEEDS_EDITION_2, PLAN_SLIP_NOT_ACCEPTED};
+        PLAN_BAD_CABINS, PLAN_NEEDS_EDITION_2, PLAN_SLIP_NOT_ACCEPTED, NOT_GIVEN, PLAN_NO_SUCH_CABIN, PLAN_NOBODY_WAITS};
     int all = 1;
     expect(plan_edition() == PLAN_EDITION && PLAN_EDITION == 4, "edition");
     expect(sizeof(plan_table) == 3876, "size of a table");
+    expect(sizeof(plan_line) == 34 && offsetof(plan_line, waiting) == 0 && offsetof(plan_line, last) == 32, "size of a dispatcher");
     for (int i = 0; i < KNOWN; i++) all = all && refusals[i] == i && strcmp(plan_refusal_words((uint16_t)i), words[i]) == 0;
-    expect(all, "refusals 0 to 18 and their words");
+    expect(all, "refusals 0 to 18, 20 and 21, and their words");
     all = 1;
     for (long i = KNOWN; i < 65536; i++) all = all && strcmp(plan_refusal_words((uint16_t)i), "unknown refusal") == 0;
     expect(all, "words of all other numbers");
     expect(PLAN_ALARM == 0 && PLAN_CONTACT == 1 && PLAN_MESSAGE == 2 && PLAN_WAIT == 3, "kinds");
     expect(PLAN_ANSWERED == 0 && PLAN_ENGAGED == 1 && PLAN_NO_REPLY == 2 && PLAN_LINE_FAULT == 3, "exits");
     expect(PLAN_OPEN == 0 && PLAN_SPENT == 1 && PLAN_STOPPED == 2, "endings");
-    expect(PLAN_PLACES == 128 && PLAN_EXITS == 4 && PLAN_CABINS == 8, "numbers of places, exits and cabins");
+    expect(PLAN_PLACES == 128 && PLAN_EXITS == 4 && PLAN_CABINS == 8 && PLAN_LINE_CABINS == 16, "numbers of places, exits and cabins");
     expect(PLAN_IMAGE_MAX == 42 + 22 * PLAN_PLACES && PLAN_SLIP_MAX == 6 + 44 * PLAN_PLACES && PLAN_PREVIEW_ROOM == PLAN_PLACES - 1, "sizes");
 }
 
@@ -1660,6 +1662,201 @@ static void keys(void) {
     expect(gave(plan_counts(&m.table), 0, 1, 127), "counts without a key line");
 }
 
+/* A dispatcher with bytes on both sides that no call may change. */
+typedef struct {
+    uint8_t before[EDGE];
+    plan_line line;
+    uint8_t after[EDGE];
+} lent_line;
+
+/* A dispatcher at which the cabins of these bits wait, each with this word, and this cabin was served last. */
+static lent_line waiting(unsigned bits, uint16_t word, uint16_t last) {
+    lent_line m;
+    memset(&m, UNTOUCHED, sizeof m);
+    for (int i = 0; i < PLAN_LINE_CABINS; i++) m.line.waiting[i] = (bits >> i) % 2 ? word : 0;
+    m.line.last = last;
+    return m;
+}
+
+/* The calls on a dispatcher that can be refused. */
+enum line_call { RAISE, WITHDRAW, NEXT };
+
+static plan_reply on_line(enum line_call call, plan_line *line, uint16_t cabin) {
+    return call == RAISE ? plan_line_raise(line, cabin) : call == WITHDRAW ? plan_line_withdraw(line, cabin) : plan_line_next(line);
+}
+
+/* Whether a call answers so and leaves the dispatcher with the words of the second one, and no byte around it changed. */
+static int line_gave(lent_line *m, enum line_call call, uint16_t cabin, int refusal, int first, const lent_line *expected) {
+    return gave(on_line(call, &m->line, cabin), refusal, first, 0) && memcmp(m, expected, sizeof *m) == 0;
+}
+
+/* Whether a call is refused so and leaves every byte. */
+static int line_refused(lent_line *m, enum line_call call, uint16_t cabin, int refusal) {
+    const lent_line was = *m;
+    return line_gave(m, call, cabin, refusal, 0, &was);
+}
+
+/* Who waits, a bit for each cabin: nobody, one, every second cabin, or all; and words of one that waits. */
+static const unsigned crowds[6] = {0, 1, 0x8000, 0x5555, 0xAAAA, 0xFFFF};
+static const uint16_t alarm_words[4] = {1, 2, 256, 65535};
+
+/* A fresh dispatcher over any bytes, the words of a dispatcher in their places in memory, and a few calls in a row (W11). */
+static void lines(void) {
+    static const uint16_t calls[12][3] = {{RAISE, 3, 0}, {RAISE, 12, 0}, {NEXT, 0, 3}, {RAISE, 1, 0}, {RAISE, 3, 0}, {NEXT, 0, 12}, {NEXT, 0, 1},
+        {WITHDRAW, 3, 0}, {RAISE, 0, 0}, {NEXT, 0, 0}, {RAISE, 15, 0}, {NEXT, 0, 15}};
+    const lent_line fresh_line = waiting(0, 0, 15);
+    uint16_t words[17];
+    lent_line m, n;
+    int all = 1;
+    for (int value = 0; value < 256; value++) {
+        m = fresh_line;
+        memset(&m.line, value, sizeof m.line);
+        /* only with 0 in every byte the last served is a cabin */
+        for (int i = 0; value && i < 3; i++) all = all && line_refused(&m, (enum line_call)i, 3, PLAN_NOT_SOUND);
+        all = all && gave(plan_line_fresh(&m.line), 0, 0, 0) && memcmp(&m, &fresh_line, sizeof m) == 0;
+    }
+    expect(all, "a fresh dispatcher, whatever stood there");
+    for (uint16_t i = 0; i < 17; i++) words[i] = (uint16_t)(i == 16 ? 7 : 100 + i);
+    memcpy(&m.line, words, sizeof words);
+    expect(gave(plan_line_next(&m.line), 0, 8, 0) && gave(plan_line_withdraw(&m.line, 2), 0, 0, 0), "cabin 8 after 7, and 2 withdraws");
+    words[8] = words[2] = 0, words[16] = 8;
+    expect(memcmp(&m.line, words, sizeof words) == 0, "the words in memory");
+    m = fresh_line;
+    for (int i = 0; i < 12; i++) {
+        expect(gave(on_line((enum line_call)calls[i][0], &m.line, calls[i][1]), 0, calls[i][2], 0), "twelve calls in a row");
+    }
+    expect(memcmp(&m, &fresh_line, sizeof m) == 0, "after which nobody waits, and 15 was served last");
+    /* cabin 0 and a refusal both have 0 as their first number */
+    m = n = waiting(1, 1, 15);
+    n.line.waiting[0] = n.line.last = 0;
+    expect(line_gave(&m, NEXT, 0, PLAN_DONE, 0, &n) && line_refused(&m, NEXT, 0, PLAN_NOBODY_WAITS), "cabin 0, and then nobody");
+}
+
+/* Every cabin raises and withdraws its alarm, each twice: its own word becomes 1 and 0, and no other word changes. Where it waits already, or does not
+ * wait, no word does, whatever it is. */
+static void alarms(void) {
+    for (uint16_t cabin = 0; cabin < PLAN_LINE_CABINS; cabin++) {
+        int raised = 1, kept = 1, withdrawn = 1;
+        for (unsigned i = 0; i < 6 * 4 * PLAN_LINE_CABINS; i++) {
+            lent_line m = waiting(crowds[i % 6], alarm_words[i / 6 % 4], (uint16_t)(i / 24)), n = m;
+            if (m.line.waiting[cabin]) {
+                kept = kept && line_gave(&m, RAISE, cabin, 0, 0, &n);
+            } else {
+                kept = kept && line_gave(&m, WITHDRAW, cabin, 0, 0, &n);
+                n.line.waiting[cabin] = 1;
+                raised = raised && line_gave(&m, RAISE, cabin, 0, 0, &n) && line_gave(&m, RAISE, cabin, 0, 0, &n);
+            }
+            n.line.waiting[cabin] = 0;
+            withdrawn = withdrawn && line_gave(&m, WITHDRAW, cabin, 0, 0, &n) && line_gave(&m, WITHDRAW, cabin, 0, 0, &n);
+        }
+        expect(raised, "a cabin raises its alarm");
+        expect(kept, "doing what is already so changes nothing");
+        expect(withdrawn, "a cabin withdraws its alarm");
+    }
+}
+
+/* Refusals on a dispatcher, in their order: 1 before 20 and 21. Two of the numbers past 15 are those of a cabin in 8 bits. */
+static void line_refusals(void) {
+    static const uint16_t past[6] = {16, 17, 255, 256, 256 + 15, 65535};
+    for (int i = 0; i < 6; i++) {
+        int all = 1, none = 1;
+        for (int k = 0; k < 6 * 4; k++) {
+            const uint16_t word = alarm_words[k / 6];
+            lent_line out = waiting(crowds[k % 6], word, past[i]);
+            for (uint16_t cabin = 0; cabin < PLAN_LINE_CABINS; cabin++) {
+                lent_line m = waiting(crowds[k % 6], word, cabin);
+                all = all && line_refused(&out, RAISE, cabin, PLAN_NOT_SOUND) && line_refused(&out, WITHDRAW, cabin, PLAN_NOT_SOUND);
+                none = none && line_refused(&m, RAISE, past[i], PLAN_NO_SUCH_CABIN) && line_refused(&m, WITHDRAW, past[i], PLAN_NO_SUCH_CABIN);
+            }
+            for (int j = 0; j < 6; j++) {
+                all = all && line_refused(&out, RAISE, past[j], PLAN_NOT_SOUND) && line_refused(&out, WITHDRAW, past[j], PLAN_NOT_SOUND);
+            }
+            all = all && line_refused(&out, NEXT, 0, PLAN_NOT_SOUND);
+        }
+        expect(all, "a last served above 15, whatever the cabin and whoever waits");
+        expect(none, "a cabin above 15");
+    }
+    for (uint16_t last = 0; last < PLAN_LINE_CABINS; last++) {
+        lent_line m = waiting(0, 0, last);
+        expect(line_refused(&m, NEXT, 0, PLAN_NOBODY_WAITS), "next, and nobody waits");
+    }
+}
+
+/* Next, whoever was served last and whoever waits: the first after that one, going round, and that one itself last. */
+static void turns(void) {
+    for (uint16_t last = 0; last < PLAN_LINE_CABINS; last++) {
+        int all = 1;
+        for (unsigned bits = 1; bits < 65536; bits++) {
+            lent_line m = waiting(bits, alarm_words[bits % 4], last), n = m;
+            uint16_t cabin = (uint16_t)((last + 1) % PLAN_LINE_CABINS);
+            while ((bits >> cabin) % 2 == 0) cabin = (uint16_t)((cabin + 1) % PLAN_LINE_CABINS);
+            n.line.waiting[cabin] = 0, n.line.last = cabin;
+            all = all && line_gave(&m, NEXT, 0, 0, cabin, &n);
+        }
+        expect(all, "the first waiting cabin after the one last served");
+    }
+}
+
+/* A waiting cabin that does not withdraw is served within 16 accepted calls: where all wait and each one served raises its alarm again, the cabin that
+ * is k places ahead is the k-th, and the one last served the sixteenth. Refused calls in between change nothing. */
+static void within_sixteen(void) {
+    for (uint16_t cabin = 0; cabin < PLAN_LINE_CABINS; cabin++) {
+        int all = 1;
+        for (uint16_t last = 0; last < PLAN_LINE_CABINS; last++) {
+            lent_line m = waiting(0xFFFF, 1, last);
+            const int ahead = (cabin + PLAN_LINE_CABINS - last - 1) % PLAN_LINE_CABINS + 1;
+            for (int k = 1; k <= ahead; k++) {
+                const plan_reply r = plan_line_next(&m.line);
+                all = all && r.refusal == 0 && (r.first == cabin) == (k == ahead) && r.first == (last + k) % PLAN_LINE_CABINS;
+                all = all && line_refused(&m, RAISE, PLAN_LINE_CABINS, PLAN_NO_SUCH_CABIN) && gave(plan_line_raise(&m.line, r.first), 0, 0, 0);
+            }
+            all = all && ahead <= 16 && (ahead == 16) == (cabin == last);
+        }
+        expect(all, "a waiting cabin is served within 16 calls");
+    }
+}
+
+/* A long history of calls by all cabins, refused ones too, against words kept here: spells of many alarms, of some, and of few. While a cabin waits, at
+ * most 15 others are served, and at times 15 are. Now and then the dispatcher is made fresh. */
+static void line_history(void) {
+    static const unsigned nexts[3] = {1, 4, 6}, raises[3] = {8, 7, 7};
+    lent_line m = waiting(0, 0, 15), n = m;
+    uint16_t others[PLAN_LINE_CABINS] = {0};
+    uint32_t random = 1;
+    int all = 1, most = 0, met[22] = {0};
+    for (long i = 0; i < 200000; i++) {
+        random = random * 1664525u + 1013904223u;
+        const uint16_t cabin = (uint16_t)((random >> 16) % 18);
+        const unsigned spell = (unsigned)(i / 500 % 3), choice = random >> 29;
+        const enum line_call call = choice < nexts[spell] ? NEXT : choice < raises[spell] ? RAISE : WITHDRAW;
+        int refusal = 0, first = 0;
+        if (i % 5000 == 4999) {
+            all = all && gave(plan_line_fresh(&m.line), 0, 0, 0);
+            n = waiting(0, 0, 15);
+            memset(others, 0, sizeof others);
+            continue;
+        }
+        if (call != NEXT) {
+            refusal = cabin > 15 ? PLAN_NO_SUCH_CABIN : 0;
+            if (!refusal && (call == WITHDRAW || !n.line.waiting[cabin])) n.line.waiting[cabin] = call == RAISE, others[cabin] = 0;
+        } else {
+            int k = 1;
+            while (k <= 16 && !n.line.waiting[(n.line.last + k) % 16]) k++;
+            refusal = k > 16 ? PLAN_NOBODY_WAITS : 0;
+            if (!refusal) {
+                first = n.line.last = (uint16_t)((n.line.last + k) % 16);
+                n.line.waiting[first] = 0;
+                for (int c = 0; c < 16; c++) others[c] = (uint16_t)(n.line.waiting[c] ? others[c] + 1 : 0);
+            }
+        }
+        all = all && line_gave(&m, call, cabin, refusal, first, &n);
+        for (int c = 0; c < 16; c++) most = others[c] > most ? others[c] : most;
+        met[refusal]++;
+    }
+    expect(all, "a history on one line");
+    expect(most == 15 && met[0] > 1000 && met[PLAN_NO_SUCH_CABIN] > 1000 && met[PLAN_NOBODY_WAITS] > 100, "which has all of this");
+}
+
 /* Any bytes in a table's memory: each value in every byte. */
 static void wild(void) {
     static const uint16_t a[4] = {0, 0, 1, 0};
@@ -1707,6 +1904,12 @@ int main(void) {
     previews_refused();
     either_order();
     keys();
+    lines();
+    alarms();
+    line_refusals();
+    turns();
+    within_sixteen();
+    line_history();
     wild();
     printf("%d passed, %d failed\n", passed, failed);
     return failed != 0;

@@ -78,7 +78,7 @@ pub fn words(table: &mut Table) -> impl Iterator<Item = &mut u16> {
 /// Bytes on each side of what is lent.
 const EDGE: usize = 64;
 
-/// A table or a list in memory, with bytes on both sides that no call may change.
+/// A table, a list or a dispatcher in memory, with bytes on both sides that no call may change.
 #[repr(C)]
 pub struct Lent<T> {
     before: [u8; EDGE],

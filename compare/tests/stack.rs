@@ -1,5 +1,5 @@
-//! Every call keeps to 16 kB of stack, the caller's table counted where it has one. Each is measured by itself, on tables and images where it has the
-//! most to do.
+//! Every call keeps to 16 kB of stack, the caller's table or dispatcher counted where it has one. Each is measured by itself, on tables and images
+//! where it has the most to do.
 
 use compare::stack::depth;
 use compare::{lend, lend_list, ring, rounds};
@@ -70,20 +70,20 @@ fn cleared(before: &Table, exit: u16) -> (Table, Vec<u8>) {
     (after, slip)
 }
 
-/// A call by name, and the bytes that it takes: of the caller's table, and of stack.
+/// A call by name, and the bytes that it takes: of the caller's table or dispatcher, and of stack.
 #[derive(Debug)]
 struct Taken {
     name: &'static str,
-    table: usize,
+    lent: usize,
     stack: usize,
 }
 
 /// Measures a call. It gives a number, which is checked.
-fn measured(name: &'static str, number: u16, table: usize, mut call: impl FnMut() -> u16) -> Taken {
+fn measured(name: &'static str, number: u16, lent: usize, mut call: impl FnMut() -> u16) -> Taken {
     let mut given = None;
     let stack = depth(|| given = Some(call()));
     assert_eq!(given, Some(number), "{name}");
-    Taken { name, table, stack }
+    Taken { name, lent, stack }
 }
 
 /// A call on a table, which stands outside the stack that is measured.
@@ -260,6 +260,31 @@ fn calls(exit: u16) -> Vec<Taken> {
     ]
 }
 
+/// Every call on a dispatcher: nobody waits, all do, or the last cabin looked at does.
+fn line_calls() -> Vec<Taken> {
+    let taken = |name, waiting, last, number, call: fn(&mut raw::Line) -> u16| {
+        let mut line = raw::Line { waiting, last };
+        measured(name, number, size_of::<raw::Line>(), || call(black_box(&mut line)))
+    };
+    let (nobody, all, mut alone) = ([0; 16], [1; 16], [0; 16]);
+    alone[15] = 1;
+    vec![
+        taken("line fresh", all, 16, 0, |l| raw::line_fresh(l).refusal),
+        taken("line raise", nobody, 15, 0, |l| raw::line_raise(l, 15).refusal),
+        taken("line raise, waits already", all, 15, 0, |l| raw::line_raise(l, 15).refusal),
+        taken("line raise, no such cabin", all, 15, 20, |l| raw::line_raise(l, 16).refusal),
+        taken("line raise, no such last", all, 16, 1, |l| raw::line_raise(l, 15).refusal),
+        taken("line withdraw", all, 15, 0, |l| raw::line_withdraw(l, 15).refusal),
+        taken("line withdraw, not waiting", nobody, 15, 0, |l| raw::line_withdraw(l, 15).refusal),
+        taken("line withdraw, no such cabin", all, 15, 20, |l| raw::line_withdraw(l, 16).refusal),
+        taken("line withdraw, no such last", all, 16, 1, |l| raw::line_withdraw(l, 15).refusal),
+        taken("line next, the first", all, 14, 15, |l| raw::line_next(l).first),
+        taken("line next, the sixteenth", alone, 15, 15, |l| raw::line_next(l).first),
+        taken("line next, nobody waits", nobody, 15, 21, |l| raw::line_next(l).refusal),
+        taken("line next, no such last", all, 16, 1, |l| raw::line_next(l).refusal),
+    ]
+}
+
 /// Every call, with the most that it takes on chains along some exit.
 fn deepest() -> Vec<Taken> {
     let mut deepest = calls(0);
@@ -268,6 +293,7 @@ fn deepest() -> Vec<Taken> {
             most.stack = most.stack.max(taken.stack);
         }
     }
+    deepest.extend(line_calls());
     deepest
 }
 
@@ -275,11 +301,11 @@ fn deepest() -> Vec<Taken> {
 fn every_call_keeps_to_the_limit() {
     assert_eq!(LIMIT, telephone::STACK_MAX);
     let mut deepest = deepest();
-    println!("bytes of stack: with the caller's table, without");
-    for Taken { name, table, stack } in &deepest {
-        println!("{:6} {stack:6}  {name}", stack + table);
+    println!("bytes of stack: with the caller's table or dispatcher, without");
+    for Taken { name, lent, stack } in &deepest {
+        println!("{:6} {stack:6}  {name}", stack + lent);
     }
-    deepest.retain(|taken| taken.stack + taken.table > LIMIT);
+    deepest.retain(|taken| taken.stack + taken.lent > LIMIT);
     assert!(deepest.is_empty(), "more than {LIMIT} bytes: {deepest:?}");
 }
 
@@ -303,7 +329,7 @@ fn the_header_tells_the_stack() {
     // a call is that of the longest name that it begins with
     told.sort_by_key(|(name, _)| usize::MAX - name.len());
     let function = |taken: &Taken| told.iter().position(|(name, _)| taken.name.starts_with(name));
-    assert_eq!(told.len(), 20);
+    assert_eq!(told.len(), 24);
     assert!(deepest.iter().all(|taken| function(taken).is_some()));
     for (at, (name, bytes)) in told.iter().enumerate() {
         let its = deepest.iter().filter(|taken| function(taken) == Some(at));

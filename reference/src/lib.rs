@@ -6,6 +6,7 @@
 //! images, conversions and slips; `faults` has deliberate errors; `laws` has what every squeeze has
 //! to keep, what the limit of a trial does, what cabins are promised, what conversions leave, what
 //! slips say and bring back, what a preview foretells, and what clearings give in any order.
+//! Apart from all tables, `line` is the dispatcher of the line that sixteen cabins wait for.
 
 pub mod cabins;
 pub mod calls;
@@ -17,6 +18,7 @@ pub mod history;
 pub mod image;
 pub mod keys;
 pub mod laws;
+pub mod line;
 pub mod plan;
 pub mod preview;
 pub mod slip;

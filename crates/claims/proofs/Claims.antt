@@ -11,17 +11,20 @@
 --   slip-demand take-back-demand told-demand   a clearing with a slip, its taking back, and what the plan is told of them (W7)
 --   preview-demand preview-refusals   what a clearing would free, and the clearing made next; when a preview is refused (W8)
 --   clears-any-order two-clears second-clear   clearings of the same exits in any order, and of two (W14)
+--   line-demand-1 line-refusals line-unsound line-unknown line-nobody   calls on the dispatcher of one line, refused or not (W11)
+--   line-fresh line-raise line-withdraw line-next ..   accepted ones, what settles them, and two of one cabin
+--   line-served line-not-passed-over alarm-served   a waiting cabin is served within 16 accepted "next" calls
 --   trial-demand trial-only trial-longer   an accepted trial, and one with a larger limit (W3); trials-by-plan, trials of one plan
 --   examples-shown ..         P1 to P10, each refusal of each call, key lines byte by byte, a table for each clause of soundness
 --   keys-demand keys-blocks   the program `keys`
 --   words-table table-words   the table in memory
 --   plan-*                    each exported function meets its contract, which is the equation with its definition (crates/telephone/src/lib.rt)
 use mathlib.Core.Path.{_≡_, sym, _∙_}
-use mathlib.Core.Bool.{true}
+use mathlib.Core.Bool.{true, false}
 use mathlib.Core.Logic.{_⊎_, _↔_}
 use mathlib.Core.List.{List, [], _∷_, _++_, flatten, List·Memᴰ}
 use Prim.Native.Nat.{ℕ, _≤_, _<_}
-use lib.ListN.{length}
+use lib.ListN.{length, getD}
 use Rattle.table.specs.Table.{Table, places, counters, inUse, counterOf, linksTo, stepsInUse, StrongChain}
 use Rattle.table.specs.declared.Answer.the-variants.{Given}
 use Rattle.table.specs.Answer.{first, refusalOf}
@@ -41,6 +44,13 @@ use Rattle.image.proofs.Laws as Images
 use Rattle.history.specs.History.{First, Call, withTold, tableAfter, heardBy, planAfter, drawnBy, firstRow, firstRefusal, firstTable, firstPlan}
 use Rattle.history.specs.Acts.{Act, refusedBy}
 use Rattle.history.specs.Demands.{Demand1, Lent, Demand3, GuaranteeDemand, ChargesDemand, AddDemand, LinkDemand, ClearDemand, CountDemand, SqueezeDemand, TwiceDemand, WriteDemand, EqualDemand, SortedDemand, OldDemand, ConvertDemand, RefusalDemand, BeyondOld, SameTableDemand, ToldDemand, SlipDemand, TakeBackDemand, PreviewDemand, PreviewRefusalDemand}
+use Rattle.line.specs.Line.{Dispatcher, waits, LineCall, fresh, raise, withdraw, next, LineOutcome, leftBy, lineCall, dispatcherAfter, servedBy, dispatcherWords, dispatcherOf, lineWordsOf}
+use Rattle.line.specs.Demands.{LineDemand1, Refusing, LineFits, FreshDemand, RaiseDemand, WithdrawDemand, NextDemand, Staying, ServedDemand}
+use Rattle.line.specs.Examples.{LineShown, anyWords, goingRound, servedAgain, lineRefused, everyone, sixteenNexts, busyCalls}
+use Rattle.line.proofs.Laws as Line
+use Rattle.line.proofs.Served
+use Rattle.line.proofs.Uses
+use Rattle.line.proofs.Examples as Cabins
 use Rattle.table.specs.Trial.{TrialOutcome, trialRefusal, trialCall, TrialDemand, SameTrial, LongerDemand, underNumbers}
 use Rattle.history.proofs.Demand1 as Refusals
 use Rattle.history.proofs.Demand2
@@ -93,6 +103,14 @@ use Rattle.telephone.proofs.plan_convert_down.Statement as convert-down-contrac
 use Rattle.telephone.proofs.plan_convert_down.Met as convert-down-met
 use Rattle.telephone.proofs.plan_key_line.Statement as key-line-contract
 use Rattle.telephone.proofs.plan_key_line.Met as key-line-met
+use Rattle.telephone.proofs.plan_line_fresh.Statement as line-fresh-contract
+use Rattle.telephone.proofs.plan_line_fresh.Met as line-fresh-met
+use Rattle.telephone.proofs.plan_line_raise.Statement as line-raise-contract
+use Rattle.telephone.proofs.plan_line_raise.Met as line-raise-met
+use Rattle.telephone.proofs.plan_line_withdraw.Statement as line-withdraw-contract
+use Rattle.telephone.proofs.plan_line_withdraw.Met as line-withdraw-met
+use Rattle.telephone.proofs.plan_line_next.Statement as line-next-contract
+use Rattle.telephone.proofs.plan_line_next.Met as line-next-met
 use Rattle.telephone.proofs.plan_is_sound.Statement as is-sound-contract
 use Rattle.telephone.proofs.plan_is_sound.Met as is-sound-met
 use Rattle.telephone.proofs.plan_counts.Statement as counts-contract
@@ -268,6 +286,108 @@ two-clears t s x y d = Orders.two-clears s x y d
 pub second-clear : (t : Table) (x y : Exit) → (x ≡ y → ⊥) → clearRefusal t (x .0) (x .1) ≡ 0 → clearRefusal t (y .0) (y .1) ≡ 0 → SecondDemand t x y
 second-clear = Orders.second-clear
 
+-- W11, demand 1: for every dispatcher, call and cabin
+pub line-demand-1 : (d : Dispatcher) (k : LineCall) → LineDemand1 d k
+line-demand-1 = Line.line-demand-1
+
+-- and so the refusal by the numbers of the dispatcher and the cabin
+pub line-refusals : (d : Dispatcher) (k : LineCall) → Refusing d k (refusalOf (lineCall d k .answer))
+line-refusals d k = Line.line-refusals d k (line-demand-1 d k)
+
+-- "A dispatcher whose last served is above 15 gets 1.": whatever the call, until it is made fresh
+pub line-unsound : (d : Dispatcher) → 15 < d .last → (k : LineCall) → (k ≡ fresh → ⊥) → lineCall d k ≡ leftBy 1 d
+line-unsound = Uses.line-unsound line-refusals line-demand-1
+
+-- "20 for a cabin above 15, after 1; 21 for "next" with nobody waiting, after 1."
+pub line-unknown : (d : Dispatcher) (c : ℕ) → d .last ≤ 15 → 15 < c → (lineCall d (raise c) ≡ leftBy 20 d) × (lineCall d (withdraw c) ≡ leftBy 20 d)
+line-unknown = Uses.line-unknown line-refusals line-demand-1
+
+pub line-nobody : (d : Dispatcher) → d .last ≤ 15 → ((c : ℕ) → c ≤ 15 → waits d c ≡ false) → lineCall d next ≡ leftBy 21 d
+line-nobody = Uses.line-nobody line-refusals line-demand-1
+
+-- and while a cabin waits "next" is accepted
+pub line-waiting : (d : Dispatcher) (c : ℕ) → d .last ≤ 15 → c ≤ 15 → waits d c ≡ true → refusalOf (lineCall d next .answer) ≡ 0
+line-waiting = Uses.waiting-accepted line-refusals
+
+-- accepted calls
+pub line-fresh : (d : Dispatcher) → FreshDemand (lineCall d fresh)
+line-fresh d = Line.fresh-demand d (line-refusals d fresh)
+
+pub line-raise : (d : Dispatcher) (c : ℕ) → length (d .waiting) ≡ 16 → refusalOf (lineCall d (raise c) .answer) ≡ 0 → RaiseDemand d c (lineCall d (raise c))
+line-raise = Line.raise-demand
+
+pub line-withdraw : (d : Dispatcher) (c : ℕ) → refusalOf (lineCall d (withdraw c) .answer) ≡ 0 → WithdrawDemand d c (lineCall d (withdraw c))
+line-withdraw = Line.withdraw-demand
+
+pub line-next : (d : Dispatcher) → refusalOf (lineCall d next .answer) ≡ 0 → NextDemand d (lineCall d next)
+line-next = Line.next-demand
+
+-- a dispatcher that gets no 1 never will, whatever the calls
+pub line-fits : (d : Dispatcher) (ks : List LineCall) → LineFits d → LineFits (dispatcherAfter d ks)
+line-fits = Line.lines-fit
+
+-- what is asked of a fresh dispatcher, and of "next", settles the answer and every word
+pub line-fresh-only : (d : Dispatcher) (o : LineOutcome) → FreshDemand o → lineCall d fresh ≡ o
+line-fresh-only = Uses.fresh-only line-fresh
+
+pub line-next-only : (d : Dispatcher) → LineFits d → (o : LineOutcome) → LineFits (o .dispatcher) → NextDemand d o → lineCall d next ≡ o
+line-next-only = Uses.next-only line-refusals line-next line-fits
+
+-- "doing what is already so changes nothing": a cabin raises twice, and withdraws twice
+pub raised-twice : (d : Dispatcher) (c : ℕ) → LineFits d → c ≤ 15 →
+    let e = lineCall d (raise c) .dispatcher in lineCall e (raise c) ≡ record { answer = Given 0 0; dispatcher = e }
+raised-twice d c f g = Uses.raised-twice line-refusals line-fits c g line-raise d f
+
+pub withdrawn-twice : (d : Dispatcher) (c : ℕ) → LineFits d → c ≤ 15 →
+    let e = lineCall d (withdraw c) .dispatcher in lineCall e (withdraw c) ≡ record { answer = Given 0 0; dispatcher = e }
+withdrawn-twice d c f g = Uses.withdrawn-twice line-refusals line-fits c g line-withdraw d f
+
+-- and an alarm that is raised and withdrawn leaves what stood there
+pub raised-withdrawn : (d : Dispatcher) (c : ℕ) → LineFits d → c ≤ 15 → waits d c ≡ false →
+    lineCall (lineCall d (raise c) .dispatcher) (withdraw c) .dispatcher ≡ d
+raised-withdrawn d c f g w = Uses.raised-withdrawn line-refusals line-fits c g line-raise line-withdraw d f w
+
+-- "A waiting cabin that does not withdraw is served within 16 accepted "next" calls, each call on the dispatcher as the one before left it.": for any list of
+-- calls, refused ones and those of other cabins included
+pub line-served : (d : Dispatcher) (c : ℕ) (ks : List LineCall) → c ≤ 15 → waits d c ≡ true → Staying c ks → ServedDemand d c ks
+line-served = Served.served-within
+
+-- so no list has sixteen of them and passes it over
+pub line-not-passed-over : (d : Dispatcher) (c : ℕ) (ks : List LineCall) → c ≤ 15 → waits d c ≡ true → Staying c ks →
+    16 ≤ length (servedBy d ks) → ((n : ℕ) → n < 16 → getD (servedBy d ks) n 16 ≡ c → ⊥) → ⊥
+line-not-passed-over = Uses.not-passed-over line-served
+
+-- and an alarm that is raised after any calls since the dispatcher was made is accepted and served
+pub alarm-served : (d : Dispatcher) (ks : List LineCall) (c : ℕ) → c ≤ 15 → (js : List LineCall) → Staying c js →
+    let e = dispatcherAfter (lineCall d fresh .dispatcher) ks in
+    (lineCall e (raise c) .answer ≡ Given 0 0) × ServedDemand (lineCall e (raise c) .dispatcher) c js
+alarm-served d ks c g js s = Uses.alarm-served line-refusals line-fits c g line-raise line-fresh line-served d ks js s
+
+-- Calls with their answers, and the words that they leave.
+pub any-words : LineShown anyWords
+any-words = Cabins.any-words
+
+pub going-round : LineShown goingRound
+going-round = Cabins.going-round
+
+pub served-again : LineShown servedAgain
+served-again = Cabins.served-again
+
+pub line-refused : LineShown lineRefused
+line-refused = Cabins.line-refused
+
+-- That 16 is reached: all sixteen wait, and the last of them is served by the sixteenth "next".
+pub sixteen-served : servedBy everyone sixteenNexts ≡ 0 ∷ 1 ∷ 2 ∷ 3 ∷ 4 ∷ 5 ∷ 6 ∷ 7 ∷ 8 ∷ 9 ∷ 10 ∷ 11 ∷ 12 ∷ 13 ∷ 14 ∷ 15 ∷ []
+sixteen-served = Cabins.sixteen-served
+
+-- and so it is by the promise, while it and others raise and withdraw again and again and calls are refused
+pub busy-served : (n : ℕ) × (n < 16) × (getD (servedBy everyone busyCalls) n 16 ≡ 15)
+busy-served = Cabins.busy-served line-served
+
+-- only an accepted "next" serves
+pub served-list : servedBy everyone (next ∷ fresh ∷ raise 4 ∷ withdraw 4 ∷ raise 5 ∷ next ∷ next ∷ []) ≡ 0 ∷ 5 ∷ []
+served-list = Cabins.served-list
+
 -- W2: an accepted squeeze of a sound table, and a second one
 pub squeeze-demand : (t : Table) → Sound t → (c : ℕ) (q : List ℕ) → squeezeRefusal t c q ≡ 0 → SqueezeDemand t c q (squeezeCall t c q)
 squeeze-demand = Demand2.squeeze-demand
@@ -361,6 +481,17 @@ words-table = Memory.words-table
 pub table-words : (t : Table) → Shape t → tableOf (wordsOf t) ≡ t
 table-words = Memory.table-words
 
+-- The dispatcher in memory, in the same way.
+pub words-dispatcher : (w : List ℕ) → length w ≡ dispatcherWords → lineWordsOf (dispatcherOf w) ≡ w
+words-dispatcher = Line.words-dispatcher
+
+pub dispatcher-words : (d : Dispatcher) → length (d .waiting) ≡ 16 → dispatcherOf (lineWordsOf d) ≡ d
+dispatcher-words = Line.dispatcher-words
+
+pub in-memory : dispatcherOf (100 ∷ 101 ∷ 102 ∷ 103 ∷ 104 ∷ 105 ∷ 106 ∷ 107 ∷ 108 ∷ 109 ∷ 110 ∷ 111 ∷ 112 ∷ 113 ∷ 114 ∷ 115 ∷ 7 ∷ []) ≡
+    record { waiting = 100 ∷ 101 ∷ 102 ∷ 103 ∷ 104 ∷ 105 ∷ 106 ∷ 107 ∷ 108 ∷ 109 ∷ 110 ∷ 111 ∷ 112 ∷ 113 ∷ 114 ∷ 115 ∷ []; last = 7 }
+in-memory = Cabins.in-memory
+
 -- Each exported function is its definition.
 module _ {M : Type 1} where
   pub plan-sole-quotas : sole-quotas-contract.statement M
@@ -407,6 +538,18 @@ module _ {M : Type 1} where
 
   pub plan-key-line : key-line-contract.statement M
   plan-key-line = key-line-met.met
+
+  pub plan-line-fresh : line-fresh-contract.statement M
+  plan-line-fresh = line-fresh-met.met
+
+  pub plan-line-raise : line-raise-contract.statement M
+  plan-line-raise = line-raise-met.met
+
+  pub plan-line-withdraw : line-withdraw-contract.statement M
+  plan-line-withdraw = line-withdraw-met.met
+
+  pub plan-line-next : line-next-contract.statement M
+  plan-line-next = line-next-met.met
 
   pub plan-is-sound : is-sound-contract.statement M
   plan-is-sound = is-sound-met.met

@@ -198,6 +198,21 @@ pub find-miss : (f : ℕ) (next : ℕ → ℕ) (k : ℕ) (p : ℕ → Bool) → 
 unfolding find
 find-miss f next k p t = rw (t, find)
 
+-- one turn of a search that looks at f numbers, the first of them k
+pub find-turn : (f : ℕ) (next : ℕ → ℕ) (k : ℕ) (p : ℕ → Bool) → (f ≡ 0 → ⊥) → p k ≡ false → find (f - 1) next (next k) p ≡ find f next k p
+find-turn f next k p d t =
+    let e : suc (f - 1) ≡ f = omega arith in
+    sym (find-miss (f - 1) next k p t) ∙ ap (λ (n : ℕ). find n next k p) e
+
+pub find-none : (f : ℕ) (next : ℕ → ℕ) (k : ℕ) (p : ℕ → Bool) → f ≡ 0 → find f next k p ≡ k
+unfolding find
+find-none f next k p e = rw e
+
+pub find-here : (f : ℕ) (next : ℕ → ℕ) (k : ℕ) (p : ℕ → Bool) → p k ≡ true → find f next k p ≡ k
+unfolding find
+find-here zero next k p t = refl
+find-here (suc f) next k p t = find-hit f next k p t
+
 -- tests that agree are searched alike
 pub find-ext : (f : ℕ) (next : ℕ → ℕ) (k : ℕ) (p q : ℕ → Bool) → ((i : ℕ) → p i ≡ q i) → find f next k p ≡ find f next k q
 unfolding find
@@ -221,6 +236,16 @@ find-reaches next p zero (suc f) k l t = rw (find-hit f next k p t) t
 find-reaches next p (suc m) (suc f) k l t =
     ⊎-elim (λ a. rw (find-hit f next k p a) a)
     (λ a. rw (find-miss f next k p a) (find-reaches next p m f (next k) (le-of-suc-le-suc l) t))
+    (test (p k))
+
+-- and the search goes no further than to that number
+pub find-place : (next : ℕ → ℕ) (p : ℕ → Bool) (m f k : ℕ) → m < f → p (walk next m k) ≡ true → (n : ℕ) × (n ≤ m) × (find f next k p ≡ walk next n k)
+unfolding walk
+find-place next p m zero k l t = absurd (not-suc-le-zero l)
+find-place next p zero (suc f) k l t = (0, omega arith, find-hit f next k p t)
+find-place next p (suc m) (suc f) k l t =
+    ⊎-elim (λ a. (0, omega arith, find-hit f next k p a))
+    (λ a. let r = find-place next p m f (next k) (le-of-suc-le-suc l) t in (suc (r .0), omega (arith, r .1), find-miss f next k p a ∙ r .2))
     (test (p k))
 
 -- what `next` keeps, the search keeps

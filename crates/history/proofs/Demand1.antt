@@ -1,22 +1,22 @@
 -- Demand 1: each call is refused as its conditions say, and a refused call does nothing else. Assumes nothing.
 use mathlib.Core.Path.{_≡_, refl, sym, _∙_, ap, subst}
-use mathlib.Core.Bool.{Bool, true, false, not, cond}
+use mathlib.Core.Bool.{Bool, true, not, cond}
 use mathlib.Core.Logic.{_⊎_, inl, inr, ⊎-elim}
 use mathlib.Core.List.{List, [], _∷_, _++_}
-use Prim.Native.Nat.{ℕ, zero, suc, _<_}
-use native.Mathlib.Omega.{arith}
-use lib.ListN.{length, getD}
+use Prim.Native.Nat.{ℕ}
+use lib.ListN.{length}
 use lib.Dec.{eqb}
-use borrow.Author.Tests.{eqb-false, eq-eqb, ne-eqb}
-use Rattle.finite.proofs.Bools.{and-intro, and-left, and-right, not-true-false}
+use borrow.Author.Tests.{eq-eqb, ne-eqb}
+use Rattle.finite.proofs.Bools.{and-intro, and-left, and-right}
 use Rattle.finite.proofs.Below.{eq-or-ne}
-use Rattle.table.specs.Answer.{Outcome, first, unless, refusalOf, firstOf, secondOf, triedRefusal, endingOf, lastOf, movesOf}
+use Rattle.table.specs.Answer.{Outcome, first, FirstHeld, unless, refusalOf, firstOf, secondOf, triedRefusal, endingOf, lastOf, movesOf}
 use Rattle.table.specs.Calls.{freshCall, addRefusal, addCall, linkRefusal, linkCall, noFields, readRefusal, readCall, tableTests, spokenCounts}
 use Rattle.table.specs.Trial.{trialRefusal}
 use Rattle.table.specs.Clear.{cleared, clearRefusal, clearCall}
 use Rattle.table.specs.Preview.{previewRefusal}
 use Rattle.table.specs.Squeeze.{squeezeRefusal, squeezeCall}
 use Rattle.table.specs.Table.{Table}
+use Rattle.table.proofs.Held.{first-held}
 use Rattle.table.proofs.Calls.{nonzero, first-append, unless-zero, unless-refused, unless-refusal, cleared-given, read-refused, trial-refused}
 use Rattle.table.proofs.Trials.{trial-refusal-given}
 use Rattle.table.proofs.Preview.{preview-refused-as, preview-refusal-given}
@@ -31,38 +31,7 @@ use Rattle.keyline.specs.declared.Decoded.the-variants.{Line, Nothing}
 use Rattle.keyline.specs.Keys.{decode, perform, callConditions, lineConditions, keyConditions, performLine, keyCall}
 use Rattle.history.specs.History.{fresh, load, add, link, clear, read, trial, write, keyLine, squeeze, clearSlip, takeBack, preview, silent, Done, fieldNumbers, triedNumbers, changing, row, firstRow}
 use Rattle.history.specs.Acts.{Act, begin, call, convert, actRow, doneBy, tableKept, refusedBy, conditionsOf}
-use Rattle.history.specs.Demands.{FirstHeld, none, some, Demand1, Lent, to-trial, to-write, to-clear, to-preview, to-convert}
-
--- the first condition that holds, for an order with no number 0
-pub first-held : (cs : List (Bool × ℕ)) → nonzero cs ≡ true → FirstHeld cs (first cs)
-unfolding first nonzero
-first-held [] d = none (λ k. refl)
-first-held (x ∷ xs) d = turn (first-held xs (and-right (not (eqb (x .1) 0)) (nonzero xs) d)) (x .0) refl
-  where
-    here : (b : Bool) → x .0 ≡ b → x ≡ (b, x .1)
-    here b p = λ i. (p i, x .1)
-
-    past : (n : ℕ) → x .0 ≡ false → FirstHeld xs n → FirstHeld (x ∷ xs) n
-    past n f (none h) = none (λ k. below f h k)
-      where
-        below : x .0 ≡ false → ((k : ℕ) → getD xs k (false, 0) .0 ≡ false) → (k : ℕ) → getD (x ∷ xs) k (false, 0) .0 ≡ false
-        below f h zero = f
-        below f h (suc k) = h k
-    past n f (some k e z h) = some (suc k) e z (λ j l. below f h j l)
-      where
-        below : x .0 ≡ false → ((j : ℕ) → j < k → getD xs j (false, 0) .0 ≡ false) → (j : ℕ) → j < suc k → getD (x ∷ xs) j (false, 0) .0 ≡ false
-        below f h zero l = f
-        below f h (suc j) l = h j (omega arith)
-
-    answer : Bool → Type 0
-    answer b = FirstHeld (x ∷ xs) (cond b (x .1) (first xs))
-
-    turn : FirstHeld xs (first xs) → (b : Bool) → x .0 ≡ b → FirstHeld (x ∷ xs) (cond (x .0) (x .1) (first xs))
-    turn r true p =
-        subst answer (sym p)
-        (some 0 (here true p) (eqb-false (x .1) 0 (not-true-false _ (and-left (not (eqb (x .1) 0)) (nonzero xs) d)))
-        (λ j l. absurd (omega arith)))
-    turn r false p = subst answer (sym p) (past (first xs) p r)
+use Rattle.history.specs.Demands.{Demand1, Lent, to-trial, to-write, to-clear, to-preview, to-convert}
 
 nonzero-append : (xs ys : List (Bool × ℕ)) → nonzero xs ≡ true → nonzero ys ≡ true → nonzero (xs ++ ys) ≡ true
 unfolding nonzero

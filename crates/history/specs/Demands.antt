@@ -1,5 +1,4 @@
 -- Demands 1 to 3 as statements over the definitions; the crate `claims` restates where each is proved. Assumes nothing.
---   FirstHeld cs n      n is the number of the first condition that holds, or 0 where none does
 --   Demand1 t a         of a call made on the table t, of fresh or load, or of a conversion
 --   Lent a l            the act a is lent the bytes l, to write into
 --   Demand3 f cs        of the history that begins with f and makes the calls cs
@@ -24,7 +23,7 @@ use lib.ListN.{length, getD, take, drop, replicate}
 use Rattle.finite.specs.Below.{count, total}
 use Rattle.finite.specs.Reach.{Chain}
 use Rattle.table.specs.declared.Answer.the-variants.{Given}
-use Rattle.table.specs.Answer.{Outcome, WriteOutcome, full, cabinAtLimit, stepsReserved, tooShort, notAccepted, needsEdition2, slipNotAccepted, first, refusalOf, secondOf}
+use Rattle.table.specs.Answer.{Outcome, WriteOutcome, full, cabinAtLimit, stepsReserved, tooShort, notAccepted, needsEdition2, slipNotAccepted, first, FirstHeld, refusalOf, secondOf}
 use Rattle.table.specs.Table.{Table, places, counters, cabinCount, exitsOf, inUse, kindOf, contentOf, cabinOf, counterOf, strong, linked, linksTo, stepsInUse, StrongChain}
 use Rattle.table.specs.Cabins.{guaranteeOf, soleQuotas, charge}
 use Rattle.table.specs.Sound.{Sound}
@@ -38,12 +37,6 @@ use Rattle.image.specs.Slip.{recordIn, changed, slip, slipLength, SlipOutcome, 
 use Rattle.history.specs.History.{First, Call, trial, write, clearSlip, takeBack, preview, run, withTold, tableAfter, heardBy, planAfter, drawnBy, firstRow, firstRefusal, firstTable, firstPlan}
 use Rattle.history.specs.Accounts.{account, tally}
 use Rattle.history.specs.Acts.{Act, call, convert, doneBy, refusedBy, conditionsOf}
-
--- the number of a condition that holds, none before it does; or 0, and no condition holds
-pub data FirstHeld : List (Bool × ℕ) → ℕ → Type 0 where
-  none : {cs : List (Bool × ℕ)} → ((k : ℕ) → getD cs k (false, 0) .0 ≡ false) → FirstHeld cs 0
-  some : {cs : List (Bool × ℕ)} {n : ℕ} (k : ℕ) → getD cs k (false, 0) ≡ (true, n) → (n ≡ 0 → ⊥) → ((j : ℕ) → j < k → getD cs j (false, 0) .0 ≡ false) →
-      FirstHeld cs n
 
 -- Demand 1: whatever the table, the call and its arguments
 pub record Demand1 (t : Table) (a : Act) : Type 0 where

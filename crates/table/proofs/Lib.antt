@@ -16,6 +16,7 @@ pub mod Renumber
 pub mod Follow
 pub mod Plan
 pub mod Calls
+pub mod Held
 pub mod Preview
 pub mod Orders
 pub mod Trials

@@ -1,12 +1,15 @@
 -- Refusals and answers by the paper's numbers (document 01, "Reasons for no"; document 02). Assumes nothing.
 --   first tests     the number of the first condition that holds, in the order listed; 0 where none does
+--   FirstHeld cs n  the same said of the conditions, each by its place
 --   Outcome         the answer of a call, and the table handed back; WriteOutcome, the answer, and a lent buffer as it is left
 --   refusalOf firstOf secondOf   the paper's numbers for each case of an answer: the refusal or 0, then two numbers, zero where refused
 --   triedRefusal endingOf lastOf movesOf   the same for a trial: the refusal or 0, how it ended, the last step, the moves
 --   unless n t o    the outcome o where n is 0, else refusal n with the table t
-use mathlib.Core.Bool.{Bool, cond}
+use mathlib.Core.Path.{_≡_}
+use mathlib.Core.Bool.{Bool, true, false, cond}
 use mathlib.Core.List.{List, [], _∷_}
-use Prim.Native.Nat.{ℕ}
+use Prim.Native.Nat.{ℕ, _<_}
+use lib.ListN.{getD}
 use lib.Dec.{eqb}
 use Rattle.table.specs.Table.{Table}
 use Rattle.table.specs.declared.Answer.{Answer}
@@ -76,9 +79,22 @@ needsEdition2 = 17
 abbrev pub slipNotAccepted : ℕ
 slipNotAccepted = 18
 
+-- document 02, W11
+abbrev pub noSuchCabin : ℕ
+noSuchCabin = 20
+
+abbrev pub nobodyWaits : ℕ
+nobodyWaits = 21
+
 unfoldable pub first : List (Bool × ℕ) → ℕ
 first [] = 0
 first (x ∷ xs) = cond (x .0) (x .1) (first xs)
+
+-- the number of a condition that holds, none before it does; or 0, and no condition holds
+pub data FirstHeld : List (Bool × ℕ) → ℕ → Type 0 where
+  none : {cs : List (Bool × ℕ)} → ((k : ℕ) → getD cs k (false, 0) .0 ≡ false) → FirstHeld cs 0
+  some : {cs : List (Bool × ℕ)} {n : ℕ} (k : ℕ) → getD cs k (false, 0) ≡ (true, n) → (n ≡ 0 → ⊥) → ((j : ℕ) → j < k → getD cs j (false, 0) .0 ≡ false) →
+      FirstHeld cs n
 
 -- the answer of a call that may change the table, and the table handed back
 pub record Outcome : Type 0 where

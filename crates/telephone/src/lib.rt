@@ -1,5 +1,6 @@
 // The calls of documents 01 and 02 as exported functions, for C and Rust. A table is an array of words that the caller owns and lends; a call that
-// changes it writes it in place. Any words may stand in it. Each function makes one proved call and gives its answer by the paper's numbers.
+// changes it writes it in place. Any words may stand in it; so it is with a dispatcher. Each function makes one proved call and gives its answer by the
+// paper's numbers.
 ghost use mathlib.Core.Path.{_≡_};
 ghost use mathlib.Core.Bool.{cond};
 ghost use Prim.Native.Nat.{_≤_};
@@ -16,7 +17,9 @@ ghost use Rattle.image.specs.Image.{edition1, edition2, lengthCall, writeCall, 
 ghost use Rattle.image.specs.Convert.{convertCall};
 ghost use Rattle.image.specs.Slip.{clearSlipCall, takeBackCall};
 ghost use Rattle.keyline.specs.Keys.{keyCall};
+ghost use Rattle.line.specs.Line.{fresh, raise, withdraw, next, lineCall, dispatcherOf, lineWordsOf};
 ghost use Rattle.telephone.specs.Replies.{edition, replyOf, readReply, trialReply, writeReply};
+use dispatching::LINE_WORDS;
 use table::Answer;
 use table::Ending;
 use table::Reading;
@@ -350,4 +353,40 @@ pub extern "C" fn plan_key_line(t: &mut [u16; WORDS], line: &[u8]) -> Reply
     ensures table { λ r. ⌜ now (t .exit) ≡ wordsOf (keyCall (tableOf (now (t .entry))) (now (line .entry)) .table) ⌝ }
 {
     reply_of(keying::key_line(t, line))
+}
+
+// Fresh dispatcher: nobody waits, and cabin 15 counts as last served. It is not refused.
+#[no_mangle]
+pub extern "C" fn plan_line_fresh(d: &mut [u16; LINE_WORDS]) -> Reply
+    ensures answer { λ r. ⌜ r ≡ replyOf (lineCall (dispatcherOf (now (d .entry))) fresh .answer) ⌝ }
+    ensures words { λ r. ⌜ now (d .exit) ≡ lineWordsOf (lineCall (dispatcherOf (now (d .entry))) fresh .dispatcher) ⌝ }
+{
+    reply_of(dispatching::fresh(d))
+}
+
+// Raise: a cabin waits for the line. Refusals: 1, 20.
+#[no_mangle]
+pub extern "C" fn plan_line_raise(d: &mut [u16; LINE_WORDS], cabin: u16) -> Reply
+    ensures answer { λ r. ⌜ r ≡ replyOf (lineCall (dispatcherOf (now (d .entry))) (raise cabin) .answer) ⌝ }
+    ensures words { λ r. ⌜ now (d .exit) ≡ lineWordsOf (lineCall (dispatcherOf (now (d .entry))) (raise cabin) .dispatcher) ⌝ }
+{
+    reply_of(dispatching::raise(d, cabin))
+}
+
+// Withdraw: a cabin does not wait any more. Refusals: 1, 20.
+#[no_mangle]
+pub extern "C" fn plan_line_withdraw(d: &mut [u16; LINE_WORDS], cabin: u16) -> Reply
+    ensures answer { λ r. ⌜ r ≡ replyOf (lineCall (dispatcherOf (now (d .entry))) (withdraw cabin) .answer) ⌝ }
+    ensures words { λ r. ⌜ now (d .exit) ≡ lineWordsOf (lineCall (dispatcherOf (now (d .entry))) (withdraw cabin) .dispatcher) ⌝ }
+{
+    reply_of(dispatching::withdraw(d, cabin))
+}
+
+// Next: the first waiting cabin after the one last served, going round, is served. First is the cabin. Refusals: 1, 21.
+#[no_mangle]
+pub extern "C" fn plan_line_next(d: &mut [u16; LINE_WORDS]) -> Reply
+    ensures answer { λ r. ⌜ r ≡ replyOf (lineCall (dispatcherOf (now (d .entry))) next .answer) ⌝ }
+    ensures words { λ r. ⌜ now (d .exit) ≡ lineWordsOf (lineCall (dispatcherOf (now (d .entry))) next .dispatcher) ⌝ }
+{
+    reply_of(dispatching::next(d))
 }

@@ -88,6 +88,10 @@ pub const BAD_CABINS: u16 = 16;
 pub const NEEDS_EDITION_2: u16 = 17;
 // A slip is not accepted (W7).
 pub const SLIP_NOT_ACCEPTED: u16 = 18;
+// A cabin above 15, on the line (W11).
+pub const NO_SUCH_CABIN: u16 = 20;
+// Nobody waits for the line (W11).
+pub const NOBODY_WAITS: u16 = 21;
 
 // The same number, as an index.
 pub fn wide(x: u16) -> usize

@@ -4,11 +4,12 @@ use crate::files::{
     apart, broken_rule, give, give_cleared, give_image, give_table, goes_nowhere, image_bytes,
     input, input_failed, load, print, refused_image, say, shown, slip_bytes,
 };
-use crate::{number, Failure, Request};
+use crate::{next, number, Failure, Request};
 use plan::change::{checked, cleared, taken_back};
 use plan::check::{cabin_line, changed_since, edition, unfit};
 use plan::diff::{diff, Verdict};
 use plan::draw::{as_dot, as_svg};
+use plan::line::{answered, Call};
 use plan::pages;
 use plan::view::View;
 use plan::words::{count, refused};
@@ -17,14 +18,14 @@ use std::ffi::{OsStr, OsString};
 use std::io::{self, BufRead, BufReader, IsTerminal, Read};
 use std::path::Path;
 use telephone::{
-    convert_down, convert_up, raw, slip_length, sole_quotas, Ending, Quota, Quotas, Refusal, Table,
-    CABINS, IMAGE_MAX, PLACES, PREVIEW_ROOM, SLIP_MAX,
+    convert_down, convert_up, raw, slip_length, sole_quotas, Ending, Line, Quota, Quotas, Refusal,
+    Table, CABINS, IMAGE_MAX, PLACES, PREVIEW_ROOM, SLIP_MAX,
 };
 
 /// A command of the program.
 pub struct Command {
     pub name: &'static str,
-    /// The words that it takes; those in brackets may be left out, and one with dots may be given for each cabin.
+    /// The words that it takes; those in brackets may be left out, and those with dots may be more than one.
     words: &'static [&'static str],
     /// The options that it has, each with its value.
     pub options: &'static [&'static str],
@@ -45,17 +46,24 @@ impl Command {
     /// Whether it takes so many words.
     pub fn takes(&self, words: usize) -> bool {
         let least = self.words.iter().filter(|word| !word.starts_with('[')).count();
-        let most = self.words.iter().map(|word| if word.contains("..") { CABINS } else { 1 }).sum();
-        (least..=most).contains(&words)
+        let most = self.words.iter().map(|word| match *word {
+            LIST => CABINS,
+            CALLS => usize::MAX,
+            _ => 1,
+        });
+        (least..=most.fold(0, usize::saturating_add)).contains(&words)
     }
 }
 
 const STORE: &str = "-o FILE";
 
-/// Guarantees and limits.
+/// Guarantees and limits, one for each cabin at most.
 const LIST: &str = "[G/L ..]";
 
-pub const COMMANDS: [Command; 14] = [
+/// Calls on a dispatcher, as many as one likes.
+const CALLS: &str = "CALL ..";
+
+pub const COMMANDS: [Command; 15] = [
     Command {
         name: "fresh",
         words: &["CAPACITY", LIST],
@@ -168,6 +176,14 @@ pub const COMMANDS: [Command; 14] = [
         help: CHECK,
         run: check,
     },
+    Command {
+        name: "line",
+        words: &[CALLS],
+        options: &[],
+        gist: "sixteen cabins wait for one line",
+        help: LINE,
+        run: line,
+    },
 ];
 
 const KEY: &str = "\
@@ -270,6 +286,20 @@ const CHECK: &str = "\
 Accepted, with its edition, or the first rule of docs/IMAGE.md that is broken,
 with the byte to look at. Status 0 where it is accepted, 1 where not, 2 where it
 could not be read.
+";
+
+const LINE: &str = "\
+Makes calls on a fresh dispatcher, at which sixteen cabins, 0 to 15, wait for
+one line. Each call is answered in words: what it did, and the cabins that wait
+then, in the order in which they would be served. A refused call changes
+nothing, and the others count. No image is read or written.
+
+  raise CABIN     the cabin waits for the line
+  withdraw CABIN  it waits no longer
+  next            serves the first waiting cabin after the one last served,
+                  going round; at a fresh dispatcher cabin 0 comes first
+
+Status 0 where no call is refused, 1 where one is, 2 where a word is no call.
 ";
 
 const FRESH: &str = "\
@@ -594,6 +624,43 @@ fn check(request: &Request) -> Result<u8, Failure> {
             Ok(1)
         }
     }
+}
+
+fn line(request: &Request) -> Result<u8, Failure> {
+    let calls = calls(&request.words)?;
+    let (mut line, mut page, mut status) = (Line::fresh(), String::new(), 0);
+    // each time round: the dispatcher is as the calls so far left it
+    for call in calls {
+        let words = match call.made(&line) {
+            Ok((after, cabin)) => {
+                let before = std::mem::replace(&mut line, after);
+                answered(&before, &line, call, cabin)?
+            }
+            Err(refusal) => {
+                status = 1;
+                refused(refusal)
+            }
+        };
+        page += &format!("{:<12}  {words}\n", call.to_string());
+    }
+    print(&page)?;
+    Ok(status)
+}
+
+/// The calls that words say.
+fn calls(words: &[OsString]) -> Result<Vec<Call>, Failure> {
+    let (mut calls, mut words) = (Vec::new(), words.iter());
+    while let Some(word) = words.next() {
+        let name = word.to_str().unwrap_or_default();
+        let mut cabin = || number("the cabin", next(name, words.next())?);
+        calls.push(match name {
+            "raise" => Call::Raise(cabin()?),
+            "withdraw" => Call::Withdraw(cabin()?),
+            "next" => Call::Next,
+            _ => return Err(format!("no call {}; plan line --help names them", shown(word))),
+        });
+    }
+    Ok(calls)
 }
 
 fn key(request: &Request) -> Result<u8, Failure> {

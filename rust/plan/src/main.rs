@@ -1,6 +1,7 @@
-//! The program `plan`: shows, draws, explains, compares, converts and edits images of call plans. Words about a table go to standard output; a command
-//! that gives a new image says what it did on standard error. Status 0: done. 1: the answer is no (`check`, `diff`). 2: bad input, or something could
-//! not be read or written; then one line on standard error says what, and nothing is stored.
+//! The program `plan`: shows, draws, explains, compares, converts and edits images of call plans, and makes calls on a dispatcher. Words about a table
+//! or a dispatcher go to standard output; a command that gives a new image says what it did on standard error. Status 0: done. 1: the answer is no
+//! (`check`, `diff`), or a call was refused (`line`). 2: bad input, or something could not be read or written; then one line on standard error says
+//! what, and nothing is stored.
 
 mod commands;
 mod files;
@@ -90,9 +91,9 @@ const MORE: &str = "\
 plan COMMAND --help says more, and plan --version which version this is. IMAGE
 is a file that holds an image.
 
-Status 0: done. 1: the answer is no (check, diff). 2: bad input, or something
-is missing, is not proved, or could not be read or written; then nothing is
-stored, and standard error says what.
+Status 0: done. 1: the answer is no (check, diff), or a call was refused (line).
+2: bad input, or something is missing, is not proved, or could not be read or
+written; then nothing is stored, and standard error says what.
 ";
 
 fn overview() -> String {
@@ -136,7 +137,8 @@ fn request(command: &Command, words: &[OsString]) -> Result<Request, Failure> {
     Ok(request)
 }
 
-fn next<'a>(option: &str, word: Option<&'a OsString>) -> Result<&'a OsString, Failure> {
+/// The value of an option, or of a call on a dispatcher: the word after it.
+pub fn next<'a>(option: &str, word: Option<&'a OsString>) -> Result<&'a OsString, Failure> {
     word.ok_or_else(|| format!("{option} is the last word, and has to be followed by its value"))
 }
 

@@ -13,7 +13,7 @@ use telephone::{Exit, Refusal, Table, IMAGE_MAX};
 /// Each command line, by the name of its output. The images stand in tests/images; those with a file .keys beside them were keyed. They are of edition 1
 /// but for ring-2, which is ring in edition 2, contacts, which has contacts above 99, and those of several cabins. contacts-old has the records of
 /// contacts in edition 1. The slips are those of clearing exit 0 of step 0 in ring and in cabins; cleared and cabins-cleared are the images after it.
-const CASES: [(&str, &str); 103] = [
+const CASES: [(&str, &str); 114] = [
     ("no-command", ""),
     ("wrong-command", "shew ring.img"),
     ("wrong-option", "show --dot ring.img"),
@@ -117,6 +117,17 @@ const CASES: [(&str, &str); 103] = [
     ("diff-same", "diff ring.img unordered.img"),
     ("diff-editions", "diff ring.img ring-2.img"),
     ("diff-cabins", "diff cabins.img cabins-other.img"),
+    ("line", "line raise 3 raise 12 next raise 1 next next"),
+    ("line-round", "line raise 15 next raise 15 raise 0 raise 7 next next next"),
+    ("line-twice", "line raise 4 raise 4 withdraw 9 withdraw 4 withdraw 4"),
+    ("line-nobody", "line next"),
+    ("line-refused", "line raise 16 raise 15 withdraw 65535 next next raise 0"),
+    ("line-no-call", "line raise 3 lift 4"),
+    ("line-no-cabin", "line raise 3 withdraw"),
+    ("line-no-number", "line raise next"),
+    ("line-past-16-bits", "line next raise 65536"),
+    ("line-no-words", "line"),
+    ("line-not-stored", "line raise 3 -o /dev/null"),
 ];
 
 /// Images for `check`, and the status for each.
@@ -585,6 +596,31 @@ fn every_two_clearings() {
     }
 }
 
+/// Sixteen cabins wait, and each raises its alarm again when it is served: they have their turns in order, again and again. A line for each call, and
+/// status 1 where one is refused.
+#[test]
+fn sixteen_on_one_line() {
+    let raises: String = (0..16).map(|cabin| format!(" raise {cabin}")).collect();
+    let rounds: String = (0..4000).map(|call| format!(" next raise {}", call % 16)).collect();
+    let line = format!("line{raises}{rounds}");
+    let words: Vec<&str> = line.split(' ').collect();
+    let given = output(&mut plan(&words));
+    assert_eq!((given.status.code(), text(&given.stderr)), (Some(0), String::new()));
+    let said = text(&given.stdout);
+    let served = said.lines().filter_map(|line| line.strip_prefix("next          cabin "));
+    for (call, line) in served.enumerate() {
+        assert!(line.starts_with(&format!("{} is served; next in turn: ", call % 16)), "{line}");
+    }
+    assert_eq!(said.lines().count(), 16 + 2 * 4000);
+    let turns: Vec<String> = (0..16).map(|cabin| cabin.to_string()).collect();
+    assert!(said.ends_with(&format!("cabin 15 waits; next in turn: {}\n", turns.join(", "))));
+    let refused = output(plan(&words).args(["raise", "16", "withdraw", "0"]));
+    let end = "raise 16      refused by 20: cabin above 15\nwithdraw 0    cabin 0 withdraws; ";
+    assert_eq!((refused.status.code(), text(&refused.stderr)), (Some(1), String::new()));
+    let refused = text(&refused.stdout);
+    assert!(refused.strip_prefix(&said).is_some_and(|more| more.starts_with(end)), "{refused}");
+}
+
 /// Where nobody hears any more that an image is stored, it is stored all the same, and the status says so.
 #[test]
 fn stored_unheard() {
@@ -684,6 +720,8 @@ fn reading_and_writing_fail() {
         "preview ring.img 0 0",
         "preview cabins.img 0 0",
         "diff ring.img full.img",
+        "line raise 3 next",
+        "line next",
         "--help",
     ] {
         let words: Vec<&str> = line.split(' ').collect();
@@ -739,6 +777,9 @@ fn odd_words() {
             &["preview", word, "0", "0"],
             &["preview", "ring.img", word, "0"],
             &["preview", "ring.img", "0", word],
+            &["line", word],
+            &["line", "raise", word],
+            &["line", "next", word],
         ] {
             let given = output(&mut plan(line));
             assert!(is_failure(&given), "{line:?}: {}", text(&given.stderr));

@@ -10,6 +10,8 @@
 //!
 //! Images are written in edition 2 of the format and loaded in both; [`convert_up`] and [`convert_down`] turn an image of one edition into the other.
 //!
+//! Apart from any plan, sixteen cabins wait for one line, and a [`Line`] says whose turn it is.
+//!
 //! ```
 //! use telephone::{sole_quotas, Exit, Kind, Table};
 //!
@@ -25,10 +27,12 @@
 #![no_std]
 #![warn(missing_docs)]
 
+mod line;
 #[allow(missing_docs)]
 pub mod raw;
 
 use core::fmt;
+pub use line::Line;
 pub use raw::{Quota, Quotas};
 
 /// The lines of Rust in the README, which are run as tests.
@@ -44,6 +48,8 @@ pub const PLACES: usize = 128;
 pub const EXITS: usize = 4;
 /// Cabins that share a plan.
 pub const CABINS: usize = 8;
+/// Cabins that wait for one line.
+pub const LINE_CABINS: usize = 16;
 /// Bytes of the largest image that is written, by a table or by a conversion. The largest of edition 1 has 2,570.
 pub const IMAGE_MAX: usize = 2858;
 /// Bytes of the largest slip of a clearing.
@@ -80,7 +86,7 @@ impl core::error::Error for WrongEdition {}
 #[derive(Clone, Copy, PartialEq, Eq, Hash, Debug)]
 #[non_exhaustive]
 pub enum Refusal {
-    /// 1: table not sound.
+    /// 1: table not sound, or the dispatcher's last served is above 15.
     NotSound,
     /// 2: capacity not 1 to 128.
     BadCapacity,
@@ -116,6 +122,10 @@ pub enum Refusal {
     NeedsEdition2,
     /// 18: slip not accepted.
     SlipNotAccepted,
+    /// 20: cabin above 15, of those that wait for the line.
+    NoSuchCabin,
+    /// 21: nobody waits for the line.
+    NobodyWaits,
     /// A number that this crate does not know. The library of this edition gives none.
     Unknown(u16),
 }
@@ -142,6 +152,8 @@ impl Refusal {
             Refusal::BadCabins => 16,
             Refusal::NeedsEdition2 => 17,
             Refusal::SlipNotAccepted => 18,
+            Refusal::NoSuchCabin => 20,
+            Refusal::NobodyWaits => 21,
             Refusal::Unknown(number) => number,
         }
     }
@@ -168,6 +180,8 @@ impl Refusal {
             16 => Refusal::BadCabins,
             17 => Refusal::NeedsEdition2,
             18 => Refusal::SlipNotAccepted,
+            20 => Refusal::NoSuchCabin,
+            21 => Refusal::NobodyWaits,
             _ => Refusal::Unknown(number),
         })
     }
@@ -176,7 +190,7 @@ impl Refusal {
 impl fmt::Display for Refusal {
     fn fmt(&self, f: &mut fmt::Formatter<'_>) -> fmt::Result {
         f.write_str(match self {
-            Refusal::NotSound => "table not sound",
+            Refusal::NotSound => "table not sound, or the dispatcher's last served is above 15",
             Refusal::BadCapacity => "capacity not 1 to 128",
             Refusal::NotInUse => "step not in use",
             Refusal::BadExit => "exit above 3",
@@ -198,6 +212,8 @@ impl fmt::Display for Refusal {
                 "image needs edition 2: a cabin, guarantee, limit or contact that edition 1 cannot say"
             }
             Refusal::SlipNotAccepted => "slip not accepted",
+            Refusal::NoSuchCabin => "cabin above 15",
+            Refusal::NobodyWaits => "nobody waits for the line",
             Refusal::Unknown(number) => return write!(f, "unknown refusal {number}"),
         })
     }

@@ -1,4 +1,4 @@
-//! The calls as `include/telephone.h` has them: any table, any numbers, and the reply as the library gives it.
+//! The calls as `include/telephone.h` has them: any table or dispatcher, any numbers, and the reply as the library gives it.
 //! Sizes and offsets are checked when this is compiled.
 
 use core::mem::{align_of, offset_of, size_of};
@@ -59,6 +59,17 @@ impl Table {
     };
 }
 
+/// A dispatcher as it stands in memory: which cabins wait for the line, and which was served last. Any bytes are a value of it; a call refuses one
+/// whose last served is above 15 with 1. The default is all zero, with cabin 0 as last served; `line_fresh` makes a fresh one.
+#[repr(C)]
+#[derive(Clone, Copy, PartialEq, Eq, Debug, Default)]
+pub struct Line {
+    /// By cabin: 0 if it does not wait, any other number if it does.
+    pub waiting: [u16; 16],
+    /// The cabin last served.
+    pub last: u16,
+}
+
 /// A refusal, or 0, and two numbers that each call gives a meaning.
 #[repr(C)]
 #[derive(Clone, Copy, PartialEq, Eq, Debug, Default)]
@@ -114,6 +125,8 @@ const _: () = {
     assert!(offset_of!(Table, cabins) == 3588);
     assert!(offset_of!(Table, quotas) == 3844);
     assert!(size_of::<Quota>() == 4 && offset_of!(Quota, limit) == 2);
+    assert!(size_of::<Line>() == 34 && align_of::<Line>() == 2);
+    assert!(offset_of!(Line, waiting) == 0 && offset_of!(Line, last) == 32);
     assert!(size_of::<Reply>() == 6);
     assert!(size_of::<ReadReply>() == 30 && offset_of!(ReadReply, counts) == 24);
     assert!(offset_of!(ReadReply, cabin) == 28);
@@ -153,6 +166,14 @@ unsafe extern "C" {
     pub safe fn counts(t: &Table) -> Reply;
     #[link_name = "plan_image_length"]
     pub safe fn image_length(t: &Table) -> WriteReply;
+    #[link_name = "plan_line_fresh"]
+    pub safe fn line_fresh(line: &mut Line) -> Reply;
+    #[link_name = "plan_line_raise"]
+    pub safe fn line_raise(line: &mut Line, cabin: u16) -> Reply;
+    #[link_name = "plan_line_withdraw"]
+    pub safe fn line_withdraw(line: &mut Line, cabin: u16) -> Reply;
+    #[link_name = "plan_line_next"]
+    pub safe fn line_next(line: &mut Line) -> Reply;
     fn plan_clear_with_slip(
         t: &mut Table,
         step: u16,

@@ -1132,7 +1132,7 @@ fn numbers_go_there_and_back() {
     for number in 1..=65535 {
         let refusal = Refusal::check(number).unwrap_err();
         assert_eq!(refusal.number(), number);
-        assert_eq!(matches!(refusal, Refusal::Unknown(_)), number > 18);
+        assert_eq!(matches!(refusal, Refusal::Unknown(_)), number == 19 || number > 21);
     }
     assert_eq!(Refusal::Full.to_string(), "steps in use equal the capacity");
     for (number, words) in [
@@ -1144,8 +1144,12 @@ fn numbers_go_there_and_back() {
             17,
             "image needs edition 2: a cabin, guarantee, limit or contact that edition 1 cannot say",
         ),
+        (1, "table not sound, or the dispatcher's last served is above 15"),
         (18, "slip not accepted"),
         (19, "unknown refusal 19"),
+        (20, "cabin above 15"),
+        (21, "nobody waits for the line"),
+        (22, "unknown refusal 22"),
     ] {
         assert_eq!(Refusal::check(number).unwrap_err().to_string(), words);
     }

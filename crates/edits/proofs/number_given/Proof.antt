@@ -7,11 +7,12 @@ use mathlib.Core.List.{List}
 use Prim.Native.Nat.{ℕ, _≤_, _<_}
 use native.Mathlib.Omega.{arith}
 use Rattle.finite.specs.Below.{find}
+use Rattle.finite.proofs.Below.{find-turn, find-none, find-here}
 use Rattle.table.specs.Table.{places, inUse}
 use Rattle.table.specs.Calls.{after, numberGiven}
 use Rattle.words.specs.Words.{tableOf}
 use borrow.Author.Needs.{needs}
-use Rattle.edits.proofs.Laws.{after-place, find-turn, find-none, find-here}
+use Rattle.edits.proofs.Laws.{after-place}
 use Rattle.edits.proofs.number_given.Statement.{statement}
 use Rattle.edits.proofs.number_given.Tie as tie
 

@@ -1,0 +1,1 @@
+// Sixteen cabins on one line: definitions and their laws, and no code.
