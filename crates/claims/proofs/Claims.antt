@@ -50,6 +50,7 @@ use Rattle.line.specs.Examples.{LineShown, anyWords, goingRound, servedAgain, l
 use Rattle.line.proofs.Laws as Line
 use Rattle.line.proofs.Served
 use Rattle.line.proofs.Uses
+use Rattle.line.proofs.Busy
 use Rattle.line.proofs.Examples as Cabins
 use Rattle.table.specs.Trial.{TrialOutcome, trialRefusal, trialCall, TrialDemand, SameTrial, LongerDemand, underNumbers}
 use Rattle.history.proofs.Demand1 as Refusals
@@ -382,7 +383,7 @@ sixteen-served = Cabins.sixteen-served
 
 -- and so it is by the promise, while it and others raise and withdraw again and again and calls are refused
 pub busy-served : (n : ℕ) × (n < 16) × (getD (servedBy everyone busyCalls) n 16 ≡ 15)
-busy-served = Cabins.busy-served line-served
+busy-served = Busy.busy-served line-served
 
 -- only an accepted "next" serves
 pub served-list : servedBy everyone (next ∷ fresh ∷ raise 4 ∷ withdraw 4 ∷ raise 5 ∷ next ∷ next ∷ []) ≡ 0 ∷ 5 ∷ []

@@ -2,4 +2,5 @@
 pub mod Laws
 pub mod Served
 pub mod Uses
+pub mod Busy
 pub mod Examples

@@ -58,18 +58,18 @@ not-passed-over served d c ks g w s l never = let r = served d c ks g w s l in n
 pub fresh-only : FreshClaim → (d : Dispatcher) (o : LineOutcome) → FreshDemand o → lineCall d fresh ≡ o
 fresh-only freshes d o x = fresh-settled (lineCall d fresh) o (freshes d) x
 
+-- what raise and withdraw are refused by, each of the three cases
+module _ (d : Dispatcher) {c n : ℕ} (r : RefusingCabin d c n) where
+  above : 15 < d .last → n ≡ 1
+  above h = ⊎-elim (λ x. x .0) (λ o. ⊎-elim (λ x. absurd (omega (arith, h, x .1))) (λ x. absurd (omega (arith, h, x .1))) o) r
+
+  unknown : d .last ≤ 15 → 15 < c → n ≡ 20
+  unknown h g = ⊎-elim (λ x. absurd (omega (arith, h, x .1))) (λ o. ⊎-elim (λ x. x .0) (λ x. absurd (omega (arith, g, x .2))) o) r
+
+  known : d .last ≤ 15 → c ≤ 15 → n ≡ 0
+  known h g = ⊎-elim (λ x. absurd (omega (arith, h, x .1))) (λ o. ⊎-elim (λ x. absurd (omega (arith, g, x .2))) (λ x. x .0) o) r
+
 module _ (refusals : RefusalClaim) where
-  -- what raise and withdraw are refused by, each of the three cases
-  module _ (d : Dispatcher) {c n : ℕ} (r : RefusingCabin d c n) where
-    above : 15 < d .last → n ≡ 1
-    above h = ⊎-elim (λ x. x .0) (λ o. ⊎-elim (λ x. absurd (omega (arith, h, x .1))) (λ x. absurd (omega (arith, h, x .1))) o) r
-
-    unknown : d .last ≤ 15 → 15 < c → n ≡ 20
-    unknown h g = ⊎-elim (λ x. absurd (omega (arith, h, x .1))) (λ o. ⊎-elim (λ x. x .0) (λ x. absurd (omega (arith, g, x .2))) o) r
-
-    known : d .last ≤ 15 → c ≤ 15 → n ≡ 0
-    known h g = ⊎-elim (λ x. absurd (omega (arith, h, x .1))) (λ o. ⊎-elim (λ x. absurd (omega (arith, g, x .2))) (λ x. x .0) o) r
-
   -- "next" is accepted while a cabin waits
   pub waiting-accepted : (d : Dispatcher) (c : ℕ) → d .last ≤ 15 → c ≤ 15 → waits d c ≡ true → refusal d next ≡ 0
   waiting-accepted d c h g w =

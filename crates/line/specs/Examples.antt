@@ -61,22 +61,24 @@ anyWords =
       left = record { waiting = 0 ∷ 0 ∷ 0 ∷ 0 ∷ 0 ∷ 0 ∷ 0 ∷ 0 ∷ 0 ∷ 0 ∷ 0 ∷ 0 ∷ 0 ∷ 0 ∷ 0 ∷ 0 ∷ []; last = 3 };
     }
 
--- past the top to 0; one that raises while another is served waits for its turn; words other than 0 and 1 stay as they are
+-- up from 9 to 15, and past the top to 2; one that raises behind the cabin last served waits for the next round; the words 65535 and 700 are alarms, and
+-- raising again leaves them
 unfoldable pub goingRound : LineRun
 goingRound =
     record {
-      start = record { waiting = 0 ∷ 0 ∷ 9 ∷ 0 ∷ 0 ∷ 0 ∷ 0 ∷ 0 ∷ 0 ∷ 1 ∷ 0 ∷ 0 ∷ 0 ∷ 0 ∷ 65535 ∷ 0 ∷ []; last = 9 };
+      start = record { waiting = 0 ∷ 0 ∷ 9 ∷ 700 ∷ 0 ∷ 0 ∷ 0 ∷ 0 ∷ 0 ∷ 1 ∷ 0 ∷ 0 ∷ 0 ∷ 0 ∷ 65535 ∷ 0 ∷ []; last = 9 };
       entries =
           accepts (raise 14) 0 ∷
-          accepts (raise 2) 0 ∷
+          accepts (raise 3) 0 ∷
           accepts next 14 ∷
           accepts (raise 13) 0 ∷
           accepts (raise 15) 0 ∷
           accepts next 15 ∷
           accepts (raise 14) 0 ∷
           accepts (withdraw 9) 0 ∷
+          accepts next 2 ∷
           [];
-      left = record { waiting = 0 ∷ 0 ∷ 9 ∷ 0 ∷ 0 ∷ 0 ∷ 0 ∷ 0 ∷ 0 ∷ 0 ∷ 0 ∷ 0 ∷ 0 ∷ 1 ∷ 1 ∷ 0 ∷ []; last = 15 };
+      left = record { waiting = 0 ∷ 0 ∷ 0 ∷ 700 ∷ 0 ∷ 0 ∷ 0 ∷ 0 ∷ 0 ∷ 0 ∷ 0 ∷ 0 ∷ 0 ∷ 1 ∷ 1 ∷ 0 ∷ []; last = 2 };
     }
 
 -- the cabin last served is the sixteenth that is looked at: any other that waits comes before it, and alone it is served again
