@@ -12,7 +12,8 @@
  * A link is strong if its bit equals that of the step which it leads to, else weak; plan_add makes a strong one, plan_link a weak one. A table is sound
  * if all numbers are in range, the counters are exact, strong links form no ring and lead from step 0 to every step in use, and the cabins keep to
  * their guarantees and limits. Every call keeps a sound table sound. After an exit is emptied, the steps that no row of strong links leads to from step
- * 0 are doubtful: those that links of either strength still lead to stay, and are held by strong links again; the others are freed.
+ * 0 are doubtful: those that links of either strength still lead to stay, and are held by strong links again; the others are freed. A step can be
+ * in use and never be rung: a trial leaves step 0, a message and a wait by the answered exit only. plan_rung tells which steps some trial enters.
  *
  * Cabins. Eight cabins share a plan. Each step is charged to the cabin, 0 to 7, that added it, until it is freed; step 0 is charged to none. A table
  * has a guarantee and a limit for each cabin. No cabin has more steps than its limit, and one that has fewer than its guarantee is never refused for
@@ -53,6 +54,7 @@
  *     plan_preview_clear                                                        8,288
  *     plan_squeeze                                                              7,568
  *     plan_trial, plan_write_image                                              7,280
+ *     plan_rung                                                                 7,744
  *     plan_load_image                                                           7,344
  *     plan_convert_up, plan_convert_down                                       11,312
  *     plan_key_line                                                             7,440
@@ -72,7 +74,7 @@
 extern "C" {
 #endif
 
-#define PLAN_VERSION "0.11.0" /* of this software; CHANGELOG.md says what changed, and PLAN_EDITION what a host has to follow */
+#define PLAN_VERSION "0.12.0" /* of this software; CHANGELOG.md says what changed, and PLAN_EDITION what a host has to follow */
 #define PLAN_EDITION 4        /* of this interface; in edition 1 tables went by value, in 2 a trial had no limit, in 3 there were no cabins */
 #define PLAN_PLACES 128       /* the largest capacity */
 #define PLAN_EXITS 4          /* exits of a step */
@@ -80,7 +82,8 @@ extern "C" {
 #define PLAN_LINE_CABINS 16   /* cabins that wait for one line */
 #define PLAN_IMAGE_MAX 2858   /* bytes of the largest image that is written; the largest of edition 1 has 2,570 */
 #define PLAN_SLIP_MAX 5638    /* bytes of the largest slip of a clearing */
-#define PLAN_PREVIEW_ROOM 127 /* bytes that the buffer of a preview must have: as many as there are steps that can go */
+#define PLAN_STEPS_ROOM 127   /* bytes that the buffer of a preview or of plan_rung must have: one for each step that can be listed, any but step 0 */
+#define PLAN_PREVIEW_ROOM PLAN_STEPS_ROOM /* its name when only a preview listed steps */
 #define PLAN_STACK_MAX 16384  /* bytes of stack for any call, with the caller's table */
 
 /* Kinds of step, and the content of each. */
@@ -264,7 +267,7 @@ plan_reply plan_take_back(plan_table *t, const uint8_t *slip, size_t length);
 
 /* Tells what plan_clear would do: writes the numbers of the steps that it would free to the start of the buffer, ascending, a byte each. Bytes past
  * them are not touched. The same plan_clear, made next, frees just these steps and gives these two counts. The buffer must have at least
- * PLAN_PREVIEW_ROOM bytes, whatever the table, even where nothing would go.
+ * PLAN_STEPS_ROOM bytes, whatever the table, even where nothing would go.
  * first: steps that would be made doubtful; second: steps that would be freed, and so bytes written. Refusals, in order: 1, 3, 4, 6, 11. */
 plan_reply plan_preview_clear(const plan_table *t, uint16_t step, uint16_t exit, uint8_t *buffer, size_t length);
 
@@ -287,6 +290,14 @@ plan_reply plan_counts(const plan_table *t);
  * least as many bytes as the limit, whatever the trial does, and all results must be 0 to 3, used up or not; there may be more of them than moves.
  * Refusals, in order: 1, 10, 11; a refused one has 0 in ending too, which is PLAN_OPEN, so look at refusal first. */
 plan_trial_reply plan_trial(const plan_table *t, uint16_t limit, const uint8_t *results, size_t results_length, uint8_t *trace, size_t trace_length);
+
+/* Tells whom a trial can ring: writes the numbers of the steps that some trial enters to the start of the buffer, ascending, a byte each. Bytes past them
+ * are not touched. A step is listed exactly if there are line results and a limit with which plan_trial enters it. So a contact leads on by each of its
+ * exits, and all other steps by the answered exit alone. A step that stands only behind another exit of step 0, of a message or of a wait is in use and
+ * not listed. Every trial starts at step 0, and none enters it. The buffer must have at least PLAN_STEPS_ROOM bytes, whatever the table, even where
+ * nobody can be rung.
+ * first: steps listed, and so bytes written; second: those of them that are contacts. Refusals, in order: 1, 11. */
+plan_reply plan_rung(const plan_table *t, uint8_t *buffer, size_t length);
 
 /* The length of the table's image: 42 bytes and 22 for each step in use. Refusal: 1. */
 plan_write_reply plan_image_length(const plan_table *t);

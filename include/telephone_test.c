@@ -1,8 +1,8 @@
 /* Links libtelephone.a and tries each call from C, or from C++: edition, names and words, the worked examples P1 to P10, every refusal of every call,
  * cabins with their guarantees and limits, images of both editions and their conversions, contacts of both editions, squeezes, trials, clearings
- * taken back, told beforehand and made in either order, the case of `keys`, sixteen cabins on one line, fields that all differ, lengths past 16 bits,
- * damaged images and slips, and bytes that are no sound table. A table or a dispatcher is lent with bytes around it, which have to stay; a refused call
- * has to leave every byte. Prints a line for each case that fails, and 'N passed, M failed' last. */
+ * taken back, told beforehand and made in either order, the steps that some trial enters, the case of `keys`, sixteen cabins on one line, fields that
+ * all differ, lengths past 16 bits, damaged images and slips, and bytes that are no sound table. A table or a dispatcher is lent with bytes around it,
+ * which have to stay; a refused call has to leave every byte. Prints a line for each case that fails, and 'N passed, M failed' last. */
 #include "telephone.h"
 #include <stdio.h>
 #include <string.h>
@@ -96,7 +96,8 @@ static void names(void) {
     expect(PLAN_ANSWERED == 0 && PLAN_ENGAGED == 1 && PLAN_NO_REPLY == 2 && PLAN_LINE_FAULT == 3, "exits");
     expect(PLAN_OPEN == 0 && PLAN_SPENT == 1 && PLAN_STOPPED == 2, "endings");
     expect(PLAN_PLACES == 128 && PLAN_EXITS == 4 && PLAN_CABINS == 8 && PLAN_LINE_CABINS == 16, "numbers of places, exits and cabins");
-    expect(PLAN_IMAGE_MAX == 42 + 22 * PLAN_PLACES && PLAN_SLIP_MAX == 6 + 44 * PLAN_PLACES && PLAN_PREVIEW_ROOM == PLAN_PLACES - 1, "sizes");
+    expect(PLAN_IMAGE_MAX == 42 + 22 * PLAN_PLACES && PLAN_SLIP_MAX == 6 + 44 * PLAN_PLACES, "sizes");
+    expect(PLAN_STEPS_ROOM == PLAN_PLACES - 1 && PLAN_PREVIEW_ROOM == PLAN_STEPS_ROOM, "room for the numbers of steps, by both names");
 }
 
 static void edits(void) {
@@ -589,6 +590,8 @@ static int leaves_every_byte(lent *m, const uint16_t a[4], const uint8_t *line) 
     memset(lent_bytes, UNTOUCHED, room);
     if (plan_preview_clear(t, a[0], a[1], lent_bytes, a[2] < room ? a[2] : room).refusal) all = all && all_untouched(lent_bytes, room);
     memset(lent_bytes, UNTOUCHED, room);
+    if (plan_rung(t, lent_bytes, a[2] < room ? a[2] : room).refusal) all = all && all_untouched(lent_bytes, room);
+    memset(lent_bytes, UNTOUCHED, room);
     if (plan_trial(t, a[3], results, 2, lent_bytes, a[2] < room ? a[2] : room).refusal) all = all && all_untouched(lent_bytes, room);
     memset(lent_bytes, UNTOUCHED, room);
     if (plan_write_image(t, lent_bytes, a[3] < room ? a[3] : room).refusal) all = all && all_untouched(lent_bytes, room);
@@ -1075,15 +1078,20 @@ static size_t slip_of(const plan_table *before, const plan_table *after, uint16_
     return 6 + 44 * (size_t)head[2];
 }
 
-/* A clearing with a slip, or its preview. */
-typedef plan_reply clearing(plan_table *t, uint16_t step, uint16_t exit, uint8_t *buffer, size_t length);
+/* A call that is lent a table and a buffer: a clearing with a slip, its preview, or plan_rung, which takes no exit. */
+typedef plan_reply with_buffer(plan_table *t, uint16_t step, uint16_t exit, uint8_t *buffer, size_t length);
 
 static plan_reply preview(plan_table *t, uint16_t step, uint16_t exit, uint8_t *buffer, size_t length) {
     return plan_preview_clear(t, step, exit, buffer, length);
 }
 
+static plan_reply rung(plan_table *t, uint16_t step, uint16_t exit, uint8_t *buffer, size_t length) {
+    (void)step, (void)exit;
+    return plan_rung(t, buffer, length);
+}
+
 /* Whether such a call is refused so, and changes no byte. */
-static int not_made(clearing *call, lent *m, uint16_t step, uint16_t exit, size_t room, int refusal) {
+static int not_made(with_buffer *call, lent *m, uint16_t step, uint16_t exit, size_t room, int refusal) {
     static uint8_t buffer[PLAN_SLIP_MAX + EDGE];
     const lent was = *m;
     memset(buffer, UNTOUCHED, sizeof buffer);
@@ -1209,7 +1217,7 @@ static void regrets(void) {
     expect(gave(plan_clear_with_slip(t, 0, 0, slip, LENGTH), 0, 2, 2) && word(slip + 4) == 3, "a clearing that frees two steps");
     const lent cleared = m;
     expect(plan_read(t, 3).refusal == 0 && plan_trial(t, 9, slip, 0, bytes, 9).refusal == 0 && gave(plan_counts(t), 0, 2, 6), "calls that read");
-    expect(gave(plan_preview_clear(t, 0, 3, bytes, PLAN_PREVIEW_ROOM), 0, 1, 1) && bytes[0] == 3, "a preview of another clearing");
+    expect(gave(plan_preview_clear(t, 0, 3, bytes, PLAN_STEPS_ROOM), 0, 1, 1) && bytes[0] == 3, "a preview of another clearing");
     expect(plan_write_image(t, bytes, sizeof bytes).length == 42 + 2 * 22 && plan_key_line(t, (const uint8_t *)"H*4A", 4).refusal == 0, "and write");
     REFUSED(3, m, plan_add(t, 1, 0, PLAN_CONTACT, 0, 0));
     REFUSED(6, m, plan_clear(t, 0, 0));
@@ -1470,23 +1478,30 @@ static int gone(const plan_table *before, const plan_table *after, uint8_t *step
     return many;
 }
 
-/* Whether a preview answers so, writes these steps and no byte more, and leaves every byte of the table: into a buffer that is just long enough, and
- * longer ones, of which one has 126 bytes in 16 bits; 126 bytes, or none, are refused. Then whether the clearing answers so and frees these steps. */
-static int foretold(lent *m, uint16_t step, uint16_t exit, int doubtful, int freed, const uint8_t *steps) {
+/* Whether a call answers so, writes these steps and no byte more, and leaves every byte of the table: into a buffer that is just long enough, and
+ * longer ones, of which one has 126 bytes in 16 bits; 126 bytes, or none, are refused. */
+static int lists_steps(with_buffer *call, lent *m, uint16_t step, uint16_t exit, int first, int second, const uint8_t *steps, int many) {
     static const size_t rooms[5] = {127, 128, 65535, 65536, 65536 + 126};
     static uint8_t around[EDGE + 65536 + 126 + EDGE];
     const lent was = *m;
-    lent cleared = *m;
-    uint8_t went[PLAN_PLACES], *written = around + EDGE;
-    const size_t many = (size_t)freed;
-    int all = not_previewed(m, step, exit, 126, PLAN_TOO_SHORT) && not_previewed(m, step, exit, 0, PLAN_TOO_SHORT);
+    const size_t length = (size_t)many;
+    uint8_t *written = around + EDGE;
+    int all = not_made(call, m, step, exit, 126, PLAN_TOO_SHORT) && not_made(call, m, step, exit, 0, PLAN_TOO_SHORT);
     for (int i = 0; i < 5; i++) {
         memset(around, UNTOUCHED, sizeof around);
-        all = all && gave(plan_preview_clear(&m->table, step, exit, written, rooms[i]), 0, doubtful, freed) && memcmp(m, &was, sizeof was) == 0;
-        all = all && all_untouched(around, EDGE) && memcmp(written, steps, many) == 0 && all_untouched(written + many, sizeof around - EDGE - many);
+        all = all && gave(call(&m->table, step, exit, written, rooms[i]), 0, first, second) && memcmp(m, &was, sizeof was) == 0;
+        all = all && all_untouched(around, EDGE) && memcmp(written, steps, length) == 0 && all_untouched(written + length, sizeof around - EDGE - length);
     }
+    return all;
+}
+
+/* Whether a preview answers so and writes these steps, and then whether the clearing answers so and frees these steps. */
+static int foretold(lent *m, uint16_t step, uint16_t exit, int doubtful, int freed, const uint8_t *steps) {
+    lent cleared = *m;
+    uint8_t went[PLAN_PLACES];
+    int all = lists_steps(preview, m, step, exit, doubtful, freed, steps, freed);
     all = all && gave(plan_clear(&cleared.table, step, exit), 0, doubtful, freed);
-    return all && gone(&was.table, &cleared.table, went) == freed && memcmp(went, steps, many) == 0;
+    return all && gone(&m->table, &cleared.table, went) == freed && memcmp(went, steps, (size_t)freed) == 0;
 }
 
 /* What a clearing would free (W8): P1, P5, P6, P8 and P9, rings, steps that a weak link keeps, chains against the order of numbers, all steps. */
@@ -1560,7 +1575,7 @@ static void every_exit(void) {
             expect(foretold(&m, step, exit, r.first, gone(&m.table, &u, steps), steps), "all fields of step 2 different, told beforehand");
         } else {
             expect(not_cleared(&m, step, exit, r.refusal == 3 ? PLAN_SLIP_MAX : 0, r.refusal), "an exit that cannot be cleared");
-            expect(not_previewed(&m, step, exit, r.refusal == 3 ? PLAN_PREVIEW_ROOM : 0, r.refusal), "nor its clearing be told");
+            expect(not_previewed(&m, step, exit, r.refusal == 3 ? PLAN_STEPS_ROOM : 0, r.refusal), "nor its clearing be told");
         }
     }
 }
@@ -1648,6 +1663,121 @@ static void either_order(void) {
         expect(all, "two clearings in either order");
     }
     expect(others == 6 && others_refused == 1, "tables of one plan that differ");
+}
+
+/* Whether plan_rung lists these steps, so many of them contacts. */
+static int rings(lent *m, int many, int contacts, const uint8_t *steps) {
+    return lists_steps(rung, m, 0, 0, many, contacts, steps, many);
+}
+
+/* Whether plan_rung lists just the steps that trials of a small table enter, with all results that there are. So many results and moves are enough: a
+ * step that some trial enters is entered on a way that meets no step twice. */
+static int rings_as_tried(lent *m) {
+    const uint16_t in_use = plan_counts(&m->table).first;
+    uint8_t results[PLAN_PLACES], trace[PLAN_PLACES], steps[PLAN_PLACES], entered[PLAN_PLACES] = {0};
+    int many = 0, contacts = 0;
+    for (long i = 0; i < 1L << (2 * (in_use - 1)); i++) {
+        for (int k = 0; k < in_use - 1; k++) results[k] = (uint8_t)((i >> (2 * k)) % 4);
+        const plan_trial_reply r = plan_trial(&m->table, in_use, results, (size_t)in_use - 1, trace, in_use);
+        for (int k = 0; k < r.moves; k++) entered[trace[k]] = 1;
+    }
+    for (int i = 0; i < PLAN_PLACES; i++) {
+        if (entered[i]) steps[many++] = (uint8_t)i, contacts += m->table.kinds[i] == PLAN_CONTACT;
+    }
+    return rings(m, many, contacts, steps);
+}
+
+/* The steps that some trial enters: of each kind behind each exit, of rings, against the order of numbers, all steps, and after a squeeze. */
+static void rungs(void) {
+    static const uint8_t one_two_four[3] = {1, 2, 4}, one_three[2] = {1, 3};
+    static const uint16_t contents[4] = {0, 999, 15, 600};
+    uint8_t all_steps[127];
+    lent m = f4();
+    plan_table *t = &m.table;
+    for (int i = 0; i < 127; i++) all_steps[i] = (uint8_t)(i + 1);
+    expect(rings(&m, 0, 0, all_steps) && rings_as_tried(&m), "F4, nobody can be rung");
+    for (uint16_t i = 0; i < 4 * 3 * 4; i++) {
+        /* a step of each kind at an exit of step 0, and a contact at an exit of it */
+        const uint16_t first = i / 12, kind = i / 4 % 3 + 1, exit = i % 4;
+        const int goes_on = kind == PLAN_CONTACT || exit == PLAN_ANSWERED;
+        const int many = first ? 0 : 1 + goes_on, contacts = first ? 0 : goes_on + (kind == PLAN_CONTACT);
+        fresh(t, 3);
+        plan_add(t, 0, first, kind, contents[kind], 0);
+        plan_add(t, 1, exit, PLAN_CONTACT, 0, 0);
+        expect(rings(&m, many, contacts, all_steps), "a contact behind each exit of each kind");
+        expect(rings_as_tried(&m), "as trials enter them");
+        /* the contact leads back, and step 0 to it by an exit that it never takes */
+        plan_link(t, 0, first, 2, PLAN_LINE_FAULT);
+        plan_link(t, 1, exit, 0, first == PLAN_LINE_FAULT ? PLAN_NO_REPLY : PLAN_LINE_FAULT);
+        expect(rings(&m, many, contacts, all_steps), "a ring changes nothing");
+    }
+    m = p1();
+    plan_link(t, 0, PLAN_ANSWERED, 1, PLAN_ANSWERED);
+    expect(rings(&m, 1, 1, all_steps), "a step linked to itself");
+    for (int i = 0; i < 3; i++) {
+        m.table = different(patterns[i]);
+        expect(rings(&m, 3, 1, one_two_four) && rings_as_tried(&m), "all fields of step 2 different");
+    }
+    m = two_ways();
+    expect(rings(&m, 3, 2, all_steps), "two ways to each of two steps");
+    for (uint16_t i = 0; i < 5 * 4; i++) {
+        m = two_ways();
+        plan_clear(t, i / 4, i % 4);
+        expect(rings_as_tried(&m), "and with an exit of it cleared");
+    }
+    /* 0 to 3 to 1, and 0 to 2, of messages; then squeezed, where 3 becomes 2 */
+    fresh(t, 4);
+    for (uint16_t exit = 0; exit < 3; exit++) plan_add(t, 0, exit, PLAN_MESSAGE, 1, 0);
+    plan_link(t, 0, PLAN_ANSWERED, 3, PLAN_ANSWERED);
+    plan_clear(t, 0, PLAN_ANSWERED);
+    plan_link(t, 0, PLAN_NO_REPLY, 0, PLAN_ANSWERED);
+    expect(rings(&m, 2, 0, one_three), "3 leads to 1, and 2 is not entered");
+    plan_clear(t, 0, PLAN_ENGAGED);
+    expect(gave(squeeze(t, 3), 0, 0, 0) && rings(&m, 2, 0, all_steps), "under their new numbers");
+    for (uint16_t kind = 1; kind < 4; kind++) {
+        const int contact = kind == PLAN_CONTACT;
+        fresh(t, 128);
+        for (uint16_t step = 0; step < 127; step++) plan_add(t, step, contact ? step % 4 : PLAN_ANSWERED, kind, 1, 0);
+        expect(rings(&m, 127, contact ? 127 : 0, all_steps), "128 steps, all but step 0 entered");
+        plan_link(t, 63, contact ? 3 : 0, 0, PLAN_ENGAGED);
+        plan_clear(t, 63, contact ? 3 : 0);
+        expect(gave(plan_counts(t), 0, 128, 0) && rings(&m, 63, contact ? 63 : 0, all_steps), "128 steps, half of them held and not entered");
+    }
+    expect(edges_stand(&m), "after the steps entered");
+}
+
+/* The caretaker's plan: a message, contact 42, and on no reply the primary and nine more contacts in a chain. The alarm's engaged exit leads to the
+ * primary too. Without contact 42's exit for no reply the ten are still in use, and no trial enters them. */
+static void caretaker(void) {
+    static const uint8_t steps[12] = {1, 2, 3, 4, 5, 6, 7, 8, 9, 10, 11, 12};
+    static const uint8_t no_reply[11] = {2, 2, 2, 2, 2, 2, 2, 2, 2, 2, 2};
+    lent m = f4();
+    plan_table *t = &m.table;
+    fresh(t, 33);
+    plan_add(t, 0, PLAN_ANSWERED, PLAN_MESSAGE, 3, 0);
+    plan_add(t, 1, PLAN_ANSWERED, PLAN_CONTACT, 42, 0);
+    for (uint16_t step = 2; step < 12; step++) plan_add(t, step, PLAN_NO_REPLY, PLAN_CONTACT, (uint16_t)(step - 2), 0);
+    plan_link(t, 2, PLAN_NO_REPLY, 0, PLAN_ENGAGED);
+    expect(t->contents[3] == 0 && rings(&m, 12, 11, steps), "the caretaker's plan: all are entered");
+    expect(tried(t, 12, no_reply, 10, PLAN_SPENT, steps, 12), "the last contact, where ten give no reply");
+    expect(foretold(&m, 2, PLAN_NO_REPLY, 10, 0, steps) && gave(plan_clear(t, 2, PLAN_NO_REPLY), 0, 10, 0), "no step goes");
+    expect(gave(plan_counts(t), 0, 13, 20) && rings(&m, 2, 1, steps), "and ten contacts are never rung");
+    for (uint8_t result = 0; result < 4; result++) expect(tried(t, 12, &result, 1, PLAN_OPEN, steps, 2), "whatever the line result");
+    plan_link(t, 0, PLAN_ENGAGED, 2, PLAN_LINE_FAULT);
+    expect(rings(&m, 12, 11, steps) && edges_stand(&m), "another exit of contact 42 rings them again");
+}
+
+/* Refusals of plan_rung: 1 before 11, whatever the table. */
+static void rungs_refused(void) {
+    static const size_t rooms[4] = {0, 1, 126, 127};
+    lent m = p1(), out = m, one = f4();
+    out.table.last = 4;
+    fresh(&one.table, 1);
+    for (int i = 0; i < 4; i++) expect(not_made(rung, &out, 0, 0, rooms[i], PLAN_NOT_SOUND), "steps entered of a table that is not sound");
+    for (int i = 0; i < 3; i++) {
+        expect(not_made(rung, &m, 0, 0, rooms[i], PLAN_TOO_SHORT), "a short buffer, where one step is entered");
+        expect(not_made(rung, &one, 0, 0, rooms[i], PLAN_TOO_SHORT), "a short buffer, where there is no step to enter");
+    }
 }
 
 static void keys(void) {
@@ -1903,6 +2033,9 @@ int main(void) {
     every_exit();
     previews_refused();
     either_order();
+    rungs();
+    caretaker();
+    rungs_refused();
     keys();
     lines();
     alarms();

@@ -9,7 +9,7 @@ fail() {
     exit 2
 }
 
-# print TEXT: prints a page of help, and ends the script
+# print TEXT: prints all that the script says, as a page of help, and ends the script
 print() {
     printf '%s\n' "$1" 2>/dev/null || fail "standard output could not be written"
     exit 0

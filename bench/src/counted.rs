@@ -6,6 +6,8 @@ use telephone::raw::{Quotas, Table};
 const PLACES: usize = 128;
 const EXITS: usize = 4;
 const CABINS: u16 = 8;
+/// The kind of a contact.
+const CONTACT: u16 = 1;
 
 /// Whether a table is sound.
 pub fn sound(t: &Table) -> bool {
@@ -188,8 +190,35 @@ pub fn preview(t: &Table, step: u16, exit: u16, buffer: &mut [u8]) -> Result<(u1
         return Err(11);
     }
     let (doubts, freed) = unlink(&mut t.clone(), at);
-    buffer.iter_mut().zip(members(freed)).for_each(|(byte, step)| *byte = step as u8);
+    list(freed, buffer);
     Ok((doubts, freed.count_ones() as u16))
+}
+
+/// How many steps some trial enters, and how many of these are contacts; writes their numbers.
+#[inline(never)]
+pub fn rung(t: &Table, buffer: &mut [u8]) -> Result<(u16, u16), u16> {
+    if !sound(t) {
+        return Err(1);
+    }
+    if buffer.len() < PLACES - 1 {
+        return Err(11);
+    }
+    let (mut entered, mut contacts) = (0u128, 0);
+    let mut wanted = leads_by(t, 0, 1);
+    while wanted != 0 {
+        let step = wanted.trailing_zeros() as usize;
+        let is_contact = t.kinds[step] == CONTACT;
+        contacts += u16::from(is_contact);
+        entered |= 1 << step;
+        wanted = (wanted | leads_by(t, step, if is_contact { EXITS } else { 1 })) & !entered;
+    }
+    list(entered, buffer);
+    Ok((entered.count_ones() as u16, contacts))
+}
+
+/// Writes the numbers of the steps, ascending, to the start of a buffer.
+fn list(steps: u128, buffer: &mut [u8]) {
+    buffer.iter_mut().zip(members(steps)).for_each(|(byte, step)| *byte = step as u8);
 }
 
 /// The place of an exit that holds a link, or refusal 3, 4 or 6.
@@ -324,7 +353,13 @@ fn members(mut set: u128) -> impl Iterator<Item = usize> {
 
 /// The steps that the links of a step lead to.
 fn leads_to(t: &Table, step: usize) -> u128 {
-    t.targets[step * EXITS..][..EXITS].iter().fold(0, |set, &target| set | 1 << target) & !1
+    leads_by(t, step, EXITS)
+}
+
+/// The same by its first exits, so many.
+#[inline(always)]
+fn leads_by(t: &Table, step: usize, exits: usize) -> u128 {
+    t.targets[step * EXITS..][..exits].iter().fold(0, |set, &target| set | 1 << target) & !1
 }
 
 /// Rule 4: the links of the steps leave the counters, and their records become zero.

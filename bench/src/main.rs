@@ -1,7 +1,7 @@
 //! Prints the numbers: times as median and best of many passes, all measured in this process but those of the program `keys`, then stack and size.
 //! (a) is the proved library through its interface, (b) `counted`, (c) `marked`, (d) `tuned`, `convert` and `slip`. Before anything is timed, (b), (c) and
-//! (d) are held to (a) after every edit, the soundness tests of (b) and (d) on damaged tables, their previews, and the trials, conversions and slips of
-//! (d). With the word `edits`, it prints the edits that `versions` reads, and nothing else.
+//! (d) are held to (a) after every edit and in who can be rung, the soundness tests of (b) and (d) on damaged tables, their previews, and the trials,
+//! conversions and slips of (d). With the word `edits`, it prints the edits that `versions` reads, and nothing else.
 
 mod clock;
 mod convert;
@@ -17,7 +17,7 @@ use compare::{kept, lend, lend_list, ring, rounds, words, WORDS};
 use reference::cabins::{list, one_cabin};
 use reference::calls::Command;
 use reference::convert::Way;
-use reference::generate::{key_text, Random};
+use reference::generate::{caretakers_plan, key_text, Random};
 use reference::history::Call;
 use reference::image::{encode, in_edition_1, records};
 use reference::plan::Plan;
@@ -581,8 +581,8 @@ fn previewed(table: &Table, step: u16, exit: u16, room: usize) -> Answer {
 
 /// Asking what clearing exit 0 of step 0 would free, by (a), (b) and (d). It has to give these counts. Gives the times of (a).
 fn preview_row(name: &str, table: &Table, counts: (u16, u16)) -> Times {
-    assert_eq!(previewed(table, 0, 0, telephone::PREVIEW_ROOM), Ok(counts), "{name}");
-    let mut a = [0; telephone::PREVIEW_ROOM];
+    assert_eq!(previewed(table, 0, 0, telephone::STEPS_ROOM), Ok(counts), "{name}");
+    let mut a = [0; telephone::STEPS_ROOM];
     let (mut b, mut d) = (a, a);
     let times = passes(
         500,
@@ -600,6 +600,47 @@ fn preview_row(name: &str, table: &Table, counts: (u16, u16)) -> Times {
     );
     row(name, &times);
     times[0].clone()
+}
+
+/// Asks by all four who can be rung, and holds the answer and the buffer to those of (a). Gives the answer. (c) makes no soundness test, so it is left out
+/// where (a) says that the table is not sound.
+fn told_rung(table: &Table, room: usize) -> Answer {
+    let mut a = vec![0xEE; room];
+    let (mut b, mut c, mut d) = (a.clone(), a.clone(), a.clone());
+    let reply = answer(raw::rung(table, &mut a));
+    assert_eq!(counted::rung(table, &mut b), reply, "(b) differs");
+    assert_eq!(tuned::rung(table, &mut d), reply, "(d) differs");
+    if reply != Err(1) {
+        assert_eq!(marked::Plan::of(table).rung(&mut c), reply, "(c) differs");
+    }
+    assert!(a == b && a == c && a == d, "(b), (c) or (d) has other bytes");
+    reply
+}
+
+/// Asking who can be rung, by all four. It has to give these counts.
+fn rung_row(name: &str, table: &Table, counts: (u16, u16)) {
+    assert_eq!(told_rung(table, telephone::STEPS_ROOM), Ok(counts), "{name}");
+    let plan = marked::Plan::of(table);
+    let mut a = [0; telephone::STEPS_ROOM];
+    let (mut b, mut c, mut d) = (a, a, a);
+    let times = passes(
+        500,
+        [
+            &mut || {
+                black_box(answer(raw::rung(black_box(table), &mut a))).unwrap();
+            },
+            &mut || {
+                black_box(counted::rung(black_box(table), &mut b)).unwrap();
+            },
+            &mut || {
+                black_box(black_box(&plan).rung(&mut c)).unwrap();
+            },
+            &mut || {
+                black_box(tuned::rung(black_box(table), &mut d)).unwrap();
+            },
+        ],
+    );
+    row(name, &times);
 }
 
 /// A conversion by (a).
@@ -844,6 +885,12 @@ fn print_numbers() {
         "Telling that 127 steps would be freed takes (a) {:.2} times copying the table and clearing.",
         preview.median() / clearing.median()
     );
+
+    head("Who can be rung", &programs);
+    rung_row("127 contacts, no exit empty", &taken_back[3].1, (127, 127));
+    rung_row("127 contacts in a chain", &freed, (127, 127));
+    rung_row("127 waits in a ring", &lend(&ring(&[WAIT; 127])), (127, 0));
+    rung_row("the plan of a caretaker, 12 steps", &lend(&caretakers_plan()), (12, 11));
 
     head("Copying a table and squeezing it", &programs);
     squeeze_row("64 of 128 steps in use, spread", &chain((2..128).step_by(2), Chain::Dense));
@@ -1115,6 +1162,42 @@ mod tests {
             assert!(found[refusal] > 20, "{found:?}");
         }
         assert!(freed.into_iter().all(|number| number > 1000), "{freed:?}");
+    }
+
+    /// Who can be rung in generated tables and histories, in damaged tables and in those that are timed, with all sorts of buffers.
+    #[test]
+    fn rungs_agree() {
+        let mut found = Refusals::default();
+        let mut counts = [0; 3];
+        let mut note = |table: &Table, room| {
+            let reply = told_rung(table, room);
+            found[usize::from(reply.err().unwrap_or(0))] += 1;
+            let (steps, contacts) = reply.unwrap_or_default();
+            counts[0] += usize::from(steps > 0);
+            counts[1] += usize::from(contacts < steps);
+            counts[2] += usize::from(reply.is_ok() && steps + 1 < table.used.iter().sum());
+        };
+        let mut random = Random(10);
+        for (calls, mut table) in histories() {
+            for (lent, call) in calls.iter().step_by(4) {
+                let buffer = if let Call::Rung { buffer } = call { *buffer } else { 127 };
+                note(lent, buffer);
+            }
+            random.damage(&mut table);
+            for room in [126, 127, 128] {
+                note(&lend(&table), room);
+            }
+        }
+        for how in [Chain::Free, Chain::Held, Chain::Dense] {
+            note(&chain(zigzag(), how), 127);
+        }
+        for table in [ring(&[WAIT; 127]), caretakers_plan(), fresh_for_cabin_0(1)] {
+            (0..=140).for_each(|room| note(&lend(&table), room));
+        }
+        for refusal in [0, 1, 11] {
+            assert!(found[refusal] > 20, "{found:?}");
+        }
+        assert!(counts.into_iter().all(|number| number > 1000), "{counts:?}");
     }
 
     /// Every chain that is timed, cleared once by all four.

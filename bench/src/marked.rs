@@ -1,5 +1,6 @@
 //! (c) The plain plan in Rust, with no bits and no counters: after each clearing, what step 0 reaches is marked and the rest is taken out.
 //! It has no table that could be unsound, so it makes no soundness test; it cannot answer the doubtful count. Beside the plan it keeps the charges.
+//! Who can be rung is marked too, by the exits that a trial takes.
 
 use crate::quotas::{refuse_list, refuse_step, Charges};
 use telephone::raw::{Quotas, Table};
@@ -136,12 +137,24 @@ impl Plan {
             return Err(6);
         }
         *emptied = 0;
+        let marked = self.marked(|_| 4);
+        let freed = self.used & !marked;
+        let gone = self.charged(freed);
+        self.charges.iter_mut().zip(gone).for_each(|(charge, gone)| *charge -= gone);
+        self.used = marked;
+        Ok(freed.count_ones() as u16)
+    }
+
+    /// Step 0 and what it reaches, where of each step so many exits count, by its kind.
+    #[inline(always)]
+    fn marked(&self, exits: impl Fn(u16) -> usize) -> u128 {
         let mut marked = 1u128;
         let mut waiting = [0u8; 128];
         let mut end = 1;
         while end > 0 {
             end -= 1;
-            for target in self.targets[usize::from(waiting[end])] {
+            let step = usize::from(waiting[end]);
+            for &target in &self.targets[step][..exits(self.kinds[step])] {
                 if target != 0 && marked >> target & 1 == 0 {
                     marked |= 1 << target;
                     waiting[end] = target;
@@ -149,11 +162,23 @@ impl Plan {
                 }
             }
         }
-        let freed = self.used & !marked;
-        let gone = self.charged(freed);
-        self.charges.iter_mut().zip(gone).for_each(|(charge, gone)| *charge -= gone);
-        self.used = marked;
-        Ok(freed.count_ones() as u16)
+        marked
+    }
+
+    /// How many steps some trial enters, and how many of these are contacts; writes their numbers.
+    #[inline(never)]
+    pub fn rung(&self, buffer: &mut [u8]) -> Result<(u16, u16), u16> {
+        if buffer.len() < 127 {
+            return Err(11);
+        }
+        let mut rest = self.marked(|kind| if kind == 1 { 4 } else { 1 }) & !1;
+        let (steps, mut contacts) = (rest.count_ones() as u16, 0);
+        for byte in &mut buffer[..usize::from(steps)] {
+            *byte = rest.trailing_zeros() as u8;
+            contacts += u16::from(self.kinds[usize::from(*byte)] == 1);
+            rest &= rest - 1;
+        }
+        Ok((steps, contacts))
     }
 
     #[inline(never)]

@@ -268,8 +268,53 @@ pub fn preview(t: &Table, step: u16, exit: u16, buffer: &mut [u8]) -> Result<(u1
     };
     let (doubtful, held) = without(t, at);
     let lost = unheld(t, doubtful, held);
+    list(lost, room);
+    Ok((doubtful.count_ones() as u16, lost.count_ones() as u16))
+}
+
+/// How many steps some trial enters, and how many of these are contacts; writes their numbers. Whether a step was met is kept as a byte, which is read
+/// for every exit; the set of the steps is written once for each of them.
+#[inline(never)]
+pub fn rung(t: &Table, buffer: &mut [u8]) -> Result<(u16, u16), u16> {
+    if !sound(t) {
+        return Err(1);
+    }
+    let Some(room) = buffer.get_mut(..PLACES - 1) else {
+        return Err(11);
+    };
+    let (targets, _) = t.targets.as_chunks::<EXITS>();
+    let mut stack = [0u8; PLACES];
+    let (mut next, mut height) = (usize::from(targets[0][0]) % PLACES, 1);
+    let mut met = [false; PLACES];
+    // step 0, which an empty exit leads to, is never entered
+    (met[0], met[next]) = (true, true);
+    let (mut entered, mut contacts) = (0, 0);
+    while next != 0 {
+        let step = next % PLACES;
+        entered |= one(step);
+        height -= 1;
+        next = stack[height % PLACES].into();
+        let is_contact = t.kinds[step] == CONTACT;
+        contacts += u16::from(is_contact);
+        for &target in &targets[step][..if is_contact { EXITS } else { 1 }] {
+            let target = usize::from(target) % PLACES;
+            if !met[target] {
+                met[target] = true;
+                stack[height % PLACES] = next as u8;
+                height += 1;
+                next = target;
+            }
+        }
+    }
+    list(entered, room);
+    Ok((entered.count_ones() as u16, contacts))
+}
+
+/// Writes the numbers of the steps, ascending, to the start of a buffer that has room for them.
+#[inline(always)]
+fn list(steps: u128, room: &mut [u8]) {
     let mut room = room.iter_mut();
-    for (half, first) in [(lost as u64, 0), ((lost >> 64) as u64, 64)] {
+    for (half, first) in [(steps as u64, 0), ((steps >> 64) as u64, 64)] {
         let mut rest = half;
         while rest != 0 {
             let Some(byte) = room.next() else { break };
@@ -277,7 +322,6 @@ pub fn preview(t: &Table, step: u16, exit: u16, buffer: &mut [u8]) -> Result<(u1
             rest &= rest - 1;
         }
     }
-    Ok((doubtful.count_ones() as u16, lost.count_ones() as u16))
 }
 
 /// The place of an exit that holds a link, or refusal 3, 4 or 6.

@@ -168,6 +168,10 @@ pub fn call(table: &mut raw::Table, call: &Call) -> Outcome {
                 with_buffer(*buffer, |buffer| raw::preview_clear(table, *step, *exit, buffer));
             Outcome { lent, ..two(reply) }
         }
+        Call::Rung { buffer } => {
+            let (reply, lent) = with_buffer(*buffer, |buffer| raw::rung(table, buffer));
+            Outcome { lent, ..two(reply) }
+        }
         Call::Squeeze { capacity, quotas } => {
             two(with_list(quotas, |quotas| raw::squeeze(table, *capacity, quotas)))
         }
@@ -360,10 +364,10 @@ pub fn both_and_plan(table: &mut Table, call: &Call) -> Outcome {
     if sound(&before) {
         let mut plan = plan_of(&before);
         let said = plan.draw(call, call.told(outcome.refusal));
-        assert!(agrees(&outcome, said), "{call:?}: {outcome:?}, plan: {said:?}");
+        assert!(agrees(&outcome, &said), "{call:?}: {outcome:?}, plan: {said:?}");
         assert!(plan_of(table) == plan, "{call:?}: another plan");
     } else {
-        assert!(agrees(&outcome, Err(1)) && *table == before, "{call:?}: {outcome:?}");
+        assert!(agrees(&outcome, &Err(1)) && *table == before, "{call:?}: {outcome:?}");
     }
     outcome
 }
@@ -390,6 +394,25 @@ pub fn any_exit(buffers: &[usize], call: impl Fn(u16, u16, usize) -> Call) {
     }
 }
 
+/// Looks at tables with these seeds, damaged in one field or two, and whether each is sound. Many are not, and many are.
+pub fn damaged_tables(seeds: Range<u64>, mut look: impl FnMut(&Table, bool)) {
+    let mut random = Random(seeds.start);
+    let mut found = [0; 2];
+    for seed in seeds {
+        let table = Random(seed).sound_table();
+        for _ in 0..20 {
+            let mut damaged = table.clone();
+            for _ in 0..1 + random.below(2) {
+                random.damage(&mut damaged);
+            }
+            let is_sound = sound(&damaged);
+            found[usize::from(is_sound)] += 1;
+            look(&damaged, is_sound);
+        }
+    }
+    assert!(found[0] > 1000 && found[1] > 100, "{found:?}");
+}
+
 /// Each kind from 0 to 4 with each content.
 pub fn every_content() -> impl Iterator<Item = (u16, u16)> {
     (0..5).flat_map(|kind| (0..=u16::MAX).map(move |content| (kind, content)))
@@ -407,6 +430,21 @@ pub fn two_steps(kind: u16, content: u16) -> Table {
 pub fn has_larger_contact(table: &Table) -> bool {
     table.kinds.iter().zip(&table.contents).any(|(&kind, &content)| kind == 1 && content > 99)
 }
+
+/// A ring of contacts 1 and 2 which step 0 leads to by exit 0. It stands in memory that can only be read: a write to it, even one that is taken back
+/// before the call ends, ends the test program.
+pub static RING: raw::Table = {
+    let mut table = raw::Table::ZERO;
+    (table.capacity, table.last) = (3, 2);
+    (table.used[0], table.used[1], table.used[2]) = (1, 1, 1);
+    (table.kinds[1], table.kinds[2]) = (1, 1);
+    // 0 leads to 1 and 1 to 2, both strong, and 2 back to 1, weak
+    (table.targets[0], table.targets[4], table.targets[8]) = (1, 2, 1);
+    table.bits[8] = 1;
+    (table.counts[2], table.counts[3], table.counts[4]) = (1, 1, 1);
+    (table.quotas[0].guarantee, table.quotas[0].limit) = (2, 2);
+    table
+};
 
 /// The first word in which two tables differ.
 pub fn difference(proved: &Table, second: &Table) -> String {
@@ -465,14 +503,26 @@ pub fn ring(kinds: &[u16]) -> Table {
     table
 }
 
-/// So many results that go round in that ring; none where it has no contact.
+/// A ring of 127 contacts in which every exit holds a link.
+pub fn full_ring() -> Table {
+    let mut table = ring(&[CONTACT; 127]);
+    let filled = table.filled();
+    let exits = (0..128).flat_map(|step| (0..4).map(move |exit| (step, exit)));
+    let empty = exits.filter(|exit| !filled.contains(exit));
+    for ((step, exit), (source, from)) in empty.zip(filled.iter().cycle().step_by(37)) {
+        assert_eq!(link(&mut table, *source, *from, step, exit).refusal, 0);
+    }
+    table
+}
+
+/// So many results that go round in a ring of these kinds; none where it has no contact.
 pub fn rounds(kinds: &[u16], results: usize) -> Vec<u8> {
     let round: Vec<(&u16, u16)> = kinds.iter().zip(exits(kinds)).collect();
     let contacts = round.iter().filter(|(&kind, _)| kind == CONTACT);
     contacts.map(|(_, exit)| *exit as u8).cycle().take(results).collect()
 }
 
-/// The exits by which the steps of that ring lead on.
+/// The exits by which the steps of such a ring lead on.
 fn exits(kinds: &[u16]) -> impl Iterator<Item = u16> + '_ {
     (1..).zip(kinds).map(|(step, &kind)| if kind == CONTACT { step % 4 } else { 0 })
 }

@@ -40,7 +40,7 @@ fn fresh_as_said(capacity: u16, quotas: Quotas) -> u16 {
     let (pair, compared) = Pair::begin(&start, Fault::None);
     let outcome = compared.unwrap();
     let (plan, said) = Plan::begin(&start, true);
-    assert!(agrees(&outcome, said), "{start:?}: {outcome:?}, plan: {said:?}");
+    assert!(agrees(&outcome, &said), "{start:?}: {outcome:?}, plan: {said:?}");
     assert!(plan_of(&pair.second) == plan && sound(&pair.second), "{start:?}");
     outcome.refusal
 }

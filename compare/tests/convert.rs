@@ -377,7 +377,7 @@ fn convert_written(table: &Table, seen: &mut Seen) {
 #[test]
 fn images_of_histories() {
     let mut seen = Seen::default();
-    for seed in 0..12 {
+    for seed in 0..18 {
         let mut table = fresh_for_cabin_0(128);
         let mut generator = Generator::new(seed);
         for call in 0..600 {

@@ -8,9 +8,9 @@ use reference::faults::{Fault, Length, Part, Sort};
 use reference::generate::{key_text, start, Generator, Random};
 use reference::history::{run, Call, Start};
 use reference::image::{encode, in_edition_1};
-use reference::preview::PREVIEW_ROOM;
 use reference::slip::{between, LARGEST_SLIP};
 use reference::sound::{ALARM, CONTACT, MESSAGE, WAIT};
+use reference::steps::STEPS_ROOM;
 use reference::table::Table;
 use std::collections::BTreeSet;
 
@@ -64,7 +64,9 @@ fn cases() -> Vec<(Table, Call)> {
         Call::Edit(Command::Count),
         Call::ClearWithSlip { step: 0, exit: 0, buffer: LARGEST_SLIP },
         Call::TakeBack { slip: slip.clone() },
-        Call::PreviewClear { step: 0, exit: 0, buffer: PREVIEW_ROOM },
+        Call::PreviewClear { step: 0, exit: 0, buffer: STEPS_ROOM },
+        Call::Rung { buffer: STEPS_ROOM },
+        Call::Rung { buffer: STEPS_ROOM - 1 },
         Call::Squeeze { capacity: 128, quotas: one_cabin(128) },
         Call::Read { step: 0 },
         Call::Trial { limit: 4, results: vec![0, 1], trace: 4 },
@@ -85,8 +87,9 @@ fn cases() -> Vec<(Table, Call)> {
     }
     cases.push((ring.clone(), Call::Write { buffer: 65_536 }));
     cases.push((ring.clone(), Call::ClearWithSlip { step: 0, exit: 0, buffer: 65_536 }));
-    for buffer in [65_536, 65_536 + PREVIEW_ROOM - 1] {
+    for buffer in [65_536, 65_536 + STEPS_ROOM - 1] {
         cases.push((ring.clone(), Call::PreviewClear { step: 0, exit: 0, buffer }));
+        cases.push((ring.clone(), Call::Rung { buffer }));
     }
     cases.push((cleared, Call::TakeBack { slip: [&slip[..], &vec![0; 65_536]].concat() }));
     let line = [&b"H*4A"[..], &vec![b'0'; 65_536]].concat();
@@ -147,13 +150,13 @@ fn named() -> Vec<(Fault, Found)> {
     use Fault::*;
     use Sort::{
         Add, Clear, ClearWithSlip, ConvertDown, ConvertUp, Count, Fresh, KeyLine, Link, Load,
-        PreviewClear, Read, Squeeze, TakeBack, Trial, Write,
+        PreviewClear, Read, Rung, Squeeze, TakeBack, Trial, Write,
     };
     let added: &[Evidence] = &[Refusal, Number(0), Table];
     let written: &[Evidence] = &[Refusal, Number(0), Lent];
     let loaded = ways(&[Load], &[&[Refusal, Table]]);
     let convert = &[ConvertUp, ConvertDown];
-    let lending = &[ConvertUp, ConvertDown, ClearWithSlip, PreviewClear];
+    let lending = &[ConvertUp, ConvertDown, ClearWithSlip, PreviewClear, Rung];
     // a clearing with a slip made by one program and refused by the other, by what it freed or kept
     let none_doubtful: &[Evidence] = &[Refusal, Lent, Table];
     let all_kept: &[Evidence] = &[Refusal, Number(0), Lent, Table];
@@ -164,6 +167,12 @@ fn named() -> Vec<(Fault, Found)> {
     // the same of a preview, by what it tells of: nothing, doubtful steps that stay, steps that go
     let told: [&[Evidence]; 3] =
         [&[Refusal], &[Refusal, Number(0)], &[Refusal, Number(0), Number(1), Lent]];
+    // the same of who can be rung, by who is listed: nobody, no contact, contacts
+    let listed: [&[Evidence]; 3] =
+        [&[Refusal], &[Refusal, Number(0), Lent], &[Refusal, Number(0), Number(1), Lent]];
+    // other steps listed, with as many contacts or with another number of them
+    let others: [&[Evidence]; 2] = [&[Number(0), Lent], &[Number(0), Number(1), Lent]];
+    let listing = &[PreviewClear, Rung];
     vec![
         (CopyKeepsStrength, ways(&[Link, KeyLine], &[&[Table]])),
         (CounterOffByOne, ways(&[Link, KeyLine], &[&[Table]])),
@@ -235,9 +244,6 @@ fn named() -> Vec<(Fault, Found)> {
         (CabinsNotBack, ways(&[TakeBack], &[&[Table]])),
         (ListedSaidBack, ways(&[TakeBack], &[&[Number(0)]])),
         (DoubtfulListed, ways(&[PreviewClear], &[&[Lent]])),
-        (PreviewDescending, ways(&[PreviewClear], &[&[Lent]])),
-        (NumbersInWords, ways(&[PreviewClear], &[&[Lent]])),
-        (PreviewPadded, ways(&[PreviewClear], &[&[Lent]])),
         (DoubtfulSaidToGo, ways(&[PreviewClear], &[&[Number(1)]])),
         (WeakUnmarked, ways(&[PreviewClear], &[&[Number(1), Lent]])),
         (ExitLeftIn, ways(&[PreviewClear], &[&[Number(0)], &[Number(0), Number(1), Lent]])),
@@ -249,11 +255,29 @@ fn named() -> Vec<(Fault, Found)> {
             ),
         ),
         (PreviewRoomBeforeEmpty, ways(&[PreviewClear], &[&[Refusal]])),
-        (PreviewRoomFirst, ways(&[PreviewClear], &[&[Refusal]])),
-        (PreviewRoomForThese, ways(&[PreviewClear], &told)),
-        (PreviewRoomByCapacity, ways(&[PreviewClear], &told)),
-        (PreviewRoomForAlarm, ways(&[PreviewClear], &told)),
         (PreviewClears, ways(&[PreviewClear], &[&[Table]])),
+        (EngagedTaken, ways(&[Rung], &others)),
+        (EveryExitTaken, ways(&[Rung], &others)),
+        (AlarmExitsTaken, ways(&[Rung], &others)),
+        (AnsweredAlone, ways(&[Rung], &others)),
+        (HeldListed, ways(&[Rung], &others)),
+        (AlarmListed, ways(&[Rung], &[others[0]])),
+        (ContactsAlone, ways(&[Rung], &[others[0]])),
+        (FirstRungAlone, ways(&[Rung], &others)),
+        (SameResultsAlone, ways(&[Rung], &others)),
+        (RingsLeftOut, ways(&[Rung], &others)),
+        (StepsSaidContacts, ways(&[Rung], &[&[Number(1)]])),
+        (NoContactSaid, ways(&[Rung], &[&[Number(1)]])),
+        (OneContactSaidMore, ways(&[Rung], &[&[Number(1)]])),
+        (RungMovesLast, ways(&[Rung], &[&[Table]])),
+        (StepsDescending, ways(listing, &[&[Lent]])),
+        (StepsInWords, ways(listing, &[&[Lent]])),
+        (StepsPadded, ways(listing, &[&[Lent]])),
+        (StepsRoomFirst, ways(listing, &[&[Refusal]])),
+        (StepsRoomForThese, &ways(&[PreviewClear], &told) | &ways(&[Rung], &listed)),
+        (StepsRoomByCapacity, &ways(&[PreviewClear], &told) | &ways(&[Rung], &listed)),
+        (StepsRoomForAlarm, &ways(&[PreviewClear], &told) | &ways(&[Rung], &listed)),
+        (StepsRoomOneLess, &ways(&[PreviewClear], &told) | &ways(&[Rung], &listed)),
         (CabinsBeforeImage, ways(&[ConvertDown], &[&[Refusal]])),
         (BufferBeforeCabins, ways(&[ConvertDown], &[&[Refusal]])),
         (BufferBeforeEdition, ways(convert, &[&[Refusal]])),
@@ -356,6 +380,7 @@ fn cut_lengths_show() {
                 Sort::Write,
                 Sort::ClearWithSlip,
                 Sort::PreviewClear,
+                Sort::Rung,
                 Sort::ConvertUp,
                 Sort::ConvertDown,
             ],

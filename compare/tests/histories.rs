@@ -45,6 +45,9 @@ struct Seen {
     /// Previews: accepted, refused by 11, and of clearings that free some of the doubtful steps and take others back.
     previews: [usize; 2],
     part_goes: usize,
+    /// Who can be rung: told, refused by 11, and told where steps in use are left out.
+    rungs: [usize; 2],
+    silent: usize,
 }
 
 impl Seen {
@@ -91,6 +94,10 @@ impl Seen {
             Call::PreviewClear { .. } if matches!(refusal, 0 | 11) => {
                 self.previews[usize::from(*refusal) / 11] += 1;
                 self.part_goes += usize::from(numbers[1] > 0 && numbers[1] < numbers[0]);
+            }
+            Call::Rung { .. } => {
+                self.rungs[usize::from(*refusal) / 11] += 1;
+                self.silent += usize::from(accepted && numbers[0] + 1 < after.size().into());
             }
             Call::KeyLine(_) if matches!(refusal, 14 | 15) => {
                 self.held_lines[usize::from(refusal - 14)] += 1;
@@ -180,4 +187,5 @@ fn histories_agree() {
     assert!(seen.slips.iter().all(|&slips| slips > 300), "slips {:?}", seen.slips);
     assert!(seen.taken_back > 300 && seen.brought_back > 100 && seen.not_taken_back > 300);
     assert!(seen.previews.iter().all(|&made| made > 1000) && seen.part_goes > 30);
+    assert!(seen.rungs.iter().all(|&made| made > 500) && seen.silent > 500);
 }

@@ -3,7 +3,8 @@
 //! tables that are not sound, and one that nobody can write to; and the laws.
 
 use compare::{
-    any_exit, as_said, begin, both, kept, proved, ring, tables_of_histories, Lent, Pair, Refusals,
+    any_exit, as_said, begin, both, damaged_tables, kept, proved, ring, tables_of_histories, Lent,
+    Pair, Refusals, RING,
 };
 use reference::calls::{add, fresh_for_cabin_0, link, Command};
 use reference::faults::Fault;
@@ -11,8 +12,8 @@ use reference::generate::{small_tables, Random};
 use reference::history::{Call, Outcome, Start, UNTOUCHED};
 use reference::image::encode;
 use reference::laws::{self, foretold, Beginner, Program};
-use reference::preview::PREVIEW_ROOM;
-use reference::sound::{sound, CONTACT};
+use reference::sound::CONTACT;
+use reference::steps::STEPS_ROOM;
 use reference::table::{members, Table, EXITS};
 use std::ops::Range;
 use telephone::raw;
@@ -52,8 +53,8 @@ fn every_exit(table: &Table, seen: &mut Seen) {
     for step in members(table.in_use()) {
         for exit in 0..EXITS as u16 {
             let step = step as u16;
-            let told = foretold(&both, table, step, exit, PREVIEW_ROOM);
-            let call = Call::PreviewClear { step, exit, buffer: PREVIEW_ROOM };
+            let told = foretold(&both, table, step, exit, STEPS_ROOM);
+            let call = Call::PreviewClear { step, exit, buffer: STEPS_ROOM };
             assert_eq!(as_said(table, &call), told);
             seen.note(&told);
         }
@@ -183,45 +184,18 @@ fn buffers() {
 /// Damaged tables, most of which are not sound: 1, whatever the exit and the buffer.
 #[test]
 fn unsound_tables() {
-    let mut random = Random(96);
-    let mut found = [0; 2];
-    for seed in 2300..2500 {
-        let table = Random(seed).sound_table();
-        for _ in 0..20 {
-            let mut damaged = table.clone();
-            for _ in 0..1 + random.below(2) {
-                random.damage(&mut damaged);
-            }
-            let is_sound = sound(&damaged);
-            found[usize::from(is_sound)] += 1;
-            for (step, exit) in [(0, 0), (0, 3), (1, 0), (127, 1), (128, 4), (65_535, 65_535)] {
-                for buffer in [0, 126, 127] {
-                    let outcome = as_said(&damaged, &Call::PreviewClear { step, exit, buffer });
-                    assert_eq!(outcome.refusal == 1, !is_sound);
-                }
-            }
-            if is_sound {
-                foretold(&both, &damaged, 0, 0, PREVIEW_ROOM);
+    damaged_tables(2300..2500, |table, is_sound| {
+        for (step, exit) in [(0, 0), (0, 3), (1, 0), (127, 1), (128, 4), (65_535, 65_535)] {
+            for buffer in [0, 126, 127] {
+                let outcome = as_said(table, &Call::PreviewClear { step, exit, buffer });
+                assert_eq!(outcome.refusal == 1, !is_sound);
             }
         }
-    }
-    assert!(found[0] > 1000 && found[1] > 100, "{found:?}");
+        if is_sound {
+            foretold(&both, table, 0, 0, STEPS_ROOM);
+        }
+    });
 }
-
-/// A ring of steps 1 and 2 which step 0 leads to by exit 0. It stands in memory that can only be read: a write to it, even one that is taken back before
-/// the call ends, ends the test program.
-static RING: raw::Table = {
-    let mut table = raw::Table::ZERO;
-    (table.capacity, table.last) = (3, 2);
-    (table.used[0], table.used[1], table.used[2]) = (1, 1, 1);
-    (table.kinds[1], table.kinds[2]) = (1, 1);
-    // 0 leads to 1 and 1 to 2, both strong, and 2 back to 1, weak
-    (table.targets[0], table.targets[4], table.targets[8]) = (1, 2, 1);
-    table.bits[8] = 1;
-    (table.counts[2], table.counts[3], table.counts[4]) = (1, 1, 1);
-    (table.quotas[0].guarantee, table.quotas[0].limit) = (2, 2);
-    table
-};
 
 #[test]
 fn a_table_that_nobody_can_write_to() {

@@ -206,6 +206,48 @@ fn an_early_cargo() {
     }
 }
 
+/// A visit shows what the tool says, but for the lines that say where the image goes. Where it cannot be shown, or the tool fails, one line says so. The
+/// tool stands in for the one that is built.
+#[test]
+fn what_a_visit_shows() {
+    let copy = Copy::new("visit");
+    let tool = |lines: &str| {
+        copy.program("rust/target/release/plan", lines);
+        let sources = ["Cargo.toml", "Cargo.lock", "crates.txt", "rust/telephone/build.rs"];
+        let crates = ["plan", "telephone"]
+            .map(|name| ["Cargo.toml", "src/lib.rs"].map(|file| format!("rust/{name}/{file}")));
+        for source in
+            sources.iter().copied().chain(crates.as_flattened().iter().map(String::as_str))
+        {
+            copy.touch(source, 5);
+        }
+        copy.touch("target/staticlib/libtelephone.a", 10);
+        copy.touch("rust/target/release/plan", 20);
+    };
+    let visit = |redirection: &str| {
+        let mut shell = Command::new("sh");
+        shell.args(["-c", &format!("exec \"$0\" {redirection}")]).arg(copy.0.join("visit"));
+        output(shell.env("PATH", copy.0.join("bin")), Some(b""))
+    };
+    tool("echo image; echo \"said of $1\" >&2; echo 'edition 2 to standard output' >&2");
+    let given = visit("");
+    let said = (text(&given.stdout), text(&given.stderr));
+    assert_eq!(said, ("said of fresh\nsaid of key\n".to_string(), String::new()));
+    assert_eq!(given.status.code(), Some(0));
+    for redirection in [">/dev/full", ">&-", "1</dev/null"] {
+        let given = visit(redirection);
+        assert_eq!(given.status.code(), Some(2), "{redirection}");
+        assert!(says_one_line("visit", &given), "{redirection}: {}", text(&given.stderr));
+    }
+    for fails in ["fresh", "key"] {
+        tool(&format!("[ $1 != {fails} ] || {{ echo 'plan: no room' >&2; exit 2; }}"));
+        let given = visit("");
+        let said = (text(&given.stdout), text(&given.stderr));
+        assert_eq!(said, (String::new(), "visit: plan: no room\n".to_string()), "{fails}");
+        assert_eq!(given.status.code(), Some(2), "{fails}");
+    }
+}
+
 /// A source that is newer than what was proved sets off proving. A wrong program that has to be refused, or a document, does not.
 #[test]
 fn what_sets_off_proving() {

@@ -2,7 +2,7 @@
 //! where it has the most to do.
 
 use compare::stack::depth;
-use compare::{lend, lend_list, ring, rounds};
+use compare::{full_ring, lend, lend_list, ring, rounds};
 use reference::cabins::{list, one_cabin};
 use reference::calls::{add, clear, fresh, fresh_for_cabin_0, link};
 use reference::image::{encode, in_edition_1, OLD_HEADER, OLD_RECORD};
@@ -115,6 +115,7 @@ fn calls(exit: u16) -> Vec<Taken> {
     let (mut buffer, mut trace) = ([0; IMAGE as usize], [0; 127]);
     let results = [exit as u8; 127];
     let (mut longest, rings) = (vec![0; 65535], [CONTACT, WAIT].map(|kind| ring(&[kind; 127])));
+    let (full, fresh) = (full_ring(), fresh_for_cabin_0(128));
     let rounds = rounds(&[CONTACT; 127], 70_000);
     let adds = format!("H*1126{exit}1099A").into_bytes();
     let filled = format!("H*1000{exit}1099A").into_bytes();
@@ -197,6 +198,15 @@ fn calls(exit: u16) -> Vec<Taken> {
         taken("preview clear, table unsound", &unsound, 1, |t| {
             raw::preview_clear(t, 0, exit, &mut trace).refusal
         }),
+        taken("rung, no exit empty", &full, 127, |t| raw::rung(t, &mut trace).second),
+        taken("rung, 127 waits", &rings[1], 127, |t| raw::rung(t, &mut trace).first),
+        // a trial goes on along the chain if it leaves step 0 by the answered exit
+        taken("rung, a chain", &chain, if exit == 0 { 127 } else { 0 }, |t| {
+            raw::rung(t, &mut trace).first
+        }),
+        taken("rung, nobody", &fresh, 0, |t| raw::rung(t, &mut trace).first),
+        taken("rung, no room", &chain, 11, |t| raw::rung(t, &mut trace[1..]).refusal),
+        taken("rung, table unsound", &unsound, 1, |t| raw::rung(t, &mut trace).refusal),
         taken("squeeze, 126 moved", &gap, 0, |t| raw::squeeze(t, 127, &least).refusal),
         taken("squeeze, none moved", &chain, 0, |t| raw::squeeze(t, 128, &most).refusal),
         taken("squeeze of eight cabins", &shared, 0, |t| raw::squeeze(t, 128, &own).refusal),
@@ -329,7 +339,7 @@ fn the_header_tells_the_stack() {
     // a call is that of the longest name that it begins with
     told.sort_by_key(|(name, _)| usize::MAX - name.len());
     let function = |taken: &Taken| told.iter().position(|(name, _)| taken.name.starts_with(name));
-    assert_eq!(told.len(), 24);
+    assert_eq!(told.len(), 25);
     assert!(deepest.iter().all(|taken| function(taken).is_some()));
     for (at, (name, bytes)) in told.iter().enumerate() {
         let its = deepest.iter().filter(|taken| function(taken) == Some(at));
@@ -366,6 +376,7 @@ fn deepest_calls_in_a_small_thread() {
         let (_, length) = table.clear_with_slip(0, Exit::Answered, &mut slip)?;
         table.take_back(&slip[..length])?;
         table.preview_clear(0, Exit::Answered, &mut slip)?;
+        table.rung(&mut slip)?;
         table.key_line(b"H*30000A")
     };
     let thread = std::thread::Builder::new().stack_size(2 * LIMIT).spawn(visit);

@@ -160,6 +160,7 @@ fn every_call(table: &Table, random: &mut Random) {
             Call::ClearWithSlip { step: a, exit: b % 6, buffer: usize::from(c) * 50 },
             Call::TakeBack { slip: vec![a as u8; usize::from(c)] },
             Call::PreviewClear { step: a, exit: b % 6, buffer: usize::from(c) },
+            Call::Rung { buffer: usize::from(d) },
             Call::Read { step: a },
             Call::Squeeze { capacity: a, quotas },
         ]);

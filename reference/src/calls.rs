@@ -208,6 +208,17 @@ fn path<'a>(
     successors(Some(start), move |&at| onward(table, results, at, fault).ok())
 }
 
+/// The steps that a trial with these results and no limit enters, which may go on for ever.
+pub fn steps_entered<'a>(table: &'a Table, results: &'a [u8]) -> impl Iterator<Item = u16> + 'a {
+    path(table, results, Fault::None).skip(1).map(|at| at.step)
+}
+
+/// The step that a trial enters from a step, if it goes on with this line result.
+pub fn next_step(table: &Table, step: u16, result: u8) -> Option<u16> {
+    let next = onward(table, &[result], Position { step, used: 0 }, Fault::None);
+    next.ok().map(|at| at.step)
+}
+
 /// The position after a move, or why there is none.
 fn onward(table: &Table, results: &[u8], at: Position, fault: Fault) -> Result<Position, Ending> {
     let target = |exit| table.target(at.step, exit);

@@ -2,9 +2,10 @@
 //! The first nineteen are other ways to edit and stand in `calls`, `cabins` and `clearing`, the next
 //! two are of lists, six of images, of which four are of conversions too, eleven are other ways to
 //! squeeze, eight other ways to make a trial, twelve other ways to clear with a slip, twelve other
-//! ways to take it back, fourteen other ways to tell what a clearing would free, and eighteen other
-//! ways to convert an image, of which two are of slips and previews too. Each of the rest spoils
-//! what a right call gives, in one part of it.
+//! ways to take it back, seven other ways to tell what a clearing would free, fourteen other ways to
+//! tell who can be rung, eight other ways to list steps in either of these, and eighteen other ways
+//! to convert an image, of which two are of slips and listed steps too. Each of the rest spoils what
+//! a right call gives, in one part of it.
 
 use crate::calls::{Command, Ending};
 use crate::convert::Way;
@@ -161,12 +162,6 @@ pub enum Fault {
     ListedSaidBack,
     /// A preview lists the doubtful steps.
     DoubtfulListed,
-    /// A preview has the numbers in descending order.
-    PreviewDescending,
-    /// A preview has each number in two bytes.
-    NumbersInWords,
-    /// A preview writes 127 bytes, with zeros behind the numbers.
-    PreviewPadded,
     /// A preview says that all doubtful steps would be freed.
     DoubtfulSaidToGo,
     /// A preview marks along strong links alone.
@@ -177,16 +172,53 @@ pub enum Fault {
     CopiesLeftOut,
     /// A preview looks at the buffer before it looks at the exit.
     PreviewRoomBeforeEmpty,
-    /// A preview looks at the buffer before anything else.
-    PreviewRoomFirst,
-    /// The buffer of a preview must hold the steps that would be freed, and no more.
-    PreviewRoomForThese,
-    /// The buffer of a preview must hold as many bytes as the table has places, less step 0's.
-    PreviewRoomByCapacity,
-    /// The buffer of a preview must hold a byte for step 0 too.
-    PreviewRoomForAlarm,
     /// A preview makes the clearing.
     PreviewClears,
+    /// Messages and waits are taken to go on by their engaged exit too.
+    EngagedTaken,
+    /// Every step is taken to go on by every exit.
+    EveryExitTaken,
+    /// Step 0 is taken to go on by every exit.
+    AlarmExitsTaken,
+    /// Contacts are taken to go on by their answered exit alone.
+    AnsweredAlone,
+    /// Steps that a listed one or step 0 holds are listed too, even by exits that are never taken.
+    HeldListed,
+    /// Step 0 is listed among those who can be rung.
+    AlarmListed,
+    /// Of those who can be rung, only contacts are listed.
+    ContactsAlone,
+    /// Of those who can be rung, only the ones whom a trial with no result enters are listed.
+    FirstRungAlone,
+    /// Of those who can be rung, only the ones whom trials with all results the same enter are
+    /// listed.
+    SameResultsAlone,
+    /// Of those who can be rung, the ones whom a trial can enter twice are left out.
+    RingsLeftOut,
+    /// Of those who can be rung, all count as contacts.
+    StepsSaidContacts,
+    /// Of those who can be rung, none counts as a contact.
+    NoContactSaid,
+    /// Of those who can be rung, one contact more is counted.
+    OneContactSaidMore,
+    /// Telling who can be rung changes the last number given.
+    RungMovesLast,
+    /// Steps are listed in descending order.
+    StepsDescending,
+    /// Steps are listed in two bytes each.
+    StepsInWords,
+    /// A list of steps has 127 bytes, with zeros behind the numbers.
+    StepsPadded,
+    /// A call that lists steps looks at the buffer before anything else.
+    StepsRoomFirst,
+    /// The buffer must hold the steps that are listed, and no more.
+    StepsRoomForThese,
+    /// The buffer must hold as many steps as the table has places, less step 0's.
+    StepsRoomByCapacity,
+    /// The buffer must hold a byte for step 0 too.
+    StepsRoomForAlarm,
+    /// The buffer may be one byte short.
+    StepsRoomOneLess,
     /// A conversion down looks at cabins, list and contacts before it asks whether the image is
     /// accepted.
     CabinsBeforeImage,
@@ -218,10 +250,10 @@ pub enum Fault {
     OrderKept,
     /// The buffer of a conversion must have room for either image.
     RoomForEither,
-    /// A conversion, a clearing or a preview with too short a buffer writes what fits into it.
+    /// A conversion, a clearing or a list of steps with too short a buffer writes what fits into it.
     WrittenAsFits,
-    /// A conversion, a clearing or a preview puts a zero behind what it writes, where the buffer has
-    /// room.
+    /// A conversion, a clearing or a list of steps puts a zero behind what it writes, where the
+    /// buffer has room.
     ZeroBehind,
     /// A conversion answers the length of the image given to it.
     LengthOfGiven,
@@ -269,6 +301,7 @@ pub enum Sort {
     ClearWithSlip,
     TakeBack,
     PreviewClear,
+    Rung,
     Squeeze,
     Count,
     Read,
@@ -293,7 +326,7 @@ pub enum Part {
 }
 
 impl Sort {
-    pub const ALL: [Sort; 17] = [
+    pub const ALL: [Sort; 18] = [
         Sort::Fresh,
         Sort::Load,
         Sort::Add,
@@ -302,6 +335,7 @@ impl Sort {
         Sort::ClearWithSlip,
         Sort::TakeBack,
         Sort::PreviewClear,
+        Sort::Rung,
         Sort::Squeeze,
         Sort::Count,
         Sort::Read,
@@ -322,6 +356,7 @@ impl Sort {
             Call::ClearWithSlip { .. } => Sort::ClearWithSlip,
             Call::TakeBack { .. } => Sort::TakeBack,
             Call::PreviewClear { .. } => Sort::PreviewClear,
+            Call::Rung { .. } => Sort::Rung,
             Call::Squeeze { .. } => Sort::Squeeze,
             Call::Read { .. } => Sort::Read,
             Call::Trial { .. } => Sort::Trial,
@@ -364,7 +399,7 @@ impl Sort {
         let mut parts = vec![Part::Refusal];
         parts.extend((!self.converts()).then_some(Part::Table));
         parts.extend((0..self.numbers()).map(Part::Number));
-        let lent = [Sort::ClearWithSlip, Sort::PreviewClear, Sort::Trial, Sort::Write];
+        let lent = [Sort::ClearWithSlip, Sort::PreviewClear, Sort::Rung, Sort::Trial, Sort::Write];
         if self.converts() || lent.contains(&self) {
             parts.push(Part::Unwritten);
             parts.extend((!refused).then_some(Part::Written));

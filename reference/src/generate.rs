@@ -1,21 +1,22 @@
 //! Made-up calls, key lines, lists, images, conversions, slips, sound tables and unsound ones, the
 //! same for the same seed. Most calls suit the table at hand; the rest have odd numbers, wrong keys,
 //! short buffers, lists that are bad or do not fit, or slips that are old, damaged or of no
-//! clearing. Serves the tests of "A history is a list" of document 01, and of W6, W7, W8 and W9 of
-//! document 02.
+//! clearing. Serves the tests of "A history is a list" of document 01, of W6, W7, W8 and W9 of
+//! document 02, and of who can be rung.
 
 use std::array::from_fn;
+use std::iter::successors;
 use std::ops::Range;
 
 use crate::cabins::{for_cabin_0, one_cabin};
-use crate::calls::{clear, fresh_for_cabin_0, Command};
+use crate::calls::{add, clear, fresh_for_cabin_0, link, Command};
 use crate::convert::{Conversion, Way};
 use crate::history::{Call, Start};
 use crate::image::{encode, in_edition_1, in_edition_2, record, records, HEADER, RECORD};
 use crate::plan::{plan_of, Plan, PlanStep};
-use crate::preview::PREVIEW_ROOM;
 use crate::slip::{between, LARGEST_SLIP, SLIP_HEADER, SLIP_PAIR};
 use crate::sound::{sound, CONTACT, HIGHEST_CONTACT, MESSAGE, OLD_HIGHEST_CONTACT, WAIT};
+use crate::steps::STEPS_ROOM;
 use crate::table::{members, place, Charges, Quotas, Table, CABINS, EXITS, PLACES};
 
 /// Numbers at and beyond the ends of ranges, and numbers that would wrap to small ones.
@@ -33,12 +34,13 @@ const OLD_CONTACTS: &[u16] = &[0, OLD_HIGHEST_CONTACT];
 const CONTACTS: &[u16] = &[0, OLD_HIGHEST_CONTACT, LARGER_CONTACT, HIGHEST_CONTACT];
 
 /// Phases of a history: fill, make rings, clear, mix. Each lists add, link, clear, clear with a
-/// slip, take back, preview, squeeze, trial and other calls by a letter, as often as it has them.
+/// slip, take back, preview, who can be rung, squeeze, trial and other calls by a letter, as often
+/// as it has them.
 const PHASES: [&[u8]; 4] = [
-    b"aaaaaaaaaaaalllckkbppsstttoo",
-    b"aalllllllllckkbppsttoo",
-    b"allccccccckkkbppsttoo",
-    b"aaalllcckkbbppstttoooo",
+    b"aaaaaaaaaaaalllckkbpprsstttoo",
+    b"aalllllllllckkbpprsttoo",
+    b"allccccccckkkbpprsttoo",
+    b"aaalllcckkbbpprstttoooo",
 ];
 
 /// What may come right after a clearing with a slip: taking back at once, or after an add at the
@@ -103,6 +105,12 @@ impl Random {
     fn around(&mut self, length: usize) -> usize {
         let more = length + self.below(40);
         self.pick(&[length, length.saturating_sub(1), more])
+    }
+
+    /// A length of a buffer for a list of steps: enough, about that, or less.
+    fn steps_room(&mut self) -> usize {
+        let (near, less) = (self.around(STEPS_ROOM), self.below(STEPS_ROOM));
+        self.pick(&[STEPS_ROOM, near, near, less])
     }
 
     /// A capacity to squeeze a plan into: what it needs, one less, a few more, what it has, the
@@ -669,6 +677,7 @@ impl Generator {
             b'b' => Call::TakeBack { slip: self.slip(table) },
             b'e' => self.add_at_cleared(plan),
             b'p' => self.preview_clear(plan),
+            b'r' => Call::Rung { buffer: self.random.steps_room() },
             b'd' => {
                 let (step, exit) = self.previewed;
                 Call::Edit(Command::Clear { step, exit })
@@ -709,8 +718,7 @@ impl Generator {
         let filled = !random.once_in(8);
         let copied = if random.once_in(3) { random.copied_place(plan) } else { None };
         let (step, exit) = copied.unwrap_or_else(|| random.place(plan, filled));
-        let (near, less) = (random.around(PREVIEW_ROOM), random.below(PREVIEW_ROOM));
-        let buffer = random.pick(&[PREVIEW_ROOM, near, near, less]);
+        let buffer = random.steps_room();
         if self.soon.is_empty() && random.once_in(6) {
             self.soon = b"d";
         }
@@ -811,6 +819,22 @@ impl Generator {
     }
 }
 
+/// The plan of a caretaker, steps 1 to 12: a message; contact 42, the flat; behind its no reply the
+/// primary and nine more contacts, each behind the no reply of the one before, and the primary again
+/// behind that of the last. The engaged exit of step 0 leads to the primary too.
+pub fn caretakers_plan() -> Table {
+    let mut table = fresh_for_cabin_0(16);
+    assert_eq!(add(&mut table, 0, 0, MESSAGE, 0, 0).first, 1);
+    assert_eq!(add(&mut table, 1, 0, CONTACT, 42, 0).first, 2);
+    for holder in 2..12 {
+        assert_eq!(add(&mut table, holder, 2, CONTACT, holder - 2, 0).first, holder + 1);
+    }
+    for (second, exit) in [(12, 2), (0, 1)] {
+        assert_eq!(link(&mut table, 2, 2, second, exit).refusal, 0);
+    }
+    table
+}
+
 /// Every sound table of capacity 3 with steps 1 and 2 in use and own bits of either value, in which
 /// exits 0 and 3 alone hold links, of either strength.
 pub fn small_tables() -> impl Iterator<Item = Table> {
@@ -823,14 +847,58 @@ pub fn small_tables() -> impl Iterator<Item = Table> {
         table.used[1..3].fill(1);
         table.kinds[1..3].fill(CONTACT);
         (table.own[1], table.own[2]) = ((number / ways % 2) as u16, (number / ways / 2) as u16);
-        let mut rest = number % ways;
-        for place in PLACES_TO_FILL {
-            (table.targets[place], table.bits[place]) = LINKS[rest % LINKS.len()];
-            rest /= LINKS.len();
+        for (place, link) in PLACES_TO_FILL.into_iter().zip(digits(number, LINKS.len())) {
+            (table.targets[place], table.bits[place]) = LINKS[link];
         }
         table.counts = table.counted();
         sound(&table).then_some(table)
     })
+}
+
+/// Every plan of so many steps beside step 0, of these kinds, in which these exits alone hold links,
+/// as a table that has no place more.
+pub fn small_plans<'a>(
+    steps: usize,
+    exits: &'a [usize],
+    kinds: &'a [u16],
+) -> impl Iterator<Item = Table> + 'a {
+    let links = (steps + 1).pow(((steps + 1) * exits.len()) as u32);
+    let of_kinds = kinds.len().pow(steps as u32);
+    (0..links).filter_map(move |links| linked(steps, exits, links)).flat_map(move |table| {
+        (0..of_kinds).map(move |number| {
+            let mut table = table.clone();
+            for (step, kind) in (1..=steps).zip(digits(number, kinds.len())) {
+                (table.kinds[step], table.contents[step]) = (kinds[kind], 1);
+            }
+            table
+        })
+    })
+}
+
+/// A table of so many steps without kinds, whose targets at these exits are the digits of a number,
+/// if its steps are numbered as they are first met when the exits are gone through from step 0 on.
+/// The links that first meet a step are strong, and all others weak.
+fn linked(steps: usize, exits: &[usize], links: usize) -> Option<Table> {
+    let mut table = fresh_for_cabin_0(steps as u16 + 1);
+    table.last = steps as u16;
+    table.used[1..=steps].fill(1);
+    let places = (0..=steps).flat_map(|step| exits.iter().map(move |&exit| (step, exit)));
+    let mut met = 0;
+    for ((step, exit), target) in places.zip(digits(links, steps + 1)) {
+        if step > met || target > met + 1 {
+            return None;
+        }
+        table.targets[place(step, exit)] = target as u16;
+        table.bits[place(step, exit)] = u16::from(target != 0 && target <= met);
+        met = met.max(target);
+    }
+    table.counts = table.counted();
+    (met == steps).then_some(table)
+}
+
+/// The digits of a number to this base, the lowest first, and zeros behind them.
+pub fn digits(number: usize, base: usize) -> impl Iterator<Item = usize> {
+    successors(Some(number), move |rest| Some(rest / base)).map(move |rest| rest % base)
 }
 
 /// Tables with any strengths, of which every sixth is damaged, each with ten trials that suit it as

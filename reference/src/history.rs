@@ -1,12 +1,14 @@
 //! The calls of a history as values, run on a table, and the comparison with the plain plan.
 //! Renders "A history is a list", W2's squeeze in it, W3's trial, W5's cabins and lists, W7's slips,
-//! W8's previews, and demand 3's list of what has to agree.
+//! W8's previews, who can be rung, and demand 3's list of what has to agree.
 
 use crate::calls::{clear, edit, fresh_with, read, trial_with, Answer, Command};
 use crate::faults::{cut, spoil, Fault, Length, Sort};
 use crate::image::{length, load_with, write};
 use crate::keys::{decode, key_line_with};
+use crate::plan::{Known, Said};
 use crate::preview::preview_clear_with;
+use crate::rung::rung_with;
 use crate::slip::{clear_with_slip_with, take_back_with};
 use crate::squeeze::squeeze_with;
 use crate::table::{Quotas, Table};
@@ -19,6 +21,7 @@ pub enum Call {
     ClearWithSlip { step: u16, exit: u16, buffer: usize },
     TakeBack { slip: Vec<u8> },
     PreviewClear { step: u16, exit: u16, buffer: usize },
+    Rung { buffer: usize },
     Squeeze { capacity: u16, quotas: Quotas },
     Read { step: u16 },
     Trial { limit: u16, results: Vec<u8>, trace: usize },
@@ -99,6 +102,13 @@ pub fn run(table: &mut Table, call: &Call, fault: Fault) -> Outcome {
             }
             told
         }
+        Call::Rung { buffer } => {
+            let told = with_buffer(*buffer, fault, |buffer| rung_with(table, buffer, fault));
+            if told.refusal == 0 && fault == Fault::RungMovesLast {
+                table.last = (table.last + 1) % table.capacity;
+            }
+            told
+        }
         Call::Squeeze { capacity, quotas } => {
             plain(squeeze_with(table, *capacity, *quotas, fault), Vec::new())
         }
@@ -152,18 +162,21 @@ fn plain(answer: Answer, lent: Vec<u8>) -> Outcome {
 }
 
 /// Whether an outcome is what the plan says: its refusal with nothing else given or written,
-/// or no refusal and each number that the plan knows.
-pub fn agrees(outcome: &Outcome, said: Result<[Option<u16>; 2], u16>) -> bool {
+/// or no refusal, each number that the plan knows, and the whole buffer where the plan knows it.
+pub fn agrees(outcome: &Outcome, said: &Said) -> bool {
+    let untouched = |bytes: &[u8]| bytes.iter().all(|&byte| byte == UNTOUCHED);
     match said {
         Err(refusal) => {
-            outcome.refusal == refusal
+            outcome.refusal == *refusal
                 && outcome.numbers.iter().all(|&number| number == 0)
-                && outcome.lent.iter().all(|&byte| byte == UNTOUCHED)
+                && untouched(&outcome.lent)
         }
-        Ok(known) => {
-            let mut pairs = known.into_iter().zip(&outcome.numbers);
+        Ok(Known { numbers, listed }) => {
+            let mut pairs = numbers.iter().zip(&outcome.numbers);
+            let left = |listed: &Vec<u8>| outcome.lent.strip_prefix(&listed[..]);
             outcome.refusal == 0
                 && pairs.all(|(known, &number)| known.is_none_or(|n| usize::from(n) == number))
+                && listed.as_ref().is_none_or(|listed| left(listed).is_some_and(untouched))
         }
     }
 }

@@ -1,9 +1,9 @@
 //! What a squeeze has to keep, what the limit of a trial does, what cabins are promised, what
-//! conversions leave, what slips say and bring back, what a preview foretells, and what clearings
-//! give in any order, checked on generated tables with any strengths, and histories. It is stated of
-//! any program that makes calls, so that it can be asked of this one and of the one it is held to.
-//! Renders W2, W3, W5, W6, W7, W8 and W14 of document 02. Each law gives how often it met the case
-//! that it is about.
+//! conversions leave, what slips say and bring back, what a preview foretells, who can be rung, and
+//! what clearings give in any order, checked on generated tables with any strengths, and histories.
+//! It is stated of any program that makes calls, so that it can be asked of this one and of the one
+//! it is held to. Renders W2, W3, W5, W6, W7, W8 and W14 of document 02, and who can be rung by W3's
+//! rule. Each law gives how often it met the case that it is about.
 
 use std::collections::BTreeMap;
 use std::ops::Range;
@@ -12,13 +12,14 @@ use crate::cabins::pairs;
 use crate::calls::{Command, Ending};
 use crate::convert::{Conversion, Way};
 use crate::faults::Fault;
-use crate::generate::{for_old_telephone, small_tables, start, Generator, Random};
+use crate::generate::{digits, for_old_telephone, small_tables, start, Generator, Random};
 use crate::history::{begin, Call, Outcome, Start, UNTOUCHED};
 use crate::image::{bytes, encode, fields, in_edition_1, number, record, sorted, HEADER, RECORD};
 use crate::plan::{plan_of, Plan};
-use crate::preview::PREVIEW_ROOM;
+use crate::rung::fewest_results;
 use crate::slip::{changes, listed, SLIP_HEADER, SLIP_PAIR};
 use crate::sound::{sound, CONTACT};
+use crate::steps::STEPS_ROOM;
 use crate::table::{mark, members, place, Quotas, Successors, Table, CABINS, EXITS, PLACES};
 
 /// Makes a call on a table.
@@ -30,6 +31,9 @@ pub type Beginner<'a> = &'a dyn Fn(&Start) -> (Table, Outcome);
 /// Makes a conversion.
 pub type Converter<'a> = &'a dyn Fn(&Conversion) -> Outcome;
 
+/// Makes a trial of a table with each of these lists of results; gives the steps that each enters.
+pub type Trials<'a> = &'a dyn Fn(&Table, &[Vec<u8>]) -> Vec<Vec<u8>>;
+
 /// The steps in their order get the numbers from 0 upward, with all their fields, and targets
 /// follow. The table is sound and has the capacity and the list given, and its plain plan is the
 /// renumbered one. Gives the steps that got another number.
@@ -40,7 +44,8 @@ pub fn steps_travel(program: Program, seeds: Range<u64>) -> usize {
         assert!(sound(&new));
         assert_eq!((new.capacity, new.quotas, new.last), (capacity, quotas, table.size() - 1));
         let mut plan = plan_of(&table);
-        assert_eq!(plan.draw(&Call::Squeeze { capacity, quotas }, false), Ok([Some(0), Some(0)]));
+        let drawn = plan.draw(&Call::Squeeze { capacity, quotas }, false);
+        assert_eq!(drawn, Ok([Some(0), Some(0)].into()));
         assert_eq!(plan_of(&new), plan);
         for step in members(table.in_use()) {
             let number = renumbered(&table, step);
@@ -376,7 +381,7 @@ pub fn previews_foretell(program: Program, seeds: Range<u64>) -> [usize; 4] {
     for (table, ..) in tables(seeds) {
         for step in members(table.in_use()) {
             for exit in 0..EXITS as u16 {
-                let told = foretold(program, &table, step as u16, exit, PREVIEW_ROOM);
+                let told = foretold(program, &table, step as u16, exit, STEPS_ROOM);
                 match told.numbers[..] {
                     _ if told.refusal != 0 => found[3] += 1,
                     [doubtful, freed] if freed > 0 => found[usize::from(doubtful == freed)] += 1,
@@ -431,7 +436,7 @@ pub fn strengths_do_not_matter(begin: Beginner, program: Program, seeds: Range<u
         for step in members(table.in_use()) {
             for exit in 0..EXITS as u16 {
                 let [first, second] = [&table, &turned]
-                    .map(|table| foretold(program, table, step as u16, exit, PREVIEW_ROOM));
+                    .map(|table| foretold(program, table, step as u16, exit, STEPS_ROOM));
                 assert_eq!((first.refusal, &first.lent), (second.refusal, &second.lent));
                 assert_eq!(first.numbers[1], second.numbers[1]);
                 told += usize::from(first.numbers[1] > 0);
@@ -450,7 +455,7 @@ pub fn foretold(program: Program, table: &Table, step: u16, exit: u16, buffer: u
     let told = program(&mut given, &Call::PreviewClear { step, exit, buffer });
     assert_eq!(given, *table);
     let cleared = program(&mut given, &Call::Edit(Command::Clear { step, exit }));
-    let short = cleared.refusal == 0 && buffer < PREVIEW_ROOM;
+    let short = cleared.refusal == 0 && buffer < STEPS_ROOM;
     let mut expected = cleared;
     expected.lent = vec![UNTOUCHED; buffer];
     if short {
@@ -466,6 +471,163 @@ pub fn foretold(program: Program, table: &Table, step: u16, exit: u16, buffer: u
 /// The numbers of the steps that are in use in one table and not in the other, ascending.
 fn freed_between(before: &Table, after: &Table) -> Vec<u8> {
     members(before.in_use() & !after.in_use()).map(|step| step as u8).collect()
+}
+
+/// Who can be rung in generated tables: a step is listed exactly if some trial enters it. Squeezed,
+/// the table has the same steps under their new numbers; with other strengths it has the same. Gives
+/// the steps listed, those of them that need two results or more, those in use that are not listed,
+/// and the listed ones that got another number.
+pub fn who_can_be_rung(program: Program, seeds: Range<u64>) -> [usize; 4] {
+    let mut found = [0; 4];
+    for (table, capacity, quotas) in tables(seeds) {
+        let mut random = Random(table.size().into());
+        let told = rung_by_trials(program, &table, STEPS_ROOM);
+        let steps = &told.lent[..told.numbers[0]];
+        found[1] += trials_ring(program, &table, steps, &mut random);
+        let number = |&step: &u8| renumbered(&table, step.into()) as u8;
+        let numbers: Vec<u8> = steps.iter().map(number).collect();
+        let new = rung_by_trials(program, &squeezed(program, &table, capacity, quotas), STEPS_ROOM);
+        assert_eq!(new.numbers, told.numbers, "squeezed");
+        assert_eq!(new.lent[..numbers.len()], numbers, "squeezed");
+        let call = Call::Rung { buffer: STEPS_ROOM };
+        let other = program(&mut random.other_strengths(&table), &call);
+        assert_eq!(other, told, "with other strengths");
+        found[0] += steps.len();
+        found[2] += usize::from(table.size()) - 1 - steps.len();
+        found[3] += numbers.iter().zip(steps).filter(|(new, old)| new != old).count();
+    }
+    found
+}
+
+/// Trials of a table with these steps listed. The fewest results known for a step enter it, and none
+/// of those that are tried with one result fewer; whatever a trial enters is listed. Gives the steps
+/// that need two results or more.
+fn trials_ring(program: Program, table: &Table, listed: &[u8], random: &mut Random) -> usize {
+    let plan = plan_of(table);
+    let entered = |results: &[u8]| entered(program, table, results, 1000);
+    let fewest = fewest_results(table);
+    for (step, results) in &fewest {
+        assert!(entered(results).contains(step), "{step} is not entered by {results:?}");
+        if let Some((_, fewer)) = results.split_last() {
+            let (other, _) = random.results(&plan, fewer.len());
+            for fewer in [fewer, &results[1..], &other] {
+                assert!(!entered(fewer).contains(step), "{step} is entered by {fewer:?}");
+            }
+        }
+    }
+    for length in [0, 1, 2, 4, 8, 16, 64] {
+        let (results, _) = random.results(&plan, length);
+        let steps = entered(&results);
+        assert!(steps.iter().all(|step| listed.contains(step)), "not all listed: {steps:?}");
+    }
+    fewest.values().filter(|results| results.len() > 1).count()
+}
+
+/// Calls of histories that tell who can be rung list what trials enter, whatever their buffer. Gives
+/// those that list steps, and of these the ones that leave steps in use out.
+pub fn rung_in_histories(program: Program, seeds: Range<u64>) -> [usize; 2] {
+    let mut found = [0; 2];
+    for (before, call, outcome, after) in seeds.flat_map(|seed| calls(program, seed)) {
+        if let Call::Rung { buffer } = call {
+            assert_eq!((&outcome, &after), (&rung_by_trials(program, &before, buffer), &before));
+            let listed = outcome.numbers[0];
+            found[0] += usize::from(listed > 0);
+            found[1] += usize::from(listed > 0 && listed + 1 < before.size().into());
+        }
+    }
+    found
+}
+
+/// Clearing an exit lets nobody be rung who could not be before, and if no trial takes the exit,
+/// those who can be rung stay the same. A trial takes an exit of step 0 or of a listed step, and only
+/// the answered one unless the step is a contact. Gives the clearings of exits that no trial takes,
+/// and the steps that the others leave in use and can no longer be rung.
+pub fn clearings_silence(program: Program, seeds: Range<u64>) -> [usize; 2] {
+    let rung = |table: &Table| {
+        let told = program(&mut table.clone(), &Call::Rung { buffer: STEPS_ROOM });
+        told.lent[..told.numbers[0]].to_vec()
+    };
+    let mut found = [0; 2];
+    for (table, ..) in tables(seeds) {
+        let before = rung(&table);
+        for (step, exit) in table.filled() {
+            let (cleared, _) = cleared(program, &table, step, exit);
+            let now = rung(&cleared);
+            let more = now.iter().find(|step| !before.contains(step));
+            assert_eq!(more, None, "rung without exit {exit} of {step}");
+            let visited = step == 0 || before.contains(&(step as u8));
+            if visited && (exit == 0 || table.kind(step) == CONTACT) {
+                let silent = |&&step: &&u8| cleared.has(step.into()) && !now.contains(&step);
+                found[1] += before.iter().filter(silent).count();
+            } else {
+                assert_eq!(now, before, "no trial takes exit {exit} of {step}");
+                found[0] += 1;
+            }
+        }
+    }
+    found
+}
+
+/// What telling who can be rung gives, which leaves the table: 11 where the buffer is short; else
+/// how many steps trials enter, how many of these are contacts, and the numbers of just these,
+/// ascending. The bytes past them stay, and all where it is refused.
+pub fn rung_by_trials(program: Program, table: &Table, buffer: usize) -> Outcome {
+    let mut given = table.clone();
+    let told = program(&mut given, &Call::Rung { buffer });
+    assert_eq!(given, *table);
+    let mut expected = Outcome { refusal: 11, numbers: vec![0, 0], lent: vec![UNTOUCHED; buffer] };
+    if buffer >= STEPS_ROOM {
+        let steps: Vec<u8> = fewest_results(table).into_keys().collect();
+        let is_contact = |&&step: &&u8| table.kind(step.into()) == CONTACT;
+        let contacts = steps.iter().filter(is_contact).count();
+        (expected.refusal, expected.numbers) = (0, vec![steps.len(), contacts]);
+        expected.lent[..steps.len()].copy_from_slice(&steps);
+    }
+    assert_eq!(told, expected, "not what trials enter");
+    told
+}
+
+/// Who can be rung in small plans of at most three steps: a step is listed exactly if a trial enters
+/// it with some list of up to two results, which are enough to come to each, and the fewest results
+/// known are as many as the shortest such list has. Gives the plans, the steps that are entered with
+/// no result, with one and with two, and the steps in use that are not listed.
+pub fn small_plans_rung(
+    program: Program,
+    trials: Trials,
+    plans: impl Iterator<Item = Table>,
+) -> [usize; 5] {
+    let lists: Vec<Vec<u8>> = (0..3)
+        .flat_map(|length| (0..EXITS.pow(length)).map(move |list| (list, length as usize)))
+        .map(|(list, length)| digits(list, EXITS).take(length).map(|result| result as u8).collect())
+        .collect();
+    let mut found = [0; 5];
+    for table in plans {
+        rung_by_trials(program, &table, STEPS_ROOM);
+        let mut shortest = BTreeMap::new();
+        for (results, entered) in lists.iter().zip(trials(&table, &lists)) {
+            entered.into_iter().for_each(|step| {
+                shortest.entry(step).or_insert(results.len());
+            });
+        }
+        let (steps, known): (Vec<u8>, Vec<Vec<u8>>) = fewest_results(&table).into_iter().unzip();
+        let fewest = steps.iter().copied().zip(known.iter().map(Vec::len)).collect();
+        assert_eq!(shortest, fewest, "other fewest results in {:?}", plan_of(&table));
+        let shown = steps.iter().zip(trials(&table, &known));
+        shown.for_each(|(step, entered)| assert!(entered.contains(step)));
+        found[0] += 1;
+        shortest.values().for_each(|results| found[1 + results] += 1);
+        found[4] += usize::from(table.size()) - 1 - steps.len();
+    }
+    found
+}
+
+/// The steps that a trial enters with these results, within so many moves.
+pub fn entered(program: Program, table: &Table, results: &[u8], limit: u16) -> Vec<u8> {
+    let call = Call::Trial { limit, results: results.to_vec(), trace: limit.into() };
+    let Outcome { refusal, numbers, mut lent } = program(&mut table.clone(), &call);
+    assert_eq!(refusal, 0);
+    lent.truncate(numbers[2]);
+    lent
 }
 
 /// What pairs of clearings came across. Each pair is made in both orders, and counts in one of the

@@ -2,8 +2,8 @@
 //! It has no bits and counters; after a clearing, what step 0 reaches is marked. Charges and unmet
 //! guarantees are counted as W5 says them.
 //! Renders "The plain plan of a table" of document 01, W2's squeeze of it, W3's refusal of a trial,
-//! W5's cabins, W7's take-back, which puts the slip's old records into it, and W8's preview, which
-//! leaves it.
+//! W5's cabins, W7's take-back, which puts the slip's old records into it, and W8's preview and who
+//! can be rung, which leave it.
 
 use std::collections::{BTreeMap, BTreeSet};
 use std::iter::zip;
@@ -13,14 +13,27 @@ use crate::calls::Command;
 use crate::history::{Call, Start};
 use crate::image::{fields, in_edition_2, HEADER, RECORD};
 use crate::keys::decode;
-use crate::preview::PREVIEW_ROOM;
 use crate::slip::changes;
-use crate::sound::{capacity_fits, fits};
-use crate::table::{members, place, Charges, Quotas, Table, CABINS};
+use crate::sound::{capacity_fits, fits, CONTACT};
+use crate::steps::STEPS_ROOM;
+use crate::table::{members, place, Charges, Quotas, Table, CABINS, EXITS};
 
-/// What the plan says of a call: the refusal, or the two numbers answered where the plan knows
-/// them.
-pub type Said = Result<[Option<u16>; 2], u16>;
+/// What the plan says of a call: the refusal, or what it knows of the answer.
+pub type Said = Result<Known, u16>;
+
+/// What the plan knows of the answer to a call: the two numbers, each if it knows it, and the bytes
+/// written to the start of the lent buffer, if it knows these.
+#[derive(Clone, PartialEq, Eq, Debug)]
+pub struct Known {
+    pub numbers: [Option<u16>; 2],
+    pub listed: Option<Vec<u8>>,
+}
+
+impl From<[Option<u16>; 2]> for Known {
+    fn from(numbers: [Option<u16>; 2]) -> Known {
+        Known { numbers, listed: None }
+    }
+}
 
 /// A step of the plan; target 0 is an empty exit.
 #[derive(Clone, PartialEq, Eq, Debug, Default)]
@@ -98,7 +111,7 @@ impl Plan {
             Start::Load { .. } => Err(12),
         };
         match drawn {
-            Ok(plan) => (plan, Ok([Some(0), Some(0)])),
+            Ok(plan) => (plan, Ok([Some(0), Some(0)].into())),
             Err(refusal) => (Plan::fresh_for_cabin_0(1), Err(refusal)),
         }
     }
@@ -117,13 +130,22 @@ impl Plan {
                 let before = self.steps.len();
                 let old = changes(slip).into_iter().map(|(old, _)| PlanStep::of_record(old));
                 self.steps.extend(old);
-                Ok([Some((self.steps.len() - before) as u16), Some(0)])
+                Ok([Some((self.steps.len() - before) as u16), Some(0)].into())
             }
             Call::PreviewClear { step, exit, buffer } => {
                 let cleared =
                     self.clone().draw_command(Command::Clear { step: *step, exit: *exit })?;
-                refuse_if(*buffer < PREVIEW_ROOM, 11)?;
+                refuse_if(*buffer < STEPS_ROOM, 11)?;
                 Ok(cleared)
+            }
+            Call::Rung { buffer } => {
+                refuse_if(*buffer < STEPS_ROOM, 11)?;
+                let entered = self.entered();
+                let is_contact = |number: &&u16| self.steps[*number].kind == CONTACT;
+                let contacts = entered.iter().filter(is_contact).count();
+                let listed = entered.iter().map(|&number| number as u8).collect();
+                let numbers = [entered.len(), contacts].map(|count| Some(count as u16));
+                Ok(Known { numbers, listed: Some(listed) })
             }
             Call::Edit(command) => self.draw_command(*command),
             Call::KeyLine(line) => self.draw_command(decode(line).ok_or(9u16)?),
@@ -134,19 +156,19 @@ impl Plan {
                 refuse_if(!new.keeps_to_list(), 13)?;
                 *self = new;
                 self.renumber();
-                Ok([Some(0), Some(0)])
+                Ok([Some(0), Some(0)].into())
             }
-            Call::Read { step } => self.step(*step).map(|_| [None, None]),
+            Call::Read { step } => self.step(*step).map(|_| [None, None].into()),
             Call::Trial { limit, results, trace } => {
                 refuse_if(results.iter().any(|&result| result > 3), 10)?;
                 refuse_if(*trace < usize::from(*limit), 11)?;
-                Ok([None, None])
+                Ok([None, None].into())
             }
             Call::Write { buffer } => {
                 refuse_if(*buffer < self.image_length(), 11)?;
-                Ok([Some(self.image_length() as u16), Some(0)])
+                Ok([Some(self.image_length() as u16), Some(0)].into())
             }
-            Call::ImageLength => Ok([Some(self.image_length() as u16), Some(0)]),
+            Call::ImageLength => Ok([Some(self.image_length() as u16), Some(0)].into()),
         }
     }
 
@@ -162,7 +184,7 @@ impl Plan {
                 let step = PlanStep { kind, content, cabin, ..Default::default() };
                 self.steps.insert(number, step);
                 self.last = number;
-                Ok([Some(number), Some(0)])
+                Ok([Some(number), Some(0)].into())
             }
             Command::Link { source, source_exit, second, second_exit } => {
                 let target = *self.exit(source, source_exit)?;
@@ -170,7 +192,7 @@ impl Plan {
                 let filled = self.exit(second, second_exit)?;
                 refuse_if(*filled != 0, 5)?;
                 *filled = target;
-                Ok([Some(0), Some(0)])
+                Ok([Some(0), Some(0)].into())
             }
             Command::Clear { step, exit } => {
                 let emptied = self.exit(step, exit)?;
@@ -179,9 +201,9 @@ impl Plan {
                 let before = self.steps.len();
                 let reached = self.reached();
                 self.steps.retain(|number, _| reached.contains(number));
-                Ok([None, Some((before - self.steps.len()) as u16)])
+                Ok([None, Some((before - self.steps.len()) as u16)].into())
             }
-            Command::Count => Ok([Some(self.steps.len() as u16), Some(self.free())]),
+            Command::Count => Ok([Some(self.steps.len() as u16), Some(self.free())].into()),
         }
     }
 
@@ -258,12 +280,25 @@ impl Plan {
 
     /// The steps that chains of targets reach from step 0.
     fn reached(&self) -> BTreeSet<u16> {
+        self.reached_by(|_| EXITS)
+    }
+
+    /// The steps that some trial enters. None enters step 0, where it starts.
+    fn entered(&self) -> BTreeSet<u16> {
+        let mut reached = self.reached_by(|step| if step.kind == CONTACT { EXITS } else { 1 });
+        reached.remove(&0);
+        reached
+    }
+
+    /// The steps that chains reach from step 0, where of each step so many targets count.
+    fn reached_by(&self, counted: impl Fn(&PlanStep) -> usize) -> BTreeSet<u16> {
         let mut reached = BTreeSet::new();
         let mut waiting = vec![0];
-        while let Some(step) = waiting.pop() {
-            if reached.insert(step) {
-                let targets = self.steps[&step].targets;
-                waiting.extend(targets.into_iter().filter(|&target| target != 0));
+        while let Some(number) = waiting.pop() {
+            if reached.insert(number) {
+                let step = &self.steps[&number];
+                let targets = &step.targets[..counted(step)];
+                waiting.extend(targets.iter().filter(|&&target| target != 0));
             }
         }
         reached

@@ -4,11 +4,9 @@
 //! back. Renders W8 of document 02.
 
 use crate::calls::{bare, edit_refusal, Answer, Command};
-use crate::faults::{put, Fault};
-use crate::table::{mark, members, place, Set, Table, EXITS};
-
-/// Bytes that the buffer must hold.
-pub const PREVIEW_ROOM: usize = 127;
+use crate::faults::Fault;
+use crate::steps::{list_steps, STEPS_ROOM};
+use crate::table::{mark, place, Set, Table, EXITS};
 
 /// Writes the numbers of the steps that clearing an exit would free into a lent buffer; answers the
 /// counts that the clearing would give.
@@ -24,25 +22,18 @@ pub fn preview_clear_with(
     buffer: &mut [u8],
     fault: Fault,
 ) -> Answer {
-    let short = buffer.len() < PREVIEW_ROOM;
+    let short = buffer.len() < STEPS_ROOM;
     let refusal = match (edit_refusal(table, Command::Clear { step, exit }, fault), fault) {
         (6, Fault::PreviewRoomBeforeEmpty) if short => 11,
-        (_, Fault::PreviewRoomFirst) if short => 11,
+        (_, Fault::StepsRoomFirst) if short => 11,
         (refusal, _) => refusal,
     };
     if refusal != 0 {
         return bare(refusal);
     }
     let (doubtful, freed) = without(table, place(step.into(), exit.into()), fault);
-    let needed = match fault {
-        Fault::PreviewRoomForThese => freed.count_ones() as usize,
-        Fault::PreviewRoomByCapacity => usize::from(table.capacity) - 1,
-        Fault::PreviewRoomForAlarm => PREVIEW_ROOM + 1,
-        _ => PREVIEW_ROOM,
-    };
-    let refusal = if buffer.len() < needed { 11 } else { 0 };
     let listed = if fault == Fault::DoubtfulListed { doubtful } else { freed };
-    put(refusal, &numbers(listed, fault), buffer, fault);
+    let refusal = list_steps(table, listed, buffer, fault);
     if refusal != 0 {
         return bare(refusal);
     }
@@ -67,16 +58,4 @@ fn without(table: &Table, left_out: usize, fault: Fault) -> (Set, Set) {
     };
     let unmarked = |links| table.in_use() & !mark(1, links);
     (unmarked(&strong), unmarked(&either))
-}
-
-/// The numbers of the steps, ascending, a byte each.
-fn numbers(steps: Set, fault: Fault) -> Vec<u8> {
-    let mut numbers: Vec<u8> = members(steps).map(|step| step as u8).collect();
-    match fault {
-        Fault::PreviewDescending => numbers.reverse(),
-        Fault::NumbersInWords => numbers = numbers.into_iter().flat_map(|n| [n, 0]).collect(),
-        Fault::PreviewPadded => numbers.resize(PREVIEW_ROOM, 0),
-        _ => {}
-    }
-    numbers
 }

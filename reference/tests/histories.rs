@@ -64,13 +64,17 @@ struct Seen {
     previews: u32,
     told_of_steps: u32,
     short_previews: u32,
+    /// Who can be rung: told, those of them that leave steps in use out, and refused by 11.
+    rungs: u32,
+    silent: u32,
+    short_rungs: u32,
 }
 
 /// Runs the first call on table and plan and compares all that has to agree.
 fn first(start: &Start, seen: &mut Seen) -> (Table, Plan) {
     let (table, outcome) = begin(start, Fault::None);
     let (plan, said) = Plan::begin(start, outcome.refusal == 0);
-    assert!(agrees(&outcome, said), "{start:?}: {outcome:?}, plan: {said:?}");
+    assert!(agrees(&outcome, &said), "{start:?}: {outcome:?}, plan: {said:?}");
     assert_eq!(plan_of(&table), plan, "{start:?}");
     assert!(sound(&table), "{start:?}");
     seen.begun[usize::from(outcome.refusal)] += 1;
@@ -82,7 +86,7 @@ fn check(table: &mut Table, plan: &mut Plan, call: &Call, seen: &mut Seen) {
     let before = table.clone();
     let outcome = run(table, call, Fault::None);
     let said = plan.draw(call, call.told(outcome.refusal));
-    assert!(agrees(&outcome, said), "{call:?}: {outcome:?}, plan: {said:?}");
+    assert!(agrees(&outcome, &said), "{call:?}: {outcome:?}, plan: {said:?}");
     assert_eq!(plan_of(table), *plan, "{call:?}");
     assert!(sound(table), "{call:?}");
     assert_eq!(load(&image_of(table)).0, *table, "{call:?}");
@@ -129,6 +133,12 @@ fn check(table: &mut Table, plan: &mut Plan, call: &Call, seen: &mut Seen) {
             seen.told_of_steps += u32::from(outcome.numbers[1] > 0);
         }
         (Call::PreviewClear { .. }, 11) => seen.short_previews += 1,
+        (Call::Rung { .. }, 0) => {
+            assert_eq!(*table, before, "{call:?}");
+            seen.rungs += 1;
+            seen.silent += u32::from(outcome.numbers[0] + 1 < table.size().into());
+        }
+        (Call::Rung { .. }, 11) => seen.short_rungs += 1,
         _ => {}
     }
     seen.refusals[usize::from(outcome.refusal)] += 1;
@@ -162,6 +172,7 @@ fn histories_agree_with_the_plan() {
     assert!(seen.slips > 1000 && seen.short_slips > 500);
     assert!(seen.taken_back > 1000 && seen.brought_back > 500 && seen.not_taken_back > 1000);
     assert!(seen.previews > 1000 && seen.told_of_steps > 500 && seen.short_previews > 500);
+    assert!(seen.rungs > 1000 && seen.silent > 500 && seen.short_rungs > 500);
 }
 
 /// A history, and what the right program gives: the outcome of each call and the table after it.
@@ -276,19 +287,34 @@ fn every_fault_is_found() {
         Fault::CabinsNotBack,
         Fault::ListedSaidBack,
         Fault::DoubtfulListed,
-        Fault::PreviewDescending,
-        Fault::NumbersInWords,
-        Fault::PreviewPadded,
         Fault::DoubtfulSaidToGo,
         Fault::WeakUnmarked,
         Fault::ExitLeftIn,
         Fault::CopiesLeftOut,
         Fault::PreviewRoomBeforeEmpty,
-        Fault::PreviewRoomFirst,
-        Fault::PreviewRoomForThese,
-        Fault::PreviewRoomByCapacity,
-        Fault::PreviewRoomForAlarm,
         Fault::PreviewClears,
+        Fault::EngagedTaken,
+        Fault::EveryExitTaken,
+        Fault::AlarmExitsTaken,
+        Fault::AnsweredAlone,
+        Fault::HeldListed,
+        Fault::AlarmListed,
+        Fault::ContactsAlone,
+        Fault::FirstRungAlone,
+        Fault::SameResultsAlone,
+        Fault::RingsLeftOut,
+        Fault::StepsSaidContacts,
+        Fault::NoContactSaid,
+        Fault::OneContactSaidMore,
+        Fault::RungMovesLast,
+        Fault::StepsDescending,
+        Fault::StepsInWords,
+        Fault::StepsPadded,
+        Fault::StepsRoomFirst,
+        Fault::StepsRoomForThese,
+        Fault::StepsRoomByCapacity,
+        Fault::StepsRoomForAlarm,
+        Fault::StepsRoomOneLess,
         Fault::DoubtfulSaidFreed,
         Fault::CountsExchanged,
         Fault::CountersExchanged,

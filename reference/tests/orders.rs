@@ -144,7 +144,7 @@ fn pairs_in_either_order() {
 
 #[test]
 fn pairs_in_histories() {
-    laws::pairs_in_histories(&right, 0..36).came_up(200);
+    laws::pairs_in_histories(&right, 0..54).came_up(200);
 }
 
 #[test]

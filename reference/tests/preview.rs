@@ -9,8 +9,9 @@ use reference::generate::{small_tables, Random};
 use reference::history::{begin, run, Call, Outcome, Start, UNTOUCHED};
 use reference::laws;
 use reference::plan::plan_of;
-use reference::preview::{preview_clear, PREVIEW_ROOM};
+use reference::preview::preview_clear;
 use reference::sound::sound;
+use reference::steps::STEPS_ROOM;
 use reference::table::{place, Table, EXITS};
 
 fn yes(first: u16, second: u16) -> Answer {
@@ -22,10 +23,10 @@ fn yes(first: u16, second: u16) -> Answer {
 #[track_caller]
 fn tells(table: &Table, step: u16, exit: u16, doubtful: u16, steps: &[u8]) {
     let counts = yes(doubtful, steps.len() as u16);
-    let mut buffer = [UNTOUCHED; PREVIEW_ROOM];
+    let mut buffer = [UNTOUCHED; STEPS_ROOM];
     assert_eq!(preview_clear(table, step, exit, &mut buffer), counts);
     assert_eq!(buffer[..steps.len()], *steps);
-    assert_eq!(buffer[steps.len()..], vec![UNTOUCHED; PREVIEW_ROOM - steps.len()]);
+    assert_eq!(buffer[steps.len()..], vec![UNTOUCHED; STEPS_ROOM - steps.len()]);
     let mut cleared = table.clone();
     assert_eq!(clear(&mut cleared, step, exit), counts);
     let freed = (0..128).filter(|&step| table.has(step.into()) && !cleared.has(step.into()));
@@ -261,9 +262,9 @@ fn long_buffers() {
 fn what_the_plan_says() {
     let plan = plan_of(&ring());
     for (step, exit, buffer, said) in [
-        (0, 0, 127, Ok([None, Some(2)])),
-        (1, 2, 128, Ok([None, Some(1)])),
-        (2, 2, 65_536, Ok([None, Some(0)])),
+        (0, 0, 127, Ok([None, Some(2)].into())),
+        (1, 2, 128, Ok([None, Some(1)].into())),
+        (2, 2, 65_536, Ok([None, Some(0)].into())),
         (2, 2, 126, Err(11)),
         (2, 0, 126, Err(6)),
         (2, 4, 126, Err(4)),
@@ -313,7 +314,7 @@ fn every_small_table() {
         for at in (0..3 * EXITS).filter(|&at| table.targets[at] != 0) {
             let (step, exit) = ((at / EXITS) as u16, (at % EXITS) as u16);
             assert_eq!(place(step.into(), exit.into()), at);
-            let told = laws::foretold(&right, &table, step, exit, PREVIEW_ROOM);
+            let told = laws::foretold(&right, &table, step, exit, STEPS_ROOM);
             let [doubtful, freed] = told.numbers[..] else { unreachable!() };
             found[usize::from(doubtful > 0) + usize::from(freed > 0)] += 1;
             found[3] += usize::from(freed > 0 && freed < doubtful);

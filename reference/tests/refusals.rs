@@ -2,7 +2,7 @@
 //! order of refusals, every content of each kind, with W9's contacts, and numbers that would wrap. A
 //! refused call changes neither table nor buffer.
 //! `convert` has W6's 17 and the orders of conversions, `slip` W7's 18 and the orders of its calls,
-//! `preview` the order of W8's.
+//! `preview` the order of W8's, `rung` that of telling who can be rung.
 
 mod contents;
 

@@ -8,6 +8,7 @@ use reference::faults::Fault;
 use reference::generate::Random;
 use reference::history::{agrees, run, Call};
 use reference::sound::sound;
+use reference::steps::STEPS_ROOM;
 use reference::table::{mark, members, Table};
 
 /// Step 0 leads to 1, 1 to 2, both strong; 2 leads weakly to 1 and 0 weakly to 2. Step 1 is cabin
@@ -140,6 +141,7 @@ fn calls() -> Vec<Call> {
         Call::Edit(Command::Add { holder: 0, exit: 3, kind: 1, content: 0, cabin: 0 }),
         Call::Edit(Command::Link { source: 0, source_exit: 0, second: 0, second_exit: 2 }),
         Call::Edit(Command::Clear { step: 0, exit: 0 }),
+        Call::Rung { buffer: STEPS_ROOM },
         Call::Squeeze { capacity: 128, quotas: one_cabin(128) },
         Call::Read { step: 0 },
         Call::Trial { limit: 4, results: vec![0, 1, 2, 3], trace: 4 },
@@ -157,7 +159,7 @@ fn answers_by_soundness(table: &Table) {
         let outcome = run(&mut given, &call, Fault::None);
         assert_eq!(outcome.refusal != 1, was_sound);
         assert_eq!(sound(&given), was_sound);
-        assert!(was_sound || (given == *table && agrees(&outcome, Err(1))));
+        assert!(was_sound || (given == *table && agrees(&outcome, &Err(1))));
     }
 }
 

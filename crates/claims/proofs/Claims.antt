@@ -10,6 +10,7 @@
 --   squeeze-*                 an accepted squeeze, and what its table does (W2)
 --   slip-demand take-back-demand told-demand   a clearing with a slip, its taking back, and what the plan is told of them (W7)
 --   preview-demand preview-refusals   what a clearing would free, and the clearing made next; when a preview is refused (W8)
+--   rung-demand rung-refusals rung-only rung-next ..   who can be rung, and the trial made next; when the call is refused
 --   clears-any-order two-clears second-clear   clearings of the same exits in any order, and of two (W14)
 --   line-demand-1 line-refusals line-unsound line-unknown line-nobody   calls on the dispatcher of one line, refused or not (W11)
 --   line-fresh line-raise line-withdraw line-next ..   accepted ones, what settles them, and two of one cabin
@@ -27,12 +28,13 @@ use Prim.Native.Nat.{ℕ, _≤_, _<_}
 use lib.ListN.{length, getD}
 use Rattle.table.specs.Table.{Table, places, counters, inUse, counterOf, linksTo, stepsInUse, StrongChain}
 use Rattle.table.specs.declared.Answer.the-variants.{Given}
-use Rattle.table.specs.Answer.{first, refusalOf}
+use Rattle.table.specs.Answer.{WriteOutcome, first, refusalOf, firstOf}
 use Rattle.table.specs.Cabins.{soleQuotas}
 use Rattle.table.specs.Sound.{Sound, sound, Shape, contentFits}
 use Rattle.table.specs.Calls.{addRefusal, addCall, linkRefusal, linkCall, spokenCounts}
 use Rattle.table.specs.Clear.{clearRefusal, clearCall}
 use Rattle.table.specs.Preview.{previewRefusal, previewCall}
+use Rattle.table.specs.Rung.{rungRefusal, rungCall, FewestResults, listUnder}
 use Rattle.table.specs.Squeeze.{newNumber, squeezeRefusal, squeezeCall, ClearsAlike}
 use Rattle.table.specs.Plan.{planOf}
 use Rattle.table.specs.Orders.{Exit, clearAll, freedSum, SameExits, SameEnd, TwoClearsDemand, SecondDemand}
@@ -41,9 +43,9 @@ use Rattle.image.specs.Image.{Edition, edition1, edition2, image, editionIn, im
 use Rattle.image.specs.Convert.{convertRefusal, convertCall}
 use Rattle.image.specs.Slip.{clearSlipRefusal, clearSlipCall, takeBackRefusal, takeBackCall}
 use Rattle.image.proofs.Laws as Images
-use Rattle.history.specs.History.{First, Call, withTold, tableAfter, heardBy, planAfter, drawnBy, firstRow, firstRefusal, firstTable, firstPlan}
+use Rattle.history.specs.History.{First, Call, rung, withTold, tableAfter, heardBy, planAfter, drawnBy, firstRow, firstRefusal, firstTable, firstPlan}
 use Rattle.history.specs.Acts.{Act, refusedBy}
-use Rattle.history.specs.Demands.{Demand1, Lent, Demand3, GuaranteeDemand, ChargesDemand, AddDemand, LinkDemand, ClearDemand, CountDemand, SqueezeDemand, TwiceDemand, WriteDemand, EqualDemand, SortedDemand, OldDemand, ConvertDemand, RefusalDemand, BeyondOld, SameTableDemand, ToldDemand, SlipDemand, TakeBackDemand, PreviewDemand, PreviewRefusalDemand}
+use Rattle.history.specs.Demands.{Demand1, Lent, Demand3, GuaranteeDemand, ChargesDemand, AddDemand, LinkDemand, ClearDemand, CountDemand, SqueezeDemand, TwiceDemand, WriteDemand, EqualDemand, SortedDemand, OldDemand, ConvertDemand, RefusalDemand, BeyondOld, SameTableDemand, ToldDemand, SlipDemand, TakeBackDemand, Among, PreviewDemand, PreviewRefusalDemand, RungDemand, RungRefusalDemand}
 use Rattle.line.specs.Line.{Dispatcher, waits, LineCall, fresh, raise, withdraw, next, LineOutcome, leftBy, lineCall, dispatcherAfter, servedBy, dispatcherWords, dispatcherOf, lineWordsOf}
 use Rattle.line.specs.Demands.{LineDemand1, Refusing, LineFits, FreshDemand, RaiseDemand, WithdrawDemand, NextDemand, Staying, ServedDemand}
 use Rattle.line.specs.Examples.{LineShown, anyWords, goingRound, servedAgain, lineRefused, everyone, sixteenNexts, busyCalls}
@@ -57,6 +59,7 @@ use Rattle.history.proofs.Demand1 as Refusals
 use Rattle.history.proofs.Demand2
 use Rattle.history.proofs.Slips
 use Rattle.history.proofs.Preview
+use Rattle.history.proofs.Rung
 use Rattle.table.proofs.Trials
 use Rattle.table.proofs.Rings
 use Rattle.table.proofs.Orders
@@ -90,6 +93,8 @@ use Rattle.telephone.proofs.plan_take_back.Statement as take-back-contract
 use Rattle.telephone.proofs.plan_take_back.Met as take-back-met
 use Rattle.telephone.proofs.plan_preview_clear.Statement as preview-clear-contract
 use Rattle.telephone.proofs.plan_preview_clear.Met as preview-clear-met
+use Rattle.telephone.proofs.plan_rung.Statement as rung-contract
+use Rattle.telephone.proofs.plan_rung.Met as rung-met
 use Rattle.telephone.proofs.plan_read.Statement as read-contract
 use Rattle.telephone.proofs.plan_read.Met as read-met
 use Rattle.telephone.proofs.plan_trial.Statement as trial-contract
@@ -274,6 +279,34 @@ preview-demand = Preview.preview-demand
 -- and when any preview is refused
 pub preview-refusals : (t : Table) (i e : ℕ) (buffer : List ℕ) → PreviewRefusalDemand t i e buffer (previewCall t i e buffer)
 preview-refusals = Preview.preview-refusals
+
+-- Who can be rung: a call that is not refused lists exactly the steps that some trial enters
+pub rung-demand : (t : Table) (buffer : List ℕ) → rungRefusal t (length buffer) ≡ 0 → RungDemand t buffer (rungCall t buffer)
+rung-demand = Rung.rung-demand
+
+-- and when any such call is refused
+pub rung-refusals : (t : Table) (buffer : List ℕ) → RungRefusalDemand t buffer (rungCall t buffer)
+rung-refusals = Rung.rung-refusals
+
+-- no other numbers and bytes are as it asks
+pub rung-only : {t : Table} {buffer : List ℕ} {o p : WriteOutcome} → RungDemand t buffer o → RungDemand t buffer p → o ≡ p
+rung-only = Rung.rung-only
+
+-- a step that was listed is entered by some trial made next, with the fewest line results; limit and results fit that call
+pub rung-next : (t : Table) (buffer : List ℕ) → rungRefusal t (length buffer) ≡ 0 → (k : ℕ) →
+    Among (firstOf (rungCall t buffer .answer)) (rungCall t buffer .buffer) k → FewestResults (tableAfter t (rung buffer ∷ [])) k
+rung-next = Rung.rung-next rung-demand
+
+pub fewest-fits : {t : Table} {k : ℕ} → Sound t → (x : FewestResults t k) → (x .limit < 65536) × (length (x .results) < 128)
+fewest-fits = Rung.fewest-fits
+
+-- the plan alone decides, and after a squeeze the same steps are listed under their new numbers: as whole outcomes, refused ones too
+pub rung-by-plan : (t u : Table) → Sound t → Sound u → planOf t ≡ planOf u → (buffer : List ℕ) → rungCall t buffer ≡ rungCall u buffer
+rung-by-plan = Rung.rung-by-plan
+
+pub squeeze-rung : (t : Table) → Sound t → (c : ℕ) (q : List ℕ) → squeezeRefusal t c q ≡ 0 → (buffer : List ℕ) →
+    rungCall (squeezeCall t c q .table) buffer ≡ listUnder (newNumber t) (rungCall t buffer)
+squeeze-rung = Rung.squeezed-rung
 
 -- W14: clearings of the same exits, in any order and refused or not, leave one plan and free as many steps, whatever the table
 pub clears-any-order : (t : Table) (xs ys : List Exit) → SameExits xs ys → SameEnd t xs ys
@@ -518,6 +551,9 @@ module _ {M : Type 1} where
 
   pub plan-preview-clear : preview-clear-contract.statement M
   plan-preview-clear = preview-clear-met.met
+
+  pub plan-rung : rung-contract.statement M
+  plan-rung = rung-met.met
 
   pub plan-read : read-contract.statement M
   plan-read = read-met.met

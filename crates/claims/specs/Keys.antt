@@ -11,11 +11,11 @@ use lib.ListN.{length}
 use Rattle.table.specs.Table.{places}
 use Rattle.table.specs.Cabins.{soleQuotas}
 use Rattle.table.specs.Plan.{freshPlan}
-use Rattle.history.specs.History.{Call, keyLine, Said, silent, number, freed, back, foreseen, spoken, Heard, drawnBy}
+use Rattle.history.specs.History.{Call, keyLine, Said, silent, number, freed, back, foreseen, spoken, listed, Heard, drawnBy}
 use Rattle.session.specs.Session.{linesOf, threeNumbers, keysOutput}
 
 -- "new step and 0 for H*1; 0 and 0 for H*2; the two counts for H*3; in use and free for H*4; 0 and 0 when refused": the number of steps made doubtful,
--- which no plan knows, is d; no key takes back or previews
+-- which no plan knows, is d; no key takes back, previews or asks who can be rung
 unfoldable pub drawnFirst : Said → ℕ → ℕ
 drawnFirst silent d = 0
 drawnFirst (number n) d = n
@@ -23,6 +23,7 @@ drawnFirst (freed n) d = d
 drawnFirst (spoken used free) d = used
 drawnFirst (back n) d = 0
 drawnFirst (foreseen n) d = 0
+drawnFirst (listed a b bytes) d = 0
 
 unfoldable pub drawnSecond : Said → ℕ
 drawnSecond silent = 0
@@ -31,6 +32,7 @@ drawnSecond (freed n) = n
 drawnSecond (spoken used free) = free
 drawnSecond (back n) = 0
 drawnSecond (foreseen n) = 0
+drawnSecond (listed a b bytes) = 0
 
 -- "the refusal or 0, then two numbers"
 unfoldable pub drawnLine : Heard → ℕ → List ℕ

@@ -20,11 +20,11 @@ use Rattle.table.specs.declared.Answer.{Answer}
 use Rattle.table.specs.declared.Answer.the-variants.{Refused, Given}
 use Rattle.table.specs.Table.{Table, places, counterPlace, inUse, ownBit, targetOf, linkBit, counterOf, strong, linked, stronglyLinked, withLinks}
 use Rattle.table.specs.Sound.{Formed, Sound}
-use Rattle.table.specs.Answer.{WriteOutcome, tooShort, first}
+use Rattle.table.specs.Answer.{WriteOutcome, tooShort, first, stepsRoom}
 use Rattle.table.specs.Calls.{HoldFits, lowered, raised, relink}
 use Rattle.table.specs.Clear.{Repair, emptied, heldStrongly, stops, doubtful, repair, repairOf, unlinked, blanked, eachDoubtful, release, size, repaired, cleared, clearRefusal}
 use Rattle.table.specs.Clear
-use Rattle.table.specs.Preview.{isFreed, wouldGo, previewRoom, previewRefusal, previewCall}
+use Rattle.table.specs.Preview.{isFreed, wouldGo, previewRefusal, previewCall}
 use Rattle.table.proofs.Links.{holds-target, bit-strong}
 use Rattle.table.proofs.Relink.{counter-place-below}
 use Rattle.table.proofs.Edits.{weak-bit}
@@ -35,7 +35,7 @@ use Rattle.words.proofs.Formed.{target-place}
 use Rattle.withdraw.specs.Withdraw.{Losing, candidate}
 use Rattle.withdraw.proofs.Doubtful.{losing-formed}
 use Rattle.repairing.specs.Repairing.{underRepair, asMarks, Repairable, Candidates, Settling}
-use Rattle.repairing.proofs.Laws.{marks-at}
+use Rattle.repairing.proofs.Laws.{marks-at, size-marks}
 use Rattle.repairing.proofs.Repairs.{wanted-in, candidates-begin}
 use Rattle.clearing.specs.Clearing.{Searched}
 
@@ -132,21 +132,21 @@ module _ {u v : Table} {n : ℕ} {doubt₀ wanted doubt : List ℕ} (m : Mended 
   left : asMarks n doubt ≡ repairOf u .doubt
   left = ap (λ (k : ℕ). asMarks k doubt) (sym (m .capacity)) ∙ ap (λ (r : Repair). r .doubt) over
 
-  pub repaired-answer : (doubts freed : ℕ) → doubts ≡ size (asMarks n doubt₀) n → freed ≡ size (asMarks n doubt) n →
+  pub repaired-answer : (doubts freed : ℕ) → doubts ≡ count n (isMarked doubt₀) → freed ≡ count n (isMarked doubt) →
       Given doubts freed ≡ repaired u .answer
   unfolding repaired
   repaired-answer doubts freed x y =
       let z : doubts ≡ size (doubtful u) (u .capacity) =
-      x ∙ ap (λ (k : ℕ). size (asMarks k doubt₀) k) (m .size) ∙ ap (λ (d : List Bool). size d (u .capacity)) marks in
-      ap₂ Given z (y ∙ ap₂ size left (m .size))
+      x ∙ sym (size-marks n doubt₀) ∙ ap (λ (k : ℕ). size (asMarks k doubt₀) k) (m .size) ∙ ap (λ (d : List Bool). size d (u .capacity)) marks in
+      ap₂ Given z (y ∙ sym (size-marks n doubt) ∙ ap₂ size left (m .size))
 
   pub repaired-table : release v (asMarks n doubt) ≡ repaired u .table
   unfolding repaired
   repaired-table = ap₂ release (ap (λ (r : Repair). r .table) over) left
 
   -- where no mark is left, nothing is to be freed
-  pub repaired-whole : size (asMarks n doubt) n ≡ 0 → v ≡ repaired u .table
-  repaired-whole z = release-none v (asMarks n doubt) (ap (size (asMarks n doubt)) (m .capacity) ∙ z) ∙ repaired-table
+  pub repaired-whole : count n (isMarked doubt) ≡ 0 → v ≡ repaired u .table
+  repaired-whole z = release-none v (asMarks n doubt) (ap (size (asMarks n doubt)) (m .capacity) ∙ size-marks n doubt ∙ z) ∙ repaired-table
 
 same-size : (t : Table) (i e : ℕ) {n : ℕ} → n ≡ t .capacity → n ≡ emptied t i e .capacity
 same-size t i e q = q ∙ (unfold emptied relink withLinks in refl)
@@ -255,18 +255,18 @@ module _ {t : Table} {i e n : ℕ} {doubt wanted doubt′ : List ℕ} (f : Fores
       (λ j l. sym (marks-at n doubt′ j l) ∙ ap (λ (d : List Bool). marked d j) left-marks ∙ sym (go-marked t i e s g (f .losing .goes) j))
       ∙ ap (λ (m : ℕ). those m (isFreed t (cleared t i e .table))) (f .size)
 
-  pub listed-fits : count n (isMarked doubt′) ≤ previewRoom
+  pub listed-fits : count n (isMarked doubt′) ≤ stepsRoom
   listed-fits =
       let l = sym (length-those n (isMarked doubt′)) ∙ ap length numbers ∙ go-length t i e s g in
       let fits = go-fits t i e s g in
       omega arith
 
-  pub foreseen-answer : (doubts freed : ℕ) → doubts ≡ Clear.size (asMarks n doubt) n → freed ≡ Clear.size (asMarks n doubt′) n →
+  pub foreseen-answer : (doubts freed : ℕ) → doubts ≡ count n (isMarked doubt) → freed ≡ count n (isMarked doubt′) →
       Given doubts freed ≡ cleared t i e .answer
   unfolding repaired
   foreseen-answer doubts freed a b =
       rw (f .losing .goes)
-      (ap₂ Given (a ∙ ap₂ Clear.size (ap (λ (m : ℕ). asMarks m doubt) size-after ∙ first-marks) size-after) (b ∙ ap₂ Clear.size left-marks size-after))
+      (ap₂ Given (a ∙ sym (size-marks n doubt) ∙ ap₂ Clear.size (ap (λ (m : ℕ). asMarks m doubt) size-after ∙ first-marks) size-after) (b ∙ sym (size-marks n doubt′) ∙ ap₂ Clear.size left-marks size-after))
 
   pub foreseen-written : (buffer : List ℕ) → those n (isMarked doubt′) ++ drop (count n (isMarked doubt′)) buffer ≡ wouldGo t i e ++ drop (length (wouldGo t i e)) buffer
   foreseen-written buffer =
@@ -290,11 +290,11 @@ module _ (t : Table) (i e : ℕ) (buffer : List ℕ) where
   pub not-previewed : (n : ℕ) → n ≡ clearRefusal t i e → (n ≡ 0 → ⊥) → (Refused n ≡ previewCall t i e buffer .answer) × (buffer ≡ previewCall t i e buffer .buffer)
   not-previewed n q d = refused n d (preview-order t i e buffer ∙ rw (sym q, ne-eqb n 0 d))
 
-  pub no-room : clearRefusal t i e ≡ 0 → length buffer < previewRoom → (Refused tooShort ≡ previewCall t i e buffer .answer) × (buffer ≡ previewCall t i e buffer .buffer)
-  no-room z l = refused tooShort (λ q. omega arith) (preview-order t i e buffer ∙ rw (eq-eqb (clearRefusal t i e) 0 z, lt-ltb (length buffer) previewRoom l))
+  pub no-room : clearRefusal t i e ≡ 0 → length buffer < stepsRoom → (Refused tooShort ≡ previewCall t i e buffer .answer) × (buffer ≡ previewCall t i e buffer .buffer)
+  no-room z l = refused tooShort (λ q. omega arith) (preview-order t i e buffer ∙ rw (eq-eqb (clearRefusal t i e) 0 z, lt-ltb (length buffer) stepsRoom l))
 
-  pub previewed : clearRefusal t i e ≡ 0 → previewRoom ≤ length buffer → {answer : Answer} {out : List ℕ} → answer ≡ cleared t i e .answer →
+  pub previewed : clearRefusal t i e ≡ 0 → stepsRoom ≤ length buffer → {answer : Answer} {out : List ℕ} → answer ≡ cleared t i e .answer →
       out ≡ wouldGo t i e ++ drop (length (wouldGo t i e)) buffer → (answer ≡ previewCall t i e buffer .answer) × (out ≡ previewCall t i e buffer .buffer)
   previewed z l a b =
-      let m = preview-made t i e buffer (preview-order t i e buffer ∙ rw (eq-eqb (clearRefusal t i e) 0 z, le-ltb (length buffer) previewRoom l)) in
+      let m = preview-made t i e buffer (preview-order t i e buffer ∙ rw (eq-eqb (clearRefusal t i e) 0 z, le-ltb (length buffer) stepsRoom l)) in
       (a ∙ sym (ap (λ (o : WriteOutcome). o .answer) m), b ∙ sym (ap (λ (o : WriteOutcome). o .buffer) m))

@@ -5,17 +5,16 @@ ghost use mathlib.Core.List.{_++_};
 ghost use Prim.Native.Nat.{_≤_};
 ghost use lib.ListN.{length, drop};
 ghost use Rattle.table.specs.Sound.{Sound};
+ghost use Rattle.table.specs.Answer.{stepsRoom};
 ghost use Rattle.table.specs.Calls.{HoldFits};
 ghost use Rattle.table.specs.Clear.{stops, repaired, cleared, clearRefusal, clearCall};
-ghost use Rattle.table.specs.Preview.{wouldGo, previewRoom, previewCall};
+ghost use Rattle.table.specs.Preview.{wouldGo, previewCall};
 ghost use Rattle.words.specs.Words.{tableOf, wordsOf, Becomes};
 ghost use Rattle.clearing.specs.Clearing.{Searched};
 use table::Answer;
 use words::PLACES;
+use words::STEPS_ROOM;
 use words::WORDS;
-
-// The bytes that the buffer of a preview has to have.
-const PREVIEW_ROOM: usize = 127;
 
 // Rule 1: whether a clearing of exit e of step i, which holds a link, goes on: the link is strong, and its target has no other strong link.
 // This is the test of `DeletePtr` in source paper 001.
@@ -43,9 +42,9 @@ fn repair_table(
     ensures table { λ r. ⌜ Becomes (now (t .entry)) (now (t .exit)) (repaired (tableOf (now (t .entry))) .table) ⌝ }
 {
     let n = words::wide(words::capacity(t));
-    let doubts = repairing::count_marks(n, doubt);
+    let doubts = marking::count_marks(n, doubt);
     repairing::repair_steps(t, n, doubt, wanted);
-    let freed = repairing::count_marks(n, doubt);
+    let freed = marking::count_marks(n, doubt);
     if freed != 0 {
         repairing::free_steps(t, n, doubt);
     }
@@ -71,7 +70,7 @@ pub fn clear_exit(t: &mut [u16; WORDS], i: usize, e: usize) -> Answer
 
 // The same, and the table stays as it is: the steps that the clearing would free are written to the start of the buffer. Gives back both counts.
 fn preview_exit(t: &[u16; WORDS], i: usize, e: usize, buffer: &mut [u8]) -> Answer
-    requires { ⌜ Sound (tableOf (now t)) × HoldFits (tableOf (now t)) i e × (previewRoom ≤ length (now buffer)) ⌝ }
+    requires { ⌜ Sound (tableOf (now t)) × HoldFits (tableOf (now t)) i e × (stepsRoom ≤ length (now buffer)) ⌝ }
     ensures answer { λ r. ⌜ r ≡ cleared (tableOf (now (t .entry))) i e .answer ⌝ }
     ensures written { λ r. ⌜ now (buffer .exit) ≡
         wouldGo (tableOf (now (t .entry))) i e ++ drop (length (wouldGo (tableOf (now (t .entry))) i e)) (now (buffer .entry)) ⌝ }
@@ -83,9 +82,9 @@ fn preview_exit(t: &[u16; WORDS], i: usize, e: usize, buffer: &mut [u8]) -> Answ
     let mut wanted = [0u16; PLACES];
     withdraw::find_doubtful(t, i, e, &mut doubt, &mut wanted);
     let n = words::wide(words::capacity(t));
-    let doubts = repairing::count_marks(n, &doubt);
+    let doubts = marking::count_marks(n, &doubt);
     repairing::keep_steps(t, n, &mut doubt, &mut wanted);
-    let freed = repairing::list_marks(n, &doubt, buffer);
+    let freed = marking::list_marks(n, &doubt, buffer);
     Answer::Given(doubts, freed)
 }
 
@@ -124,7 +123,7 @@ pub fn preview_clear(t: &[u16; WORDS], step: u16, exit: u16, buffer: &mut [u8]) 
     if stopped != 0 {
         return Answer::Refused(stopped);
     }
-    if buffer.len() < PREVIEW_ROOM {
+    if buffer.len() < STEPS_ROOM {
         return Answer::Refused(words::TOO_SHORT);
     }
     preview_exit(t, words::wide(step), words::wide(exit), buffer)

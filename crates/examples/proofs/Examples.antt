@@ -6,10 +6,10 @@ use mathlib.Core.List.{_++_}
 use Rattle.finite.proofs.Bools.{and-intro}
 use Rattle.cases.specs.Cases.{walk, everyRun, tableF4}
 use Rattle.cases.proofs.Computes.{computes}
-use Rattle.examples.specs.Examples.{p1ToP7, p8, p9, twoCandidates, squeezes, waits, messages, ends, shares5, shared, lists, previews, examples, beginnings, noAlarm, notSoundReasons, reasons, refusals, keyLines, Decodes, failing, tableP1, unsound, failAsSaid}
+use Rattle.examples.specs.Examples.{p1ToP7, p8, p9, twoCandidates, squeezes, waits, messages, ends, shares5, shared, lists, previews, rings, flat, examples, beginnings, noAlarm, notSoundReasons, reasons, refusals, keyLines, Decodes, failing, tableP1, unsound, failAsSaid}
 
 runs : Bool
-unfolding computes previews shares5 shared lists twoCandidates squeezes waits messages ends failing tableP1 unsound failAsSaid p1ToP7 p8 p9 beginnings noAlarm notSoundReasons reasons
+unfolding computes previews rings flat shares5 shared lists twoCandidates squeezes waits messages ends failing tableP1 unsound failAsSaid p1ToP7 p8 p9 beginnings noAlarm notSoundReasons reasons
 runs = true
 
 -- one declaration for each run, since antt bounds the steps of one
@@ -45,6 +45,14 @@ previews-hold : walk tableF4 previews ≡ true
 unfolding runs
 previews-hold = refl
 
+rings-hold : walk tableF4 rings ≡ true
+unfolding runs
+rings-hold = refl
+
+flat-holds : walk tableF4 flat ≡ true
+unfolding runs
+flat-holds = refl
+
 shared-holds : walk tableF4 (shared ++ lists) ≡ true
 unfolding runs
 shared-holds = refl
@@ -72,10 +80,12 @@ examples-hold =
     (and-intro messages-hold
     (and-intro ends-hold
     (and-intro previews-hold
+    (and-intro rings-hold
+    (and-intro flat-holds
     (and-intro shared-holds
     (and-intro beginnings-hold
     (and-intro not-sound-reasons-hold
-    (and-intro reasons-hold refl)))))))))))
+    (and-intro reasons-hold refl)))))))))))))
 
 pub lines-decoded : Decodes keyLines
 unfolding runs keyLines

@@ -1,4 +1,4 @@
--- Examples of calls: P1 to P9 of document 01 ("Edits on F4"), what they do not show, W2's, W3's, W5's and W8's, then each call refused for each of its
+-- Examples of calls: P1 to P9 of document 01 ("Edits on F4"), what they do not show, W2's, W3's, W5's and W8's, who can be rung, then each call refused for each of its
 -- reasons ("Reasons for no") and the calls that P1 to P9 do not make. The entries of a run are made one after the other, each on the table that the one
 -- before left. Assumes nothing.
 --   examples, refusals   the table
@@ -10,19 +10,17 @@ use mathlib.Core.List.{List, [], _∷_, _++_}
 use Prim.Native.Nat.{ℕ, suc, _+_}
 use lib.ListN.{set, take, replicate}
 use Rattle.finite.specs.Below.{same}
-use Rattle.table.specs.Table.{Table, holds, strong, withNumbers, withLinks, withSteps}
+use Rattle.table.specs.Table.{Table, withNumbers, withLinks, withSteps}
 use Rattle.table.specs.Cabins.{soleQuotas}
 use Rattle.table.specs.Sound.{soundTests}
 use Rattle.table.specs.Calls.{addCall}
-use Rattle.table.specs.Clear.{doubtful}
-use Rattle.image.specs.Image.{image}
 use Rattle.keyline.specs.declared.Command.the-variants.{Add, Link, Clear, Count}
 use Rattle.keyline.specs.declared.Decoded.{Decoded}
 use Rattle.keyline.specs.declared.Decoded.the-variants.{Line, Nothing}
 use Rattle.keyline.specs.Keys.{decode}
-use Rattle.history.specs.History.{fresh, load, add, link, clear, read, trial, write, keyLine, squeeze, clearSlip, takeBack, preview}
+use Rattle.history.specs.History.{fresh, load, add, link, clear, read, trial, write, keyLine, squeeze, clearSlip, takeBack, preview, rung}
 use Rattle.history.specs.Acts.{begin, call}
-use Rattle.cases.specs.Cases.{taken, nothing, weakLink, strongLink, Entry, Run, line, tableF4, _is_, accepts, refuses, answer, bytes, order, sizes, steps, what, own, counts, exit, cabin, quotas, charges}
+use Rattle.cases.specs.Cases.{nothing, weakLink, strongLink, Entry, Run, line, tableF4, _is_, accepts, refuses, answer, bytes, order, sizes, steps, what, own, counts, exit, cabin, quotas, charges}
 use Rattle.cases.specs.Bytes.{imageP5}
 
 -- "P1 to P7 run on from each other."
@@ -338,6 +336,57 @@ previews =
     accepts (call (preview 0 0 (replicate 127 9))) (answer is (1 ∷ 1 ∷ []) ∷ bytes is (1 ∷ replicate 126 9) ∷ []) ∷
     []
 
+-- who can be rung: held and rung are two things
+unfoldable pub rings : List Entry
+rings =
+    -- nobody, and no byte is written
+    accepts (call (rung (replicate 127 9))) (answer is (0 ∷ 0 ∷ []) ∷ bytes is (replicate 127 9) ∷ []) ∷
+    -- a wait, and a contact in its engaged exit, by which no wait goes on
+    accepts (call (add 0 0 3 60 0)) (answer is (1 ∷ 0 ∷ []) ∷ []) ∷
+    accepts (call (add 1 1 1 7 0)) (answer is (2 ∷ 0 ∷ []) ∷ []) ∷
+    accepts (call (rung (replicate 127 9))) (answer is (1 ∷ 0 ∷ []) ∷ bytes is (1 ∷ replicate 126 9) ∷ steps is (0 ∷ 1 ∷ 2 ∷ []) ∷ []) ∷
+    -- a contact in its answered exit, which goes on to the other by its line fault
+    accepts (call (add 1 0 1 8 0)) (answer is (3 ∷ 0 ∷ []) ∷ []) ∷
+    accepts (call (rung (replicate 128 9))) (answer is (2 ∷ 1 ∷ []) ∷ bytes is (1 ∷ 3 ∷ replicate 126 9) ∷ []) ∷
+    accepts (call (link 1 1 3 3)) [] ∷
+    accepts (call (rung (replicate 127 9))) (answer is (3 ∷ 2 ∷ []) ∷ bytes is (1 ∷ 2 ∷ 3 ∷ replicate 124 9) ∷ []) ∷
+    -- a ring back to the wait changes nothing
+    accepts (call (link 0 0 2 2)) [] ∷
+    accepts (call (rung (replicate 127 9))) (answer is (3 ∷ 2 ∷ []) ∷ bytes is (1 ∷ 2 ∷ 3 ∷ replicate 124 9) ∷ exit 2 2 is (weakLink ∷ 1 ∷ []) ∷ []) ∷
+    -- the alarm goes on by answered alone: all steps stay, and nobody is rung
+    accepts (call (link 0 0 0 3)) [] ∷
+    accepts (call (clear 0 0)) (answer is (3 ∷ 0 ∷ []) ∷ []) ∷
+    accepts (call (rung (replicate 127 9))) (answer is (0 ∷ 0 ∷ []) ∷ bytes is (replicate 127 9) ∷ steps is (0 ∷ 1 ∷ 2 ∷ 3 ∷ []) ∷ []) ∷
+    -- 127 bytes are asked, whatever the table
+    refuses (call (rung (replicate 126 9))) 11 ∷
+    []
+
+-- "I took one exit off the plan. Why does the alarm no longer ring the primary call centre?" A message, the caretaker's flat (contact 42), on no reply the
+-- primary and nine more contacts; the alarm's engaged exit leads to the primary too
+unfoldable pub flat : List Entry
+flat =
+    accepts (begin (fresh 13 (soleQuotas 13))) [] ∷
+    accepts (call (add 0 0 2 4 0)) (answer is (1 ∷ 0 ∷ []) ∷ []) ∷
+    accepts (call (add 1 0 1 42 0)) (answer is (2 ∷ 0 ∷ []) ∷ []) ∷
+    accepts (call (add 2 2 1 0 0)) (answer is (3 ∷ 0 ∷ []) ∷ []) ∷
+    accepts (call (add 3 2 1 1 0)) [] ∷
+    accepts (call (add 4 2 1 2 0)) [] ∷
+    accepts (call (add 5 2 1 3 0)) [] ∷
+    accepts (call (add 6 2 1 4 0)) [] ∷
+    accepts (call (add 7 2 1 5 0)) [] ∷
+    accepts (call (add 8 2 1 6 0)) [] ∷
+    accepts (call (add 9 2 1 7 0)) [] ∷
+    accepts (call (add 10 2 1 8 0)) [] ∷
+    accepts (call (add 11 2 1 9 0)) (answer is (12 ∷ 0 ∷ []) ∷ []) ∷
+    accepts (call (link 2 2 0 1)) [] ∷
+    -- all can be rung
+    accepts (call (rung (replicate 127 0)))
+    (answer is (12 ∷ 11 ∷ []) ∷ bytes is (1 ∷ 2 ∷ 3 ∷ 4 ∷ 5 ∷ 6 ∷ 7 ∷ 8 ∷ 9 ∷ 10 ∷ 11 ∷ 12 ∷ replicate 115 0) ∷ []) ∷
+    -- the flat's no-reply exit cleared: nothing goes, and the primary and nine others are silent for ever
+    accepts (call (clear 2 2)) (answer is (10 ∷ 0 ∷ []) ∷ steps is (0 ∷ 1 ∷ 2 ∷ 3 ∷ 4 ∷ 5 ∷ 6 ∷ 7 ∷ 8 ∷ 9 ∷ 10 ∷ 11 ∷ 12 ∷ []) ∷ []) ∷
+    accepts (call (rung (replicate 127 0))) (answer is (2 ∷ 1 ∷ []) ∷ bytes is (1 ∷ 2 ∷ replicate 125 0) ∷ []) ∷
+    []
+
 unfoldable pub examples : List Run
 examples =
     record { table = tableF4; entries = p1ToP7 } ∷
@@ -348,6 +397,8 @@ examples =
     record { table = tableF4; entries = messages } ∷
     record { table = tableF4; entries = ends } ∷
     record { table = tableF4; entries = previews } ∷
+    record { table = tableF4; entries = rings } ∷
+    record { table = tableF4; entries = flat } ∷
     record { table = tableF4; entries = shared ++ lists } ∷
     []
 
@@ -379,6 +430,7 @@ notSoundReasons =
     refuses (call (add 1 4 0 0 8)) 1 ∷
     refuses (call (link 1 4 1 4)) 1 ∷
     refuses (call (clear 1 4)) 1 ∷
+    refuses (call (rung [])) 1 ∷
     refuses (call (read 1)) 1 ∷
     refuses (call (trial 2 (0 ∷ 4 ∷ []) (7 ∷ []))) 1 ∷
     refuses (call (write (7 ∷ []))) 1 ∷

@@ -3,6 +3,7 @@
 --   count-packed      a count over blocks of places, those of the numbers that fail empty
 --   count-past        a count whose last numbers all fail
 --   count-every       a count in which no number fails
+--   those-packed those-past   the list of those that pass another test, under their indices; a list whose last numbers all fail
 --   tabulate-next tabulate-past take-tabulate   a list by its entries: one more, some more that are all the same, the first of them
 --   tabulate-blocks                             an entry of a list that is made in blocks
 --   map-tabulate map-append                     a change of each entry
@@ -12,13 +13,15 @@ use mathlib.Core.Logic.{⊎-elim}
 use mathlib.Core.List.{List, [], _∷_, _++_, map}
 use Prim.Native.Nat.{ℕ, zero, suc, _+_, _*_, _-_, _/_, _%_, _≤_, _<_}
 use native.Mathlib.Nat.{zero-mul, suc-mul, mul-le-mul-right, mul-add-div-right, mul-add-mod-self-right, div-eq-of-lt, mod-eq-of-lt}
+use native.Mathlib.Numerals.{add-one}
 use native.Mathlib.Omega.{arith}
 use lib.ListN.{getD, take, replicate}
 use lib.Seq.{take-at}
-use Rattle.finite.specs.Below.{one, count, tabulate, tabulateFrom}
+use Rattle.finite.specs.Below.{one, count, those, tabulate, tabulateFrom}
 use Rattle.finite.proofs.Bools.{test}
 use Rattle.finite.proofs.Below.{count-ext, count-none, length-tabulate, getD-tabulate}
-use Rattle.finite.proofs.Loops.{count-add}
+use Rattle.finite.proofs.Loops.{count-add, count-hit, count-miss}
+use Rattle.finite.proofs.Those.{those-hit, those-miss}
 
 -- blocks of w places, one for each number below m; those that pass u are packed
 pub count-packed : (w m : ℕ) (u p q : ℕ → Bool) → ((i e : ℕ) → i < m → e < w → u i ≡ true → q (count i u * w + e) ≡ p (i * w + e)) →
@@ -112,3 +115,27 @@ module _ {A B : Type 0} where
   pub map-append : (g : A → B) (xs ys : List A) → map g (xs ++ ys) ≡ map g xs ++ map g ys
   map-append g [] ys = refl
   map-append g (x ∷ xs) ys = ap {B = List B} (λ l. g x ∷ l) (map-append g xs ys)
+
+-- p says of a number in use what q says of its index, and no other passes p
+pub those-packed : (n : ℕ) (u p q : ℕ → Bool) → ((i : ℕ) → i < n → u i ≡ true → q (count i u) ≡ p i) → ((i : ℕ) → i < n → u i ≡ false → p i ≡ false) →
+    those (count n u) q ≡ map (λ i. count i u) (those n p)
+those-packed zero u p q f g = unfold count those in refl
+those-packed (suc n) u p q f g =
+    let before = those-packed n u p q (λ i l. f i (omega arith)) (λ i l. g i (omega arith)) in
+    let again : those (count (n + 1) u) q ≡ map (λ i. count i u) (those (n + 1) p) =
+    ⊎-elim
+    (λ (h : u n ≡ true).
+    ⊎-elim
+    (λ (y : p n ≡ true).
+    rw (count-hit n u h, those-hit n p y) (those-hit (count n u) q (f n (omega arith) h ∙ y) ∙ rw before (sym (map-append (λ i. count i u) (those n p) (n ∷ [])))))
+    (λ (y : p n ≡ false). rw (count-hit n u h, those-miss n p y) (those-miss (count n u) q (f n (omega arith) h ∙ y) ∙ before))
+    (test (p n)))
+    (λ (h : u n ≡ false). rw (count-miss n u h, those-miss n p (g n (omega arith) h)) before)
+    (test (u n)) in
+    rw (add-one n) at again
+
+pub those-past : (n m : ℕ) (p : ℕ → Bool) → ((k : ℕ) → n ≤ k → p k ≡ false) → those (n + m) p ≡ those n p
+those-past n zero p h = let z : n + 0 ≡ n = omega arith in ap (λ (k : ℕ). those k p) z
+those-past n (suc m) p h =
+    let z : n + suc m ≡ (n + m) + 1 = omega arith in
+    ap (λ (k : ℕ). those k p) z ∙ those-miss (n + m) p (h (n + m) (omega arith)) ∙ those-past n m p h

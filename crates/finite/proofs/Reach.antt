@@ -1,17 +1,19 @@
 -- The marks are the chains: what `reach` marks is what a chain leads to. Assumes nothing.
---   reach-sound      a marked number has a chain
+--   within E n a r   the marks after r rounds
+--   within-short within-chain   they are what a chain of at most r links leads to
+--   reach-sound      a marked number has a chain; reach-short, one of at most n links
 --   reach-complete   a chain of links below n ends in a marked number
 --   chain-named chain-unnamed reach-named   chains and marks under other names of the numbers
 use mathlib.Core.Path.{_≡_, refl, sym, _∙_, subst}
 use mathlib.Core.Bool.{Bool, true, false, _&&_, _||_}
 use mathlib.Core.Logic.{_⊎_, inl, inr, ⊎-elim}
 use mathlib.Core.List.{List}
-use Prim.Native.Nat.{ℕ, suc, _+_, _≤_, _<_}
+use Prim.Native.Nat.{ℕ, zero, suc, _+_, _≤_, _<_}
 use native.Mathlib.Omega.{arith}
 use lib.ListN.{length, List·getD-eq-default}
 use lib.Dec.{eqb}
 use borrow.Author.Tests.{eqb-true, eq-eqb}
-use Rattle.finite.specs.Below.{any, count, tabulate}
+use Rattle.finite.specs.Below.{any, count, rounds, tabulate}
 use Rattle.finite.specs.Reach.{Chain, start, then, marked, grow, reach, reaches}
 use Rattle.finite.proofs.Bools.{and-intro, and-left, and-right, or-left, or-right, or-elim, clash, same-test}
 use Rattle.finite.proofs.Below.{le-or-lt, any-at, any-intro, count-le, count-same, count-pos, rounds-keep, rounds-induct, length-tabulate, getD-tabulate}
@@ -62,6 +64,10 @@ module _ {E F : ℕ → ℕ → Bool} (f : ℕ → ℕ) (P : ℕ → Type 0) whe
       let s = h (r .0) k (r .1) (rw (r .2) at l) in
       (s .0, s .1, s .2, then (r .3) (s .3))
 
+-- `reach` makes n rounds
+unfoldable pub within : (ℕ → ℕ → Bool) → ℕ → ℕ → ℕ → List Bool
+within E n a r = rounds r (λ i m. grow E n m) (tabulate n (λ j. eqb j a))
+
 module _ (E : ℕ → ℕ → Bool) (n : ℕ) where
   marked-below : (m : List Bool) (j : ℕ) → length m ≡ n → marked m j ≡ true → j < n
   marked-below m j e t =
@@ -86,35 +92,56 @@ module _ (E : ℕ → ℕ → Bool) (n : ℕ) where
   grow-adds m i j h g t l =
       rw (grow-at m j g) (or-right (marked m j) _ (any-intro n (λ k. marked m k && E k j) i h (and-intro t l)))
 
-  -- each mark has its chain
-  Reached : ℕ → List Bool → Type 0
-  Reached a m = (length m ≡ n) × ((j : ℕ) → marked m j ≡ true → (k : ℕ) × Chain E a j k)
+  -- after k rounds each mark has its chain, of at most k links
+  Reached : ℕ → ℕ → List Bool → Type 0
+  Reached a k m = (length m ≡ n) × ((j : ℕ) → marked m j ≡ true → (c : ℕ) × (c ≤ k) × Chain E a j c)
 
-  pub reach-sound : (a b : ℕ) → reaches E n a b ≡ true → (k : ℕ) × Chain E a b k
-  unfolding reaches reach Reached
-  reach-sound a b t = rounds-keep (Reached a) n (λ i m. grow E n m) (tabulate n (λ j. eqb j a)) more base .1 b t
+  reached-within : (a r : ℕ) → Reached a r (within E n a r)
+  unfolding within Reached
+  reached-within a r = rounds-induct (Reached a) r (λ i m. grow E n m) (tabulate n (λ j. eqb j a)) more base
     where
-      base : Reached a (tabulate n (λ j. eqb j a))
+      base : Reached a 0 (tabulate n (λ j. eqb j a))
       base = (
         length-tabulate n _,
         λ j u.
             let h = marked-below (tabulate n (λ j. eqb j a)) j (length-tabulate n _) u in
             let e : j ≡ a = eqb-true j a (sym (getD-tabulate n (λ j. eqb j a) false j h) ∙ u) in
-            (0, subst (λ (x : ℕ). Chain E a x 0) (sym e) start),
+            (0, omega arith, subst (λ (x : ℕ). Chain E a x 0) (sym e) start),
       )
 
-      more : (k : ℕ) → k < n → (m : List Bool) → Reached a m → Reached a (grow E n m)
-      more k l m r = (
+      more : (k : ℕ) → k < r → (m : List Bool) → Reached a k m → Reached a (suc k) (grow E n m)
+      more k l m x = (
         length-grow m,
         λ j u.
             let h = marked-below (grow E n m) j (length-grow m) u in
-            ⊎-elim (λ v. r .1 j v)
+            ⊎-elim (λ v. let c = x .1 j v in (c .0, omega (arith, c .1), c .2))
             (λ v.
             let w = any-at n (λ i. marked m i && E i j) v in
-            let c = r .1 (w .0) (and-left (marked m (w .0)) (E (w .0) j) (w .2)) in
-            (suc (c .0), then (c .1) (and-right (marked m (w .0)) (E (w .0) j) (w .2))))
+            let c = x .1 (w .0) (and-left (marked m (w .0)) (E (w .0) j) (w .2)) in
+            (suc (c .0), omega (arith, c .1), then (c .2) (and-right (marked m (w .0)) (E (w .0) j) (w .2))))
             (or-elim (marked m j) _ (sym (grow-at m j h) ∙ u)),
       )
+
+  pub within-short : (a b r : ℕ) → marked (within E n a r) b ≡ true → (c : ℕ) × (c ≤ r) × Chain E a b c
+  unfolding Reached
+  within-short a b r t = reached-within a r .1 b t
+
+  -- links lead below n
+  pub within-chain : ((i j : ℕ) → E i j ≡ true → j < n) → {a b c : ℕ} (r : ℕ) → a < n → c ≤ r → Chain E a b c → marked (within E n a r) b ≡ true
+  unfolding within rounds Reached
+  within-chain w {a} zero h l start = getD-tabulate n (λ j. eqb j a) false a h ∙ eq-eqb a a refl
+  within-chain w {a} zero h l (then q k) = absurd (omega arith)
+  within-chain w {a} (suc r) h l start = grow-keeps _ a h (within-chain w r h (omega arith) start)
+  within-chain w {a} (suc r) h l (then {b = b} {c = c} q k) =
+      let t = within-chain w r h (omega arith) q in
+      grow-adds _ b c (marked-below (within E n a r) b (reached-within a r .0) t) (w b c k) t k
+
+  pub reach-short : (a b : ℕ) → reaches E n a b ≡ true → (c : ℕ) × (c ≤ n) × Chain E a b c
+  unfolding reaches reach within
+  reach-short a b t = within-short a b n t
+
+  pub reach-sound : (a b : ℕ) → reaches E n a b ≡ true → (k : ℕ) × Chain E a b k
+  reach-sound a b t = let c = reach-short a b t in (c .0, c .2)
 
   -- a set of marks that no link leaves
   Closed : List Bool → Type 0

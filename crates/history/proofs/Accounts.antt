@@ -22,6 +22,7 @@ use Rattle.table.specs.Answer.{Outcome, notSound, notInUse, badExit, exitFilled
 use Rattle.table.specs.Calls.{HoldFits, numberGiven, relink, addConditions, addRefusal, addCall, linkTable, linkCall, spokenCounts}
 use Rattle.table.specs.Clear.{emptied, cleared, clearRefusal, clearCall}
 use Rattle.table.specs.Preview.{previewCall}
+use Rattle.table.specs.Rung.{rungCall}
 use Rattle.table.specs.Squeeze.{squeezeRefusal, squeezeCall}
 use Rattle.table.proofs.Links.{formed-wired}
 use Rattle.table.proofs.Cabins.{formed-charges, guarantee-free, charged-used, used-charged, Adds, charge-more, charge-stays}
@@ -36,7 +37,7 @@ use Rattle.keyline.specs.declared.Command.the-variants.{Add, Link, Clear, Count
 use Rattle.keyline.specs.declared.Decoded.{Decoded}
 use Rattle.keyline.specs.declared.Decoded.the-variants.{Line, Nothing}
 use Rattle.keyline.specs.Keys.{keyCabin, decode, perform, callConditions, lineConditions, performLine, keyCall}
-use Rattle.history.specs.History.{First, Call, add, link, clear, read, trial, write, keyLine, squeeze, clearSlip, takeBack, preview, Said, silent, number, freed, back, foreseen, spoken, saidBy, commandSays, lineSays, row, run, tableAfter, heardBy, firstTable}
+use Rattle.history.specs.History.{First, Call, add, link, clear, read, trial, write, keyLine, squeeze, clearSlip, takeBack, preview, rung, Said, silent, number, freed, back, foreseen, spoken, listed, saidBy, commandSays, lineSays, row, run, tableAfter, heardBy, firstTable}
 use Rattle.history.specs.Accounts.{gone, booked, account, summed, tally}
 use Rattle.history.specs.Demands.{NotFull, GuaranteeDemand, ChargesDemand}
 use Rattle.history.proofs.Demand1.{performed}
@@ -209,11 +210,16 @@ module _ {t : Table} (s : Sound t) where
       (counts-unless cabin (clearSlipRefusal t i e (length buffer)) _ t (cleared t i e)
       (λ z. counts-cleared i e (slip-cleared t i e buffer z .0) cabin))
 
-  -- what a preview says is not booked
+  -- what a preview says is not booked, nor who can be rung
   counts-preview : (cabin : ℕ) (a : Answer) → Counts cabin t (saidBy (λ a b. foreseen b) a) t
   unfolding saidBy booked summed
   counts-preview cabin (Refused n) = record { each = λ c. refl; steps = λ n q. q }
   counts-preview cabin (Given a b) = record { each = λ c. refl; steps = λ n q. q }
+
+  counts-rung : (cabin : ℕ) (bytes : List ℕ) (a : Answer) → Counts cabin t (saidBy (λ a b. listed a b bytes) a) t
+  unfolding saidBy booked summed
+  counts-rung cabin bytes (Refused n) = record { each = λ c. refl; steps = λ n q. q }
+  counts-rung cabin bytes (Given a b) = record { each = λ c. refl; steps = λ n q. q }
 
 module _ {t : Table} (s : Sound t) where
   counts-back : (cabin : ℕ) (bs : List ℕ) → Counts cabin t (saidBy (λ a b. back a) (takeBackCall t bs .answer)) (takeBackCall t bs .table)
@@ -240,6 +246,7 @@ module _ {t : Table} (s : Sound t) where
   call-counts (clearSlip i e buffer) = counts-slip s keyCabin i e buffer
   call-counts (takeBack bs) = counts-back keyCabin bs
   call-counts (preview i e buffer) = counts-preview s keyCabin (previewCall t i e buffer .answer)
+  call-counts (rung buffer) = counts-rung s keyCabin (rungCall t buffer .buffer) (rungCall t buffer .answer)
 
 -- along the list
 after-account : (c : ℕ) (t : Table) → Sound t → (cs : List Call) → charge (tableAfter t cs) c ≡ account c (charge t c) t cs

@@ -16,18 +16,20 @@ use Rattle.table.specs.declared.Answer.{Answer}
 use Rattle.table.specs.declared.Answer.the-variants.{Refused, Given}
 use Rattle.table.specs.Table.{Table}
 use Rattle.table.specs.Sound.{Sound}
-use Rattle.table.specs.Answer.{Outcome, WriteOutcome, tooShort, slipNotAccepted, first, unless, refusalOf, secondOf, triedRefusal}
+use Rattle.table.specs.Answer.{Outcome, WriteOutcome, tooShort, slipNotAccepted, first, stepsRoom, unless, refusalOf, secondOf, triedRefusal}
 use Rattle.table.specs.Calls.{HoldFits, addCall, linkCall, readCall, spokenCounts}
 use Rattle.table.specs.Trial.{trialCall}
 use Rattle.table.specs.Clear.{cleared, clearRefusal, clearCall}
-use Rattle.table.specs.Preview.{previewRoom, previewRefusal, previewCall}
-use Rattle.table.specs.Plan.{planOf, planCount, planHoldTests, planClearRefusal, planClearIntoRefusal, planReadRefusal, planTrialRefusal}
+use Rattle.table.specs.Preview.{previewRefusal, previewCall}
+use Rattle.table.specs.Rung.{rungRefusal, rungCall}
+use Rattle.table.specs.Plan.{planOf, planCount, planHoldTests, planClearRefusal, planClearIntoRefusal, planReadRefusal, planTrialRefusal, planRungRefusal}
 use Rattle.table.proofs.Links.{sound-wired}
 use Rattle.table.proofs.Plan.{plan-capacity, plan-count}
 use Rattle.table.proofs.Clear.{emptied-steps}
 use Rattle.table.proofs.Trials.{trial-refusal-given}
 use Rattle.table.proofs.Calls.{done, next, first-same, nonzero, first-append, past-sound, unless-zero, unless-refused, add-refusal, link-refusal, clear-refusal, into-refusal, read-refusal, trial-refusal, add-fits, link-fits, clear-fits, number-plan, add-sound, add-plan, link-sound, link-plan, clear-cleared, clear-plan}
 use Rattle.table.proofs.Preview.{preview-made, preview-refused-as, preview-accepted}
+use Rattle.table.proofs.Rung.{rung-refused-as, rung-refusal-given, rung-refusal, plan-rung}
 use Rattle.table.specs.Squeeze.{squeezeCall}
 use Rattle.table.proofs.Squeeze.{squeeze-fits, squeeze-sound, squeeze-plan, squeeze-refusal}
 use Rattle.image.specs.Image.{writtenEdition, imageSize, imageLength, writeRefusal, writeCall}
@@ -39,7 +41,7 @@ use Rattle.keyline.specs.declared.Command.the-variants.{Add, Link, Clear, Count
 use Rattle.keyline.specs.declared.Decoded.{Decoded}
 use Rattle.keyline.specs.declared.Decoded.the-variants.{Line, Nothing}
 use Rattle.keyline.specs.Keys.{keyCabin, decode, perform, performLine, keyCall}
-use Rattle.history.specs.History.{Call, add, link, clear, read, trial, write, keyLine, squeeze, clearSlip, takeBack, preview, Said, silent, number, freed, back, foreseen, spoken, Heard, saidBy, commandSays, lineSays, row, Ran, run, isTold, PlanRow, drawAdd, drawLink, planFall, drawClear, drawCount, unchanged, planWriteRefusal, drawCommand, drawLine, planRow, Drawn, drawn, draw}
+use Rattle.history.specs.History.{Call, add, link, clear, read, trial, write, keyLine, squeeze, clearSlip, takeBack, preview, rung, Said, silent, number, freed, back, foreseen, spoken, Heard, saidBy, listSays, commandSays, lineSays, row, Ran, run, isTold, PlanRow, drawAdd, drawLink, planFall, drawClear, drawCount, unchanged, planWriteRefusal, drawCommand, drawLine, planRow, Drawn, drawn, draw}
 
 -- what is heard of a refusal, and of an accepted call
 abbrev onlyRefusal : ℕ → Heard
@@ -158,7 +160,7 @@ module _ {t : Table} (s : Sound t) where
   unfolding draw planRow previewRefusal
   beside-preview i e buffer =
       subst (λ (o : Outcome). Beside (ranBy (λ a b. foreseen b) o) (draw (planOf t) false (preview i e buffer))) (sym outcome)
-      (beside-unless _ _ _ _ s (into-refusal s i e (ltb (length buffer) previewRoom))
+      (beside-unless _ _ _ _ s (into-refusal s i e (ltb (length buffer) stepsRoom))
       (λ z.
       let g = clear-fits t i e (preview-accepted t i e buffer z .0) in
       let r = clear-cleared s i e g in
@@ -176,6 +178,26 @@ module _ {t : Table} (s : Sound t) where
           ap (λ (o : WriteOutcome). record { answer = o .answer; table = t }) (preview-made t i e buffer z) ∙ sym (unless-zero _ t _ z))
           (λ d. ap (λ (o : WriteOutcome). record { answer = o .answer; table = t }) (preview-refused-as t i e buffer d) ∙ sym (unless-refused _ t _ d))
           (eq-or-ne (previewRefusal t i e (length buffer)) 0)
+
+  silent-list : (buffer : List ℕ) → (rungRefusal t (length buffer) ≡ 0 → ⊥) → listSays (rungCall t buffer) ≡ silent
+  unfolding saidBy
+  silent-list buffer d = rw (rung-refused-as t buffer d)
+
+  -- who can be rung: the plan says it too
+  beside-rung : (buffer : List ℕ) →
+      Beside (record { heard = record { refusal = refusalOf (rungCall t buffer .answer); said = listSays (rungCall t buffer) }; table = t })
+      (draw (planOf t) false (rung buffer))
+  unfolding draw planRow drawn
+  beside-rung buffer =
+      let given = rung-refusal-given t buffer in
+      let plan : planRungRefusal (length buffer) ≡ rungRefusal t (length buffer) = sym (rung-refusal s buffer) in
+      rw (plan-rung s buffer, plan, given)
+      (⊎-elim
+      (λ (z : rungRefusal t (length buffer) ≡ 0). rw z (record { sound = s; plan = refl; heard = refl }))
+      (λ (d : rungRefusal t (length buffer) ≡ 0 → ⊥).
+      rw (ne-eqb (rungRefusal t (length buffer)) 0 d)
+      (record { sound = s; plan = refl; heard = ap (λ (a : Said). record { refusal = rungRefusal t (length buffer); said = a }) (silent-list buffer d) }))
+      (eq-or-ne (rungRefusal t (length buffer)) 0))
 
   -- W7: the plan is told of 11, and of nothing else
   slip-refusal : (i e : ℕ) (buffer : List ℕ) →
@@ -310,3 +332,4 @@ call-agrees s (squeeze c q) = beside-squeeze s c q
 call-agrees s (clearSlip i e buffer) = beside-slip s i e buffer
 call-agrees s (takeBack bs) = beside-back s bs
 call-agrees s (preview i e buffer) = beside-preview s i e buffer
+call-agrees s (rung buffer) = beside-rung s buffer

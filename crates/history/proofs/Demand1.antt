@@ -14,12 +14,14 @@ use Rattle.table.specs.Calls.{freshCall, addRefusal, addCall, linkRefusal, link
 use Rattle.table.specs.Trial.{trialRefusal}
 use Rattle.table.specs.Clear.{cleared, clearRefusal, clearCall}
 use Rattle.table.specs.Preview.{previewRefusal}
+use Rattle.table.specs.Rung.{rungRefusal}
 use Rattle.table.specs.Squeeze.{squeezeRefusal, squeezeCall}
 use Rattle.table.specs.Table.{Table}
 use Rattle.table.proofs.Held.{first-held}
 use Rattle.table.proofs.Calls.{nonzero, first-append, unless-zero, unless-refused, unless-refusal, cleared-given, read-refused, trial-refused}
 use Rattle.table.proofs.Trials.{trial-refusal-given}
 use Rattle.table.proofs.Preview.{preview-refused-as, preview-refusal-given}
+use Rattle.table.proofs.Rung.{rung-refused-as, rung-refusal-given}
 use Rattle.image.specs.Image.{Edition, writtenEdition, writeRefusal, writeCall, imageTable, loadCall}
 use Rattle.image.specs.Convert.{convertRefusal, convertCall}
 use Rattle.image.specs.Slip.{clearSlipRefusal, takeBackRefusal, takeBackCall}
@@ -29,9 +31,9 @@ use Rattle.keyline.specs.declared.Command.the-variants.{Add, Link, Clear, Count
 use Rattle.keyline.specs.declared.Decoded.{Decoded}
 use Rattle.keyline.specs.declared.Decoded.the-variants.{Line, Nothing}
 use Rattle.keyline.specs.Keys.{decode, perform, callConditions, lineConditions, keyConditions, performLine, keyCall}
-use Rattle.history.specs.History.{fresh, load, add, link, clear, read, trial, write, keyLine, squeeze, clearSlip, takeBack, preview, silent, Done, fieldNumbers, triedNumbers, changing, row, firstRow}
+use Rattle.history.specs.History.{fresh, load, add, link, clear, read, trial, write, keyLine, squeeze, clearSlip, takeBack, preview, rung, silent, Done, fieldNumbers, triedNumbers, changing, row, firstRow}
 use Rattle.history.specs.Acts.{Act, begin, call, convert, actRow, doneBy, tableKept, refusedBy, conditionsOf}
-use Rattle.history.specs.Demands.{Demand1, Lent, to-trial, to-write, to-clear, to-preview, to-convert}
+use Rattle.history.specs.Demands.{Demand1, Lent, to-trial, to-write, to-clear, to-preview, to-rung, to-convert}
 
 nonzero-append : (xs ys : List (Bool × ℕ)) → nonzero xs ≡ true → nonzero ys ≡ true → nonzero (xs ++ ys) ≡ true
 unfolding nonzero
@@ -139,6 +141,12 @@ preview-demand t i e buffer =
     conditions-demand t (call (preview i e buffer)) (previewRefusal t i e (length buffer)) refl (preview-refusal-given t i e buffer)
     (unfold previewRefusal in refl) (λ d. rw (preview-refused-as t i e buffer d))
 
+rung-demand : (t : Table) (buffer : List ℕ) → Demand1 t (call (rung buffer))
+unfolding doneBy conditionsOf refusedBy tableKept actRow row nonzero refusalOf firstOf secondOf
+rung-demand t buffer =
+    conditions-demand t (call (rung buffer)) (rungRefusal t (length buffer)) refl (rung-refusal-given t buffer)
+    (unfold rungRefusal in refl) (λ d. rw (rung-refused-as t buffer d))
+
 pub demand-1 : (t : Table) (a : Act) → Demand1 t a
 unfolding doneBy conditionsOf refusedBy tableKept actRow row firstRow nonzero
 demand-1 t (begin (fresh c q)) = (unfold freshCall refusalOf in outcome-demand t _ (begin (fresh c q)) _ refl refl refl (λ n. refl))
@@ -159,6 +167,7 @@ demand-1 t (call (clearSlip i e buffer)) = clear-slip-demand t i e buffer
 demand-1 t (call (takeBack bs)) =
     (unfold takeBackCall takeBackRefusal refusalOf in outcome-demand t t (call (takeBack bs)) _ refl refl refl (λ n. refl))
 demand-1 t (call (preview i e buffer)) = preview-demand t i e buffer
+demand-1 t (call (rung buffer)) = rung-demand t buffer
 demand-1 t (convert v bs buffer) = convert-demand t v bs buffer
 
 -- the bytes that a refused act leaves are those that its arguments say were lent, or none were
@@ -177,4 +186,5 @@ lent-kept t (call (squeeze c q)) n = inr refl
 lent-kept t (call (clearSlip i e buffer)) n = inl to-clear
 lent-kept t (call (takeBack bs)) n = inr refl
 lent-kept t (call (preview i e buffer)) n = inl to-preview
+lent-kept t (call (rung buffer)) n = inl to-rung
 lent-kept t (convert v bs buffer) n = inl to-convert

@@ -5,4 +5,6 @@ pub mod Demand2
 pub mod Slips
 pub mod Demand3
 pub mod Accounts
+pub mod Listing
 pub mod Preview
+pub mod Rung

@@ -22,7 +22,7 @@ use Rattle.image.specs.Slip.{recordIn, changed, slip, slipLength, SlipOutcome, 
 use Rattle.image.proofs.Slips.{record-fields, slip-length, slip-head, slip-pair}
 use Rattle.image.proofs.Placed.{blank-record}
 use Rattle.image.proofs.TakenBack.{unchanged-fields, Led, cleared-led, changed-used, slip-cleared, slip-made, slip-fits, regret, Taken, accepted-taken, taken-rise, rebuilt-plan}
-use Rattle.history.specs.History.{Call, add, link, clear, read, trial, write, keyLine, squeeze, clearSlip, takeBack, preview, row, run, isTold, withTold}
+use Rattle.history.specs.History.{Call, add, link, clear, read, trial, write, keyLine, squeeze, clearSlip, takeBack, preview, rung, row, run, isTold, withTold}
 use Rattle.history.specs.Demands.{Told, got11, got18, ToldDemand, SlipDemand, TakeBackDemand}
 
 -- a clearing with a slip and a take-back tell their number, the other calls nothing
@@ -39,6 +39,7 @@ told-call t (squeeze c q) h = clash h refl
 told-call t (clearSlip i e buffer) h = got11 (eqb-true _ _ h)
 told-call t (takeBack bs) h = got18 (eqb-true _ _ h)
 told-call t (preview i e buffer) h = clash h refl
+told-call t (rung buffer) h = clash h refl
 
 call-told : (t : Table) (c : Call) → Told t c → isTold t c ≡ true
 unfolding isTold row

@@ -10,7 +10,7 @@ use lib.Dec.{eqb}
 use Rattle.finite.specs.Below.{one, count}
 use Rattle.table.specs.Table.{Table, inUse}
 use Rattle.table.specs.Cabins.{charged}
-use Rattle.history.specs.History.{Call, Said, silent, number, freed, back, foreseen, spoken, Heard, row, run}
+use Rattle.history.specs.History.{Call, Said, silent, number, freed, back, foreseen, spoken, listed, Heard, row, run}
 
 unfoldable pub gone : Table → Table → ℕ → ℕ
 gone t u c = count (t .capacity) (λ i. charged t c i && not (inUse u i))
@@ -24,6 +24,7 @@ booked c d t u n (freed m) = n - gone t u c
 booked c d t u n (back m) = n + gone u t c
 booked c d t u n (foreseen m) = n
 booked c d t u n (spoken a b) = n
+booked c d t u n (listed a b bytes) = n
 
 unfoldable pub account : ℕ → ℕ → Table → List Call → ℕ
 account c n t [] = n
@@ -38,6 +39,7 @@ summed n (freed m) = n - m
 summed n (back m) = n + m
 summed n (foreseen m) = n
 summed n (spoken a b) = n
+summed n (listed a b bytes) = n
 
 unfoldable pub tally : ℕ → List Heard → ℕ
 tally n [] = n

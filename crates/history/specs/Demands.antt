@@ -7,7 +7,9 @@
 --   SqueezeDemand TwiceDemand   what an accepted squeeze does on a sound table, and a second one (W2)
 --   ToldDemand          what the plan is told of the calls (W7)
 --   SlipDemand TakeBackDemand   what a clearing with a slip does on a sound table, and its taking back (W7)
+--   Among n l k, ListDemand n l l′   k is one of the first n numbers of l; n numbers are listed in the buffer l, which becomes l′
 --   PreviewDemand       what a preview of a clearing says, and the clearing made next (W8); PreviewRefusalDemand, when it is refused
+--   RungDemand          which steps a call that tells who can be rung lists; RungRefusalDemand, when it is refused
 --   WriteDemand SortedDemand   both ways of an image, over the calls (demand 2)
 --   EqualDemand SameTableDemand   one table, one image (W1)
 --   OldDemand           an image of edition 1 (W5, W9)
@@ -29,12 +31,14 @@ use Rattle.table.specs.Cabins.{guaranteeOf, soleQuotas, charge}
 use Rattle.table.specs.Sound.{Sound}
 use Rattle.table.specs.Calls.{addCall}
 use Rattle.table.specs.Clear.{emptied, clearCall}
+use Rattle.table.specs.Trial.{isContact}
+use Rattle.table.specs.Rung.{SomeTrial, FewestResults}
 use Rattle.table.specs.Squeeze.{newNumber, squeezeRefusal, squeezeCall, Renumbered}
 use Rattle.table.specs.Plan.{planOf, planCount, planNumber, planAdd, planLink, planClear, planSqueeze}
 use Rattle.keyline.specs.Keys.{keyCabin, keyCall}
 use Rattle.image.specs.Image.{Edition, edition1, words, image, largest, editionIn, written, accepted, loadCall, Bytes, SameRecords, Ascending, OldContacts}
 use Rattle.image.specs.Slip.{recordIn, changed, slip, slipLength, SlipOutcome, clearSlipCall, slipStep, slipExit, slipCount, takeBackCall, planTakenBack}
-use Rattle.history.specs.History.{First, Call, trial, write, clearSlip, takeBack, preview, run, withTold, tableAfter, heardBy, planAfter, drawnBy, firstRow, firstRefusal, firstTable, firstPlan}
+use Rattle.history.specs.History.{First, Call, trial, write, clearSlip, takeBack, preview, rung, run, withTold, tableAfter, heardBy, planAfter, drawnBy, firstRow, firstRefusal, firstTable, firstPlan}
 use Rattle.history.specs.Accounts.{account, tally}
 use Rattle.history.specs.Acts.{Act, call, convert, doneBy, refusedBy, conditionsOf}
 
@@ -51,6 +55,7 @@ pub data Lent : Act → List ℕ → Type 0 where
   to-write : {bytes : List ℕ} → Lent (call (write bytes)) bytes
   to-clear : {i e : ℕ} {bytes : List ℕ} → Lent (call (clearSlip i e bytes)) bytes
   to-preview : {i e : ℕ} {bytes : List ℕ} → Lent (call (preview i e bytes)) bytes
+  to-rung : {bytes : List ℕ} → Lent (call (rung bytes)) bytes
   to-convert : {v : Edition} {bs bytes : List ℕ} → Lent (convert v bs bytes) bytes
 
 -- Demand 3, one statement about the whole history. "After the list"
@@ -65,8 +70,8 @@ pub record Demand3 (f : First) (cs : List Call) : Type 0 where
   -- W5: "the guarantees, the limits and each step's cabin, and demand 3 compares them too"
   -- W7: with each call it "is told one thing, whether a call got 11 or 18 of this request"
   pub plan : planOf (tableAfter (firstTable f) cs) ≡ planAfter (firstPlan f) (withTold (firstTable f) cs)
-  -- "and so do all refusals, numbers given, freed counts and spoken counts", the steps that a take-back brings back, and the freed counts that a preview
-  -- foresees; what fresh and load are refused by is read on no table
+  -- "and so do all refusals, numbers given, freed counts and spoken counts", the steps that a take-back brings back, the freed counts that a preview
+  -- foresees, and all that a call says of who can be rung; what fresh and load are refused by is read on no table
   pub begun : firstRefusal f ≡ first (firstRow f .conditions)
   pub heard : heardBy (firstTable f) cs ≡ drawnBy (firstPlan f) (withTold (firstTable f) cs)
   -- "stored counters 0 and 1 of each step are the numbers of links to it with bit 0 and with bit 1"
@@ -202,6 +207,16 @@ pub record CountDemand (t : Table) (o : Outcome) : Type 0 where
   pub same : o .table ≡ t
   pub spoken : o .answer ≡ Given (planCount (planOf t)) (planOf t .capacity - planCount (planOf t))
 
+abbrev pub Among : ℕ → List ℕ → ℕ → Type 0
+Among n l k = (m : ℕ) × (m < n) × (getD l m 0 ≡ k)
+
+-- "ascending, into a lent buffer"; a byte each, and the bytes past them as they were
+pub record ListDemand (n : ℕ) (before after : List ℕ) : Type 0 where
+  pub ascending : (i j : ℕ) → i < j → j < n → getD after i 0 < getD after j 0
+  pub bytes : (m : ℕ) → m < n → getD after m 0 < places
+  pub past : drop n after ≡ drop n before
+  pub size : length after ≡ length before
+
 -- W8: a preview that was not refused, of the clearing of exit e of step i; o is what it did. The numbers are the first `freed` entries of the buffer.
 pub record PreviewDemand (t : Table) (i e : ℕ) (buffer : List ℕ) (o : WriteOutcome) : Type 0 where
   -- "while the table is untouched"
@@ -211,22 +226,36 @@ pub record PreviewDemand (t : Table) (i e : ℕ) (buffer : List ℕ) (o : WriteO
   pub freed : ℕ
   pub answer : o .answer ≡ Given doubts freed
   pub next : clearCall (tableAfter t (preview i e buffer ∷ [])) i e .answer ≡ Given doubts freed
-  pub just : (k : ℕ) → ((m : ℕ) × (m < freed) × (getD (o .buffer) m 0 ≡ k)) ↔
+  pub just : (k : ℕ) → Among freed (o .buffer) k ↔
       ((inUse t k ≡ true) × (inUse (clearCall (tableAfter t (preview i e buffer ∷ [])) i e .table) k ≡ false))
   -- they are the steps to which no chain of links of either strength leads from step 0 once the exit is emptied
-  pub cut : (k : ℕ) → ((m : ℕ) × (m < freed) × (getD (o .buffer) m 0 ≡ k)) ↔
-      ((inUse t k ≡ true) × ((n : ℕ) → Chain (linked (emptied t i e)) 0 k n → ⊥))
-  -- "ascending, into a lent buffer"; a byte each, and the bytes past them as they were
-  pub ascending : (m n : ℕ) → m < n → n < freed → getD (o .buffer) m 0 < getD (o .buffer) n 0
-  pub bytes : (m : ℕ) → m < freed → getD (o .buffer) m 0 < places
-  pub past : drop freed (o .buffer) ≡ drop freed buffer
-  pub size : length (o .buffer) ≡ length buffer
+  pub cut : (k : ℕ) → Among freed (o .buffer) k ↔ ((inUse t k ≡ true) × ((n : ℕ) → Chain (linked (emptied t i e)) 0 k n → ⊥))
+  pub list : ListDemand freed buffer (o .buffer)
 
 -- and any preview: "The buffer must hold 127 bytes, else 11, after the clearing's refusals."
 pub record PreviewRefusalDemand (t : Table) (i e : ℕ) (buffer : List ℕ) (o : WriteOutcome) : Type 0 where
   pub first : (refusalOf (clearCall t i e .answer) ≡ 0 → ⊥) → refusalOf (o .answer) ≡ refusalOf (clearCall t i e .answer)
   pub short : refusalOf (clearCall t i e .answer) ≡ 0 → length buffer < 127 → refusalOf (o .answer) ≡ 11
   pub room : refusalOf (clearCall t i e .answer) ≡ 0 → 127 ≤ length buffer → refusalOf (o .answer) ≡ 0
+
+-- who can be rung: a call that was not refused; o is what it did. The numbers are the first `steps` entries of the buffer.
+pub record RungDemand (t : Table) (buffer : List ℕ) (o : WriteOutcome) : Type 0 where
+  pub untouched : tableAfter t (rung buffer ∷ []) ≡ t
+  pub steps : ℕ
+  pub contacts : ℕ
+  pub answer : o .answer ≡ Given steps contacts
+  -- a step is listed exactly if there are line results and a limit with which a trial enters it; and then, the fewest results
+  pub just : (k : ℕ) → Among steps (o .buffer) k ↔ SomeTrial t k
+  pub fewest : (k : ℕ) → SomeTrial t k → FewestResults t k
+  -- how many of those listed are contacts
+  pub kinds : contacts ≡ count steps (λ m. isContact t (getD (o .buffer) m 0))
+  pub list : ListDemand steps buffer (o .buffer)
+
+-- and any such call
+pub record RungRefusalDemand (t : Table) (buffer : List ℕ) (o : WriteOutcome) : Type 0 where
+  pub unsound : (Sound t → ⊥) → refusalOf (o .answer) ≡ 1
+  pub short : Sound t → length buffer < 127 → refusalOf (o .answer) ≡ 11
+  pub room : Sound t → 127 ≤ length buffer → refusalOf (o .answer) ≡ 0
 
 -- "A sound table written as an image loads as the same table": the bytes that were written in the edition v, in a buffer with the room
 pub record WriteDemand (v : Edition) (t : Table) (buffer : List ℕ) (o : WriteOutcome) : Type 0 where

@@ -1,4 +1,4 @@
--- Histories (traces): a list of calls, run on the table and drawn on the plain plan (document 01, "A history"; document 02, W2, W3, W5, W7, W8).
+-- Histories (traces): a list of calls, run on the table and drawn on the plain plan (document 01, "A history"; document 02, W2, W3, W5, W7, W8; who can be rung).
 -- Assumes nothing.
 --   First, Call        what a history begins with, and a call with its arguments
 --   Said, Heard        what demand 3 compares of a call: what an accepted one says, and the refusal
@@ -22,14 +22,15 @@ use Rattle.table.specs.declared.Answer.the-variants.{Refused, Given}
 use Rattle.table.specs.declared.Fields.{Fields}
 use Rattle.table.specs.declared.Tried.{Tried}
 use Rattle.table.specs.Cabins.{listFits, soleQuotas}
-use Rattle.table.specs.Answer.{Outcome, WriteOutcome, tooShort, notKeyLine, slipNotAccepted, first, refusalOf, firstOf, secondOf, triedRefusal, endingOf, lastOf, movesOf}
+use Rattle.table.specs.Answer.{Outcome, WriteOutcome, tooShort, notKeyLine, slipNotAccepted, first, stepsRoom, refusalOf, firstOf, secondOf, triedRefusal, endingOf, lastOf, movesOf}
 use Rattle.table.specs.Sound.{capacityFits}
 use Rattle.table.specs.Calls.{freshConditions, freshCall, addConditions, addCall, linkConditions, linkCall, readConditions, readCall}
 use Rattle.table.specs.Clear.{clearConditions, clearCall}
-use Rattle.table.specs.Preview.{previewRoom, previewConditions, previewCall}
+use Rattle.table.specs.Preview.{previewConditions, previewCall}
 use Rattle.table.specs.Trial.{trialConditions, trialCall}
+use Rattle.table.specs.Rung.{rungConditions, rungCall}
 use Rattle.table.specs.Squeeze.{squeezeConditions, squeezeCall}
-use Rattle.table.specs.Plan.{Plan, planCount, planNumber, freshPlan, planAdd, planLink, planClear, planSqueeze, planAddRefusal, planLinkRefusal, planClearRefusal, planClearIntoRefusal, planReadRefusal, planTrialRefusal, planSqueezeRefusal}
+use Rattle.table.specs.Plan.{Plan, planCount, planNumber, freshPlan, planAdd, planLink, planClear, planSqueeze, planAddRefusal, planLinkRefusal, planClearRefusal, planClearIntoRefusal, planReadRefusal, planTrialRefusal, planSqueezeRefusal, planRungRefusal, planRungCall}
 use Rattle.image.specs.Image.{writtenEdition, imageSize, writeConditions, writeCall, loadConditions, loadCall, accepted, imagePlan}
 use Rattle.image.specs.Slip.{clearSlipConditions, clearSlipCall, takeBackConditions, takeBackCall, planTakenBack}
 use Rattle.keyline.specs.declared.Command.{Command}
@@ -46,7 +47,7 @@ pub data First : Type 0 where
 -- "a list, of any length or empty, of add, link, clear, read, trial, write image and key line, with any arguments; line results and key bytes
 -- stand in it by value", and so do the lent trace and buffer. "A history may now hold a squeeze" (W2); a trial is given a limit (W3), an add a cabin and
 -- a squeeze a list of quotas (W5); "a history may now hold take-backs", and clearings that write a slip (W7); "A history may now hold this call", which
--- previews a clearing (W8)
+-- previews a clearing (W8); and one that tells who can be rung
 pub data Call : Type 0 where
   add : ℕ → ℕ → ℕ → ℕ → ℕ → Call
   link : ℕ → ℕ → ℕ → ℕ → Call
@@ -58,13 +59,15 @@ pub data Call : Type 0 where
   clearSlip : ℕ → ℕ → List ℕ → Call
   takeBack : List ℕ → Call
   preview : ℕ → ℕ → List ℕ → Call
+  rung : List ℕ → Call
 
 -- what demand 3 compares of an accepted call: "numbers given, freed counts and spoken counts", the steps that a take-back brings back (W7), the freed count
--- that a preview foresees (W8); of any other call nothing
+-- that a preview foresees (W8); of a call that tells who can be rung both counts and every byte of the buffer; of any other call nothing
 pub data Said : Type 0 where
   silent : Said
   number freed back foreseen : ℕ → Said
   spoken : ℕ → ℕ → Said
+  listed : ℕ → ℕ → List ℕ → Said
 
 -- and of every call the refusal or 0
 pub record Heard : Type 0 where
@@ -86,6 +89,10 @@ commandSays Count = λ a b. spoken a b
 unfoldable pub lineSays : Decoded → ℕ → ℕ → Said
 lineSays Nothing = λ a b. silent
 lineSays (Line c) = commandSays c
+
+-- of a call that lists steps in a buffer
+abbrev pub listSays : WriteOutcome → Said
+listSays o = saidBy (λ a b. listed a b (o .buffer)) (o .answer)
 
 -- what a call does: the refusal or 0, the other numbers of its answer, the lent bytes as it leaves them, the table handed back
 pub record Done : Type 0 where
@@ -165,6 +172,9 @@ row t (clearSlip i e buffer) =
     telling tooShort (answering (clearSlipConditions t i e (length buffer)) buffer (o .answer) (o .buffer) (o .table) (λ a b. freed b))
 row t (takeBack bs) = telling slipNotAccepted (changing (takeBackConditions t bs) (takeBackCall t bs) (λ a b. back a))
 row t (preview i e buffer) = writing (previewConditions t i e (length buffer)) t buffer (previewCall t i e buffer) (λ a b. foreseen b)
+row t (rung buffer) =
+    let o = rungCall t buffer in
+    writing (rungConditions t (length buffer)) t buffer o (λ a b. listed a b (o .buffer))
 
 -- one call on the table: what is heard of it, and the table that it leaves
 pub record Ran : Type 0 where
@@ -246,7 +256,9 @@ planRow p b (takeBack bs) =
     record { refusal = first ((b, slipNotAccepted) ∷ []); said = back (planCount q - planCount p); plan = q }
 -- W8: "which does not change the plain plan": it says what a clearing would free
 planRow p b (preview i e buffer) =
-    record { refusal = planClearIntoRefusal p (ltb (length buffer) previewRoom) i e; said = foreseen (planFall p i e); plan = p }
+    record { refusal = planClearIntoRefusal p (ltb (length buffer) stepsRoom) i e; said = foreseen (planFall p i e); plan = p }
+-- nothing of who can be rung needs strengths: the plan says all of it
+planRow p b (rung buffer) = record { refusal = planRungRefusal (length buffer); said = listSays (planRungCall p buffer); plan = p }
 
 -- one call on the plan: what is heard of it, and the plan that it leaves
 pub record Drawn : Type 0 where

@@ -2,24 +2,21 @@
 --   standing-weakened standing-emptied standing-flipped   a table in order stays so
 --   each-..         a change made for each marked step, in part: for those below k
 --   added-..        candidates that are added
---   written-..      the numbers that pass a test, written to the start of a buffer: at the start, and each time round
-use mathlib.Core.Path.{_≡_, refl, sym, _∙_, ap, ap₂, subst}
+use mathlib.Core.Path.{_≡_, refl, sym, _∙_, ap, subst}
 use mathlib.Core.Bool.{Bool, true, false, _&&_, _||_, not, cond}
 use mathlib.Core.Logic.{inl, inr, ⊎-elim}
-use mathlib.Core.List.{List, _++_}
-use Prim.Native.Nat.{ℕ, suc, _+_, _-_, _≤_, _<_}
+use mathlib.Core.List.{List}
+use Prim.Native.Nat.{ℕ, _+_, _-_, _≤_, _<_}
 use native.Mathlib.Numerals.{add-one}
 use native.Mathlib.Omega.{arith}
-use lib.ListN.{length, getD, set, drop, length-set}
-use lib.Seq.{getD-set-same, getD-set-other, drop-cons, set-at, append-snoc}
+use lib.ListN.{length, getD, set, length-set}
+use lib.Seq.{getD-set-same, getD-set-other}
 use lib.Dec.{eqb}
 use borrow.Author.Tests.{eqb-true, eq-eqb, ne-eqb}
-use Rattle.finite.specs.Below.{any, count, rounds, those}
+use Rattle.finite.specs.Below.{any, count, rounds}
 use Rattle.finite.specs.Reach.{marked}
 use Rattle.finite.proofs.Bools.{and-intro, and-left, and-right, refute, test, same-test}
 use Rattle.finite.proofs.Below.{eq-or-ne, count-ext, getD-tabulate}
-use Rattle.finite.proofs.Loops.{count-hit, count-miss}
-use Rattle.finite.proofs.Those.{length-those, those-hit, those-miss}
 use Rattle.table.specs.Table.{Table, places, exitsOf, counters, inUse, ownBit, targetOf, linkBit, holds, strong, leads, withSteps}
 use Rattle.table.specs.Calls.{relink, weakBit}
 use Rattle.table.specs.Clear.{flipped, weakened, eachDoubtful, size}
@@ -31,7 +28,8 @@ use Rattle.words.specs.Words.{tableOf, Becomes, Relinkable}
 use Rattle.words.specs.Marks.{isMarked}
 use Rattle.words.proofs.Formed.{formed-relinkable}
 use Rattle.words.proofs.Becomes.{becomes-same, becomes-done}
-use Rattle.repairing.specs.Repairing.{asMarks, meant, linkedWithin, Standing, Added}
+use Rattle.marking.specs.Marking.{meant, linkedWithin}
+use Rattle.repairing.specs.Repairing.{asMarks, Standing, Added}
 
 -- A table in order with a step in use.
 module _ {t : Table} {k : ℕ} (s : Standing t k) where
@@ -190,14 +188,6 @@ added-exit t doubt before middle after k e low mark mark′ a b =
     rw (add-one e) (added-more (linkedWithin e t k) (λ j. leads t k e j) doubt before middle after low mark mark′ a b)
 
 -- Marks in a list of numbers.
-pub one-marked : (l : List ℕ) (i : ℕ) → getD l i 0 ≡ 1 → isMarked l i ≡ true
-unfolding isMarked
-one-marked l i h = eq-eqb _ 1 h
-
-pub not-marked : (l : List ℕ) (i : ℕ) → (getD l i 0 ≡ 1 → ⊥) → isMarked l i ≡ false
-unfolding isMarked
-not-marked l i h = ne-eqb _ 1 h
-
 pub marks-at : (n : ℕ) (l : List ℕ) (i : ℕ) → i < n → marked (asMarks n l) i ≡ isMarked l i
 unfolding asMarks
 marks-at n l i h = getD-tabulate n (isMarked l) false i h
@@ -205,23 +195,3 @@ marks-at n l i h = getD-tabulate n (isMarked l) false i h
 pub size-marks : (n : ℕ) (l : List ℕ) → size (asMarks n l) n ≡ count n (isMarked l)
 unfolding size
 size-marks n l = count-ext n _ _ (marks-at n l)
-
--- The numbers that pass a test, written to the start of a buffer.
-abbrev pub written : ℕ → (ℕ → Bool) → List ℕ → List ℕ
-written k p buffer = those k p ++ drop (count k p) buffer
-
-module _ (p : ℕ → Bool) (buffer : List ℕ) where
-  pub written-none : buffer ≡ written 0 p buffer
-  unfolding those count
-  written-none = refl
-
-  pub written-hit : (k : ℕ) → p k ≡ true → count k p < length buffer → set (written k p buffer) (count k p) k ≡ written (k + 1) p buffer
-  written-hit k h l =
-      let m : suc (count k p) ≡ count (k + 1) p = omega (arith, count-hit k p h) in
-      ap (λ (rest : List ℕ). set (those k p ++ rest) (count k p) k) (drop-cons buffer (count k p) 0 l)
-      ∙ set-at (those k p) _ _ k (count k p) (length-those k p)
-      ∙ sym (append-snoc (those k p) k _)
-      ∙ ap₂ (λ (xs : List ℕ) (i : ℕ). xs ++ drop i buffer) (sym (those-hit k p h)) m
-
-  pub written-miss : (k : ℕ) → p k ≡ false → written k p buffer ≡ written (k + 1) p buffer
-  written-miss k h = rw (those-miss k p h, count-miss k p h)

@@ -24,7 +24,8 @@ use Rattle.table.proofs.Repair.{taking}
 use Rattle.words.specs.Words.{tableOf, Becomes}
 use Rattle.words.specs.Marks.{isMarked}
 use Rattle.repairing.specs.Repairing.{underRepair, asMarks, wantedIn, Standing, Repairable, Added, Candidates, Settling}
-use Rattle.repairing.proofs.Laws.{one-marked, marks-at, standing-emptied}
+use Rattle.marking.proofs.Laws.{one-marked}
+use Rattle.repairing.proofs.Laws.{marks-at, standing-emptied}
 
 -- a place where 1 stands is a place of the list
 one-below : (l : List ℕ) (k : ℕ) → getD l k 0 ≡ 1 → k < length l

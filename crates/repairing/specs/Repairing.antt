@@ -1,8 +1,6 @@
 -- What the rules of clearing work on: a table, and marks in a list of numbers. Assumes nothing.
 --   asMarks n l         the marks of l below n
 --   underRepair t l     the table t under repair, with the marks below its capacity
---   meant j i           the target j is step i; the target 0 is no step
---   linkedWithin m t k j   one of the first m exits of step k holds a link to j
 --   wantedIn n links l i   rule 3: the marked step i has a link from a step below n that is not marked
 --   Standing t k        the table is in order, and step k is in use in it
 --   Repairable t n l    the table, of capacity n, is in order, and the marked steps are in use in it
@@ -14,9 +12,8 @@ use mathlib.Core.Bool.{Bool, true, _&&_, not, cond}
 use mathlib.Core.List.{List}
 use Prim.Native.Nat.{ℕ, _<_, _≤_}
 use lib.ListN.{length, getD}
-use lib.Dec.{eqb}
 use Rattle.finite.specs.Below.{any, one, tabulate}
-use Rattle.table.specs.Table.{Table, places, inUse, leads, linked}
+use Rattle.table.specs.Table.{Table, places, inUse, linked}
 use Rattle.table.specs.Sound.{Formed}
 use Rattle.table.specs.Clear.{Repair}
 use Rattle.words.specs.Marks.{isMarked}
@@ -26,12 +23,6 @@ asMarks n l = tabulate n (isMarked l)
 
 abbrev pub underRepair : Table → List ℕ → Repair
 underRepair t l = record { table = t; doubt = asMarks (t .capacity) l }
-
-unfoldable pub meant : ℕ → ℕ → Bool
-meant j i = not (eqb j 0) && eqb j i
-
-unfoldable pub linkedWithin : ℕ → Table → ℕ → ℕ → Bool
-linkedWithin m t k j = any m (λ e. leads t k e j)
 
 unfoldable pub wantedIn : ℕ → (ℕ → ℕ → Bool) → List ℕ → ℕ → Bool
 wantedIn n links l i = isMarked l i && any n (λ k. not (isMarked l k) && links k i)

@@ -1,16 +1,13 @@
-// Rules 3 and 4 of clearing on the lent table: doubtful steps are taken back; those still doubtful are freed. For a preview: which steps would stay, and
-// the list of those that would go.
+// Rules 3 and 4 of clearing on the lent table: doubtful steps are taken back; those still doubtful are freed. For a preview: which steps would stay.
 ghost use mathlib.Core.Path.{_≡_};
-ghost use mathlib.Core.List.{_++_};
-ghost use Prim.Native.Nat.{_+_, _<_, _≤_};
-ghost use lib.ListN.{length, set, drop};
-ghost use Rattle.finite.specs.Below.{count, those};
+ghost use Prim.Native.Nat.{_+_, _<_};
+ghost use lib.ListN.{length, set};
 ghost use Rattle.table.specs.Table.{Table, places, exitsOf, linked};
 ghost use Rattle.table.specs.Sound.{Formed};
-ghost use Rattle.table.specs.Clear.{weakened, restored, repair, unlinked, eachDoubtful, release, size};
+ghost use Rattle.table.specs.Clear.{weakened, restored, repair, unlinked, eachDoubtful, release};
 ghost use Rattle.words.specs.Words.{tableOf, Becomes};
-ghost use Rattle.words.specs.Marks.{isMarked};
-ghost use Rattle.repairing.specs.Repairing.{underRepair, asMarks, meant, Standing, Repairable, Added, Candidates, Settling};
+ghost use Rattle.marking.specs.Marking.{meant};
+ghost use Rattle.repairing.specs.Repairing.{underRepair, asMarks, Standing, Repairable, Added, Candidates, Settling};
 use words::PLACES;
 use words::WORDS;
 
@@ -195,42 +192,4 @@ pub fn free_steps(t: &mut [u16; WORDS], n: usize, doubt: &[u16; PLACES])
         }
         k += 1;
     }
-}
-
-// The number of doubtful steps below n.
-pub fn count_marks(n: usize, doubt: &[u16; PLACES]) -> u16
-    requires { ⌜ n ≤ places ⌝ }
-    ensures { λ r. ⌜ r ≡ size (asMarks n (now (doubt .entry))) n ⌝ }
-{
-    let mut marks: u16 = 0;
-    let mut k = 0;
-    // `marks` is the number of doubtful steps below k.
-    while k < n {
-        if doubt[k] == 1 {
-            marks += 1;
-        }
-        k += 1;
-    }
-    marks
-}
-
-// Writes the numbers of the doubtful steps below n to the start of the buffer, ascending, a byte each; the bytes behind them stay. Gives back how many
-// there are. A step is a place, so its number fits a byte.
-pub fn list_marks(n: usize, doubt: &[u16; PLACES], buffer: &mut [u8]) -> u16
-    requires { ⌜ (n ≤ places) × (count n (isMarked (now doubt)) ≤ length (now buffer)) ⌝ }
-    ensures counted { λ r. ⌜ r ≡ size (asMarks n (now (doubt .entry))) n ⌝ }
-    ensures written { λ r. ⌜ now (buffer .exit) ≡
-        those n (isMarked (now (doubt .entry))) ++ drop (count n (isMarked (now (doubt .entry)))) (now (buffer .entry)) ⌝ }
-{
-    let mut at = 0usize;
-    let mut k = 0;
-    // The numbers of the doubtful steps below k stand in the first `at` bytes.
-    while k < n {
-        if doubt[k] == 1 {
-            buffer[at] = k as u8;
-            at += 1;
-        }
-        k += 1;
-    }
-    at as u16
 }

@@ -4,6 +4,7 @@
 --   first-append    two orders, one after the other
 --   table-fits exit-fits hold-fits fill-fits   what the conditions that calls share say where none holds, and that the rest of the order is passed
 --   add-refusal link-refusal clear-refusal read-refusal trial-refusal   the table's refusal is the plan's
+--   listing-made listing-refused listing-refusal   a call that lists steps
 --   read-refused trial-refused   what a refused read and a refused trial do
 --   clear-cleared clear-still clear-fall clear-plan   what a clearing that is made comes to: its steps in use, its counts and its plan
 --   FillFits AddFits LinkFits   the conditions of an accepted call, as facts; HoldFits, of the definitions, is that of a clearing
@@ -14,17 +15,18 @@ use mathlib.Core.List.{List, [], _∷_, _++_}
 use mathlib.Core.Option.{some}
 use Prim.Native.Nat.{ℕ, _+_, _-_, _<_}
 use native.Mathlib.Omega.{arith}
-use lib.ListN.{length, set, replicate}
+use lib.ListN.{length, set, drop, replicate}
 use lib.Dec.{eqb}
 use borrow.Author.Tests.{eqb-false, eq-eqb, ne-eqb, leb-false, lt-leb}
-use Rattle.finite.proofs.Bools.{and-left, and-right, test, not-true-false, not-false-true}
+use Rattle.finite.proofs.Bools.{and-left, and-right, refute, test, not-true-false, not-false-true}
 use Rattle.finite.proofs.Below.{eq-or-ne, find-ext}
+use Rattle.table.specs.declared.Answer.{Answer}
 use Rattle.table.specs.declared.Answer.the-variants.{Given, Refused}
 use Rattle.table.specs.declared.Tried.the-variants.{Refused as TrialRefused}
 use Rattle.table.specs.Table.{Table, exits, exitsOf, cabinCount, inUse, targetOf, holds, stepsInUse}
 use Rattle.table.specs.Cabins.{atLimit, noneToSpare, charge, freeSteps}
-use Rattle.table.specs.Sound.{Sound, contentFits}
-use Rattle.table.specs.Answer.{Outcome, notInUse, tooShort, first, refusalOf, secondOf, unless}
+use Rattle.table.specs.Sound.{Sound, sound, contentFits}
+use Rattle.table.specs.Answer.{Outcome, WriteOutcome, notSound, notInUse, tooShort, first, refusalOf, secondOf, unless, listing}
 use Rattle.table.specs.Calls.{tableTests, exitTests, fillTests, holdTests, HoldFits, numberGiven, addConditions, addRefusal, withStep, addTable, linkConditions, linkRefusal, weakBit, linkTable, noFields, readConditions, readRefusal, readCall}
 use Rattle.table.specs.Trial.{tryFrom, trialRefusal, trialCall}
 use Rattle.table.specs.Clear.{emptied, stops, repairOf, repaired, clearConditions, cleared, clearRefusal, clearCall}
@@ -109,6 +111,23 @@ unless-refusal n t o z =
     (λ d. ap (λ (x : Outcome). refusalOf (x .answer)) (unless-refused n t o d) ∙ (unfold refusalOf in refl))
     (eq-or-ne n 0)
 
+-- the same of a call that lists steps in a lent buffer
+module _ (n : ℕ) (a : Answer) (numbers buffer : List ℕ) where
+  pub listing-made : n ≡ 0 → listing n a numbers buffer ≡ record { answer = a; buffer = numbers ++ drop (length numbers) buffer }
+  unfolding listing
+  listing-made z = rw (eq-eqb n 0 z)
+
+  pub listing-refused : (n ≡ 0 → ⊥) → listing n a numbers buffer ≡ record { answer = Refused n; buffer = buffer }
+  unfolding listing
+  listing-refused d = rw (ne-eqb n 0 d)
+
+  pub listing-refusal : refusalOf a ≡ 0 → refusalOf (listing n a numbers buffer .answer) ≡ n
+  listing-refusal z =
+      ⊎-elim
+      (λ (q : n ≡ 0). ap (λ (o : WriteOutcome). refusalOf (o .answer)) (listing-made q) ∙ z ∙ sym q)
+      (λ d. ap (λ (o : WriteOutcome). refusalOf (o .answer)) (listing-refused d) ∙ (unfold refusalOf in refl))
+      (eq-or-ne n 0)
+
 -- a clearing that is not refused, and one that is
 pub clear-made : (t : Table) (i e : ℕ) → clearRefusal t i e ≡ 0 → clearCall t i e ≡ cleared t i e
 unfolding clearCall
@@ -126,6 +145,11 @@ cleared-given t i e = ⊎-elim (λ (h : stops t i e ≡ true). rw h) (λ (h : st
 pub clear-refusal-given : (t : Table) (i e : ℕ) → refusalOf (clearCall t i e .answer) ≡ clearRefusal t i e
 unfolding clearCall
 clear-refusal-given t i e = unless-refusal (clearRefusal t i e) t (cleared t i e) (cleared-given t i e)
+
+-- a table that is not sound is refused before all else
+pub unsound-refused : (t : Table) (xs : List (Bool × ℕ)) → (Sound t → ⊥) → first (tableTests t ++ xs) ≡ notSound
+unfolding first
+unsound-refused t xs d = rw (refute (sound t) (λ h. d (test-sound t h)))
 
 -- The conditions that calls share. Each law takes its own from the front of an order and hands on the rest.
 pub table-fits : (t : Table) (xs : List (Bool × ℕ)) → Passed (tableTests t ++ xs) → Sound t × Passed xs

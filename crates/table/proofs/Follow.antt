@@ -2,7 +2,7 @@
 --   Follows t u     u has the links and bits of t under the new numbers: the part of `Renumbered` that chains ask for
 --   follow-holds follow-strong         an exit under the new numbers
 --   follow-chain follow-chain-back     a strong chain, and back
---   follow-reach follow-strong-reach   what chains reach from step 0
+--   reach-there follow-reach follow-strong-reach   what chains reach from step 0
 --   follow-links    as many links with each bit lead to a step as before
 --   follow-count    as many steps pass a test as before
 use mathlib.Core.Path.{_≡_, refl, sym, _∙_, ap, ap₂}
@@ -114,7 +114,7 @@ module _ {t u : Table} (w : Wired t) (alarm : inUse t 0 ≡ true) (f : Follows t
         )
 
     -- so step 0 reaches what it reached
-    reach-there : ((i j : ℕ) → E t i j ≡ true → j < t .capacity) → ((i j : ℕ) → E u i j ≡ true → j < u .capacity) → newNumber t 0 < u .capacity →
+    pub reach-there : ((i j : ℕ) → E t i j ≡ true → j < t .capacity) → ((i j : ℕ) → E u i j ≡ true → j < u .capacity) → newNumber t 0 < u .capacity →
         (i : ℕ) → inUse t i ≡ true → reaches (E u) (u .capacity) 0 (newNumber t i) ≡ reaches (E t) (t .capacity) 0 i
     reach-there low low′ start i x =
         ap (λ (a : ℕ). reaches (E u) (u .capacity) a (newNumber t i)) (sym (new-zero t))
@@ -154,13 +154,13 @@ module _ {t u : Table} (w : Wired t) (alarm : inUse t 0 ≡ true) (f : Follows t
       (ap (λ (k : ℕ). eqb k b) (f .bit i e x l))
 
   module _ (v : Wired u) where
-    fits : stepsInUse t ≤ u .capacity
+    pub fits : stepsInUse t ≤ u .capacity
     fits =
         ⊎-elim (λ l. l)
         (λ (l : u .capacity < stepsInUse t). absurd (let b = used-below v (u .capacity) (f .used (u .capacity) ∙ lt-ltb _ _ l) in omega arith))
         (le-or-lt (stepsInUse t) (u .capacity))
 
-    start : newNumber t 0 < u .capacity
+    pub start : newNumber t 0 < u .capacity
     start = used-below v (newNumber t 0) (new-used-step 0 alarm)
 
     pub follow-reach : (i : ℕ) → inUse t i ≡ true → reaches (linked u) (u .capacity) 0 (newNumber t i) ≡ reaches (linked t) (t .capacity) 0 i

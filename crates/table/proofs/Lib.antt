@@ -20,6 +20,7 @@ pub mod Held
 pub mod Preview
 pub mod Orders
 pub mod Trials
+pub mod Rung
 pub mod Rings
 pub mod Squeeze
 pub mod Squeezed

@@ -1,13 +1,13 @@
 -- The plain plan of a table, read and redrawn: what a table says of its steps its plan says too, and each edit of a table is the plan's edit.
 -- Assumes nothing.
---   plan-used plan-kind plan-target plan-holds plan-linked plan-count plan-charge   the plan says what the table says
+--   plan-used plan-kind plan-target plan-holds plan-linked plan-contact plan-goes-on plan-count plan-charge   the plan says what the table says
 --   plan-fresh plan-relink plan-with-step plan-cleared        the plan after an edit
 use mathlib.Core.Path.{_≡_, refl, sym, _∙_, ap, ap₂, fun-ext}
-use mathlib.Core.Bool.{Bool, true, false, _&&_, not, cond}
+use mathlib.Core.Bool.{Bool, true, false, _&&_, _||_, not, cond}
 use mathlib.Core.Logic.{_⊎_, ⊎-elim}
 use mathlib.Core.List.{List}
 use mathlib.Core.Option.{Option, none, some}
-use Prim.Native.Nat.{ℕ, _<_}
+use Prim.Native.Nat.{ℕ, _≤_, _<_}
 use native.Mathlib.Omega.{arith}
 use lib.ListN.{set, replicate, length-replicate, List·getD-eq-default}
 use lib.Seq.{ext-getD}
@@ -17,11 +17,14 @@ use Rattle.finite.specs.Below.{tabulate}
 use Rattle.finite.specs.Reach.{marked, reach, reaches}
 use Rattle.finite.proofs.Bools.{clash, refute, test, same-test}
 use Rattle.finite.proofs.Below.{le-or-lt, eq-or-ne, any-ext, count-ext, length-tabulate, getD-tabulate, tabulate-ext, tabulate-set}
-use Rattle.table.specs.Table.{Table, exitsOf, cabinCount, inUse, kindOf, contentOf, cabinOf, targetOf, holds, leads, linked, stepsInUse, withLinks, withSteps}
+use Rattle.table.specs.Table.{Table, places, exits, exitsOf, cabinCount, inUse, kindOf, contentOf, cabinOf, targetOf, holds, leads, linked, stepsInUse, withLinks, withSteps}
 use Rattle.table.specs.Cabins.{charged, charge}
 use Rattle.table.specs.Sound.{Formed, contentFits}
 use Rattle.table.specs.Calls.{freshTable, relink, withStep}
-use Rattle.table.specs.Plan.{Plan, PlanStep, planStep, planOf, stepOf, isStep, stepTarget, stepOfCabin, planInUse, planTarget, planHolds, planLinked, planCount, planCharge, freshPlan, retargeted, replan, withTarget, pruned}
+use Rattle.table.specs.Trial.{answered, isContact}
+use Rattle.table.specs.Rung.{goesBy, goesOn}
+use Rattle.table.specs.Plan.{Plan, PlanStep, planStep, planOf, stepOf, isStep, stepKind, stepTarget, stepOfCabin, planInUse, planTarget, planHolds, planLinked, planContact, planGoesOn, planCount, planCharge, freshPlan, retargeted, replan, withTarget, pruned}
+use Rattle.table.proofs.Places.{own-exit}
 use Rattle.table.proofs.Links.{Wired, formed-wired, used-below, holder-used, target-holds}
 use Rattle.table.proofs.Relink.{relink-used, relink-kind, relink-content, relink-cabin, relink-target, relink-target-other}
 use Rattle.table.proofs.Formed.{formed-place, formed-below}
@@ -54,10 +57,10 @@ entry-target : (n : ℕ) (u : Bool) (k c : ℕ) (f : ℕ → ℕ) (b e : ℕ) �
 entry-target n true k c f b e l z = getD-tabulate n f 0 e l
 entry-target n false k c f b e l z = sym (z refl)
 
--- the kind that a plan's entry says
-abbrev pub stepKind : Option PlanStep → ℕ
-stepKind none = 0
-stepKind (some s) = s .kind
+-- a step that is not in use has no kind
+entry-kind : (n : ℕ) (u : Bool) (k c : ℕ) (f : ℕ → ℕ) (b : ℕ) → (u ≡ false → k ≡ 0) → stepKind (entry n u k c f b) ≡ k
+entry-kind n true k c f b z = refl
+entry-kind n false k c f b z = sym (z refl)
 
 -- a step charged to a cabin: the same said of a plan's entry
 entry-cabin : (n : ℕ) (u m : Bool) (k c : ℕ) (f : ℕ → ℕ) (b d : ℕ) → (m && stepOfCabin d (entry n u k c f b)) ≡ (u && m && eqb b d)
@@ -86,8 +89,15 @@ module _ {t : Table} (w : Wired t) where
   unfolding planInUse
   plan-used i = ap isStep (plan-step i ∙ plan-step-entry t i) ∙ is-entry (exitsOf i) (inUse t i) _ _ _ _
 
-  pub plan-kind : (i : ℕ) → inUse t i ≡ true → stepKind (stepOf (planOf t) i) ≡ kindOf t i
-  plan-kind i u = ap stepKind (plan-step i ∙ plan-step-entry t i) ∙ rw u
+  pub plan-kind : (i : ℕ) → stepKind (stepOf (planOf t) i) ≡ kindOf t i
+  plan-kind i =
+      ap stepKind (plan-step i ∙ plan-step-entry t i)
+      ∙ entry-kind (exitsOf i) (inUse t i) _ _ _ _
+      (λ f.
+      ⊎-elim
+      (λ (o : places ≤ i). unfold kindOf in List·getD-eq-default (t .kinds) 0 {n = i} (rw (w .shape .kinds) o))
+      (λ l. w .free i l f .kind)
+      (le-or-lt places i))
 
   pub plan-target : (i e : ℕ) → e < exitsOf i → planTarget (planOf t) i e ≡ targetOf t i e
   unfolding planTarget
@@ -104,6 +114,22 @@ module _ {t : Table} (w : Wired t) where
   unfolding planLinked linked leads
   plan-linked i j =
       any-ext (exitsOf i) _ _ (λ e l. ap₂ (λ (h : Bool) (x : ℕ). h && eqb x j) (plan-holds i e l) (plan-target i e l))
+
+  pub plan-contact : planContact (planOf t) ≡ isContact t
+  unfolding planContact isContact
+  plan-contact = fun-ext (λ i. rw (plan-kind i))
+
+  pub plan-goes-on : planGoesOn (planOf t) ≡ goesOn t
+  unfolding planGoesOn goesOn goesBy leads
+  plan-goes-on =
+      fun-ext
+      (λ i.
+      fun-ext
+      (λ j.
+      any-ext exits _ _
+      (λ e l.
+      let x = own-exit i e l in
+      λ d. (plan-contact d i || eqb e answered) && (plan-holds i e x d && eqb (plan-target i e x d) j))))
 
   pub plan-count : planCount (planOf t) ≡ stepsInUse t
   unfolding planCount planOf stepsInUse

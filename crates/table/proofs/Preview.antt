@@ -13,7 +13,7 @@ use Prim.Native.Nat.{ℕ, zero, suc, _+_, _≤_, _<_}
 use native.Mathlib.Omega.{arith}
 use lib.ListN.{length, drop}
 use lib.Dec.{eqb, ltb}
-use borrow.Author.Tests.{eq-eqb, ne-eqb, ltb-false}
+use borrow.Author.Tests.{ltb-false}
 use Rattle.finite.specs.Below.{count}
 use Rattle.finite.specs.Reach.{marked, reaches}
 use Rattle.finite.proofs.Bools.{and-left, and-right, and-intro, same-test, refute, clash, test, not-true-false}
@@ -22,44 +22,41 @@ use Rattle.finite.proofs.Those.{length-those, those-none}
 use Rattle.table.specs.declared.Answer.the-variants.{Refused}
 use Rattle.table.specs.Table.{Table, exitsOf, inUse, targetOf, holds, leads, linked, stronglyLinked, stepsInUse, withLinks}
 use Rattle.table.specs.Sound.{Sound}
-use Rattle.table.specs.Answer.{Outcome, WriteOutcome, tooShort, refusalOf, secondOf}
+use Rattle.table.specs.Answer.{Outcome, tooShort, stepsRoom, refusalOf, secondOf}
 use Rattle.table.specs.Calls.{HoldFits, relink}
 use Rattle.table.specs.Clear.{emptied, stops, doubtful, repairOf, repaired, cleared, clearRefusal}
-use Rattle.table.specs.Preview.{isFreed, wouldGo, previewRoom, previewRefusal, previewCall}
+use Rattle.table.specs.Preview.{isFreed, wouldGo, previewRefusal, previewCall}
 use Rattle.table.proofs.Formed.{formed-place, formed-below}
 use Rattle.finite.proofs.Reach.{chain-map, reach-sound, reach-complete, reach-start, reach-closed}
 use Rattle.table.proofs.Links.{formed-wired, exit-strongly, strongly-linked, linked-below}
 use Rattle.table.proofs.Relink.{relink-target-other}
 use Rattle.table.proofs.Spine.{sound-spine}
 use Rattle.table.proofs.Clear.{Cleared, emptied-used, emptied-strongly, goes-strong, formed-emptied, doubtful-at, freed-marked}
-use Rattle.table.proofs.Calls.{cleared-given, into-order, into-accepted, clear-cleared, clear-still, clear-fall}
+use Rattle.table.proofs.Calls.{listing-made, listing-refused, listing-refusal, cleared-given, into-order, into-accepted, clear-cleared, clear-still, clear-fall}
 
 module _ (t : Table) (i e : ℕ) (buffer : List ℕ) where
   -- refused as the clearing is, then for the room
-  pub preview-order : previewRefusal t i e (length buffer) ≡ cond (eqb (clearRefusal t i e) 0) (cond (ltb (length buffer) previewRoom) tooShort 0) (clearRefusal t i e)
+  pub preview-order : previewRefusal t i e (length buffer) ≡ cond (eqb (clearRefusal t i e) 0) (cond (ltb (length buffer) stepsRoom) tooShort 0) (clearRefusal t i e)
   unfolding previewRefusal
-  preview-order = into-order t i e (ltb (length buffer) previewRoom)
+  preview-order = into-order t i e (ltb (length buffer) stepsRoom)
 
   pub preview-made : previewRefusal t i e (length buffer) ≡ 0 →
       previewCall t i e buffer ≡ record { answer = cleared t i e .answer; buffer = wouldGo t i e ++ drop (length (wouldGo t i e)) buffer }
   unfolding previewCall
-  preview-made z = rw (eq-eqb (previewRefusal t i e (length buffer)) 0 z)
+  preview-made z = listing-made _ _ _ buffer z
 
   pub preview-refused-as : (previewRefusal t i e (length buffer) ≡ 0 → ⊥) →
       previewCall t i e buffer ≡ record { answer = Refused (previewRefusal t i e (length buffer)); buffer = buffer }
   unfolding previewCall
-  preview-refused-as d = rw (ne-eqb (previewRefusal t i e (length buffer)) 0 d)
+  preview-refused-as d = listing-refused _ _ _ buffer d
 
   pub preview-refusal-given : refusalOf (previewCall t i e buffer .answer) ≡ previewRefusal t i e (length buffer)
-  preview-refusal-given =
-      ⊎-elim
-      (λ (z : previewRefusal t i e (length buffer) ≡ 0). ap (λ (o : WriteOutcome). refusalOf (o .answer)) (preview-made z) ∙ cleared-given t i e ∙ sym z)
-      (λ d. ap (λ (o : WriteOutcome). refusalOf (o .answer)) (preview-refused-as d) ∙ (unfold refusalOf in refl))
-      (eq-or-ne (previewRefusal t i e (length buffer)) 0)
+  unfolding previewCall
+  preview-refusal-given = listing-refusal _ _ _ buffer (cleared-given t i e)
 
-  pub preview-accepted : previewRefusal t i e (length buffer) ≡ 0 → (clearRefusal t i e ≡ 0) × (previewRoom ≤ length buffer)
+  pub preview-accepted : previewRefusal t i e (length buffer) ≡ 0 → (clearRefusal t i e ≡ 0) × (stepsRoom ≤ length buffer)
   unfolding previewRefusal
-  preview-accepted z = let r = into-accepted t i e (ltb (length buffer) previewRoom) z in (r .0, ltb-false _ _ (r .1))
+  preview-accepted z = let r = into-accepted t i e (ltb (length buffer) stepsRoom) z in (r .0, ltb-false _ _ (r .1))
 
 -- a clearing that can be made
 module _ (t : Table) (i e : ℕ) (s : Sound t) (g : HoldFits t i e) where
@@ -73,7 +70,7 @@ module _ (t : Table) (i e : ℕ) (s : Sound t) (g : HoldFits t i e) where
   done = clear-cleared s i e g .3
 
   -- step 0 stays, so that at most 127 go
-  pub go-fits : secondOf (cleared t i e .answer) ≤ previewRoom
+  pub go-fits : secondOf (cleared t i e .answer) ≤ stepsRoom
   unfolding stepsInUse
   go-fits =
       let most = s .formed .most in

@@ -21,10 +21,10 @@ use Rattle.table.specs.Table.{Table, exits, exitsOf, inUse, kindOf, targ
 use Rattle.table.specs.Sound.{Sound}
 use Rattle.table.specs.Answer.{movesOf}
 use Rattle.table.specs.Trial.{TrialOutcome, isContact, exitOf, resultsAfter, noResult, tryFrom, trialRefusal, trialCall, triedUnder, underNumbers}
-use Rattle.table.specs.Plan.{Plan, planOf, stepOf, planInUse, planTarget}
+use Rattle.table.specs.Plan.{Plan, planOf, stepOf, stepKind, planInUse, planTarget}
 use Rattle.table.proofs.Places.{own-exit}
 use Rattle.table.proofs.Links.{sound-wired}
-use Rattle.table.proofs.Plan.{stepKind, plan-used, plan-kind, plan-target}
+use Rattle.table.proofs.Plan.{plan-used, plan-kind, plan-target}
 use Rattle.table.proofs.Calls.{trial-refusal, trial-refused, trial-made}
 use Rattle.table.proofs.Trials.{results-at, try-spent, try-open, try-stopped, try-move, try-rule, trial-fit}
 
@@ -175,7 +175,7 @@ trials-by-plan t u s v p limit results trace =
     rings =
         record {
           alarm = refl;
-          kind = λ i x. sym (plan-kind (sound-wired v) i (used i ∙ x)) ∙ ap (λ (q : Plan). stepKind (stepOf q i)) (sym p) ∙ plan-kind (sound-wired s) i x;
+          kind = λ i x. sym (plan-kind (sound-wired v) i) ∙ ap (λ (q : Plan). stepKind (stepOf q i)) (sym p) ∙ plan-kind (sound-wired s) i;
           target = λ i e x l. target i e l;
           filled = λ i e x l. unfold holds in ap (λ (j : ℕ). not (eqb j 0)) (target i e l);
         }

@@ -1,27 +1,36 @@
 -- What a squeezed table does as the old one did (document 02, W2). Assumes nothing.
 --   squeeze-twice     squeezing twice is squeezing once
 --   squeeze-trial     trials end alike under the new numbers, trace included
+--   squeeze-rung      the same steps can be entered under the new numbers
 use mathlib.Core.Path.{_≡_, refl, sym, _∙_, ap, ap₂}
-use mathlib.Core.Bool.{true, false, _||_, not}
+use mathlib.Core.Bool.{Bool, true, false, _&&_, _||_, not}
 use mathlib.Core.Logic.{⊎-elim}
-use mathlib.Core.List.{List}
-use Prim.Native.Nat.{ℕ, _*_, _-_, _/_, _%_, _≤_, _<_}
+use mathlib.Core.List.{List, map}
+use Prim.Native.Nat.{ℕ, _+_, _*_, _-_, _/_, _%_, _≤_, _<_}
 use native.Mathlib.Omega.{arith}
+use lib.ListN.{length, getD, drop, length-map, List·getD-map}
+use lib.Seq.{take-at, drop-at}
 use lib.Dec.{ltb}
-use borrow.Author.Tests.{lt-ltb}
-use Rattle.finite.proofs.Bools.{test}
-use Rattle.finite.proofs.Below.{le-or-lt, tabulate-ext}
-use Rattle.finite.proofs.Packed.{count-every}
-use Rattle.table.specs.Table.{Table, places, entriesOf, exitsOf, exitPlaces, holderAt, exitAt, counters, inUse, kindOf, contentOf, ownBit, cabinOf, targetOf, linkBit, counterOf, holds, stepsInUse}
+use borrow.Author.Tests.{eqb-true, eq-eqb, ltb-true, lt-ltb}
+use Rattle.finite.specs.Below.{count, those}
+use Rattle.finite.specs.Reach.{reaches}
+use Rattle.finite.proofs.Bools.{and-intro, and-left, and-right, clash, refute, same-test, test}
+use Rattle.finite.proofs.Below.{le-or-lt, eq-or-ne, count-ext, tabulate-ext}
+use Rattle.finite.proofs.Those.{length-those, those-entry}
+use Rattle.finite.proofs.Packed.{count-every, those-packed, those-past}
+use Rattle.table.specs.Table.{Table, places, exits, entriesOf, exitsOf, exitPlaces, holderAt, exitAt, counters, inUse, kindOf, contentOf, ownBit, cabinOf, targetOf, linkBit, counterOf, holds, stepsInUse}
 use Rattle.table.specs.Sound.{Sound, sound}
-use Rattle.table.specs.Trial.{trialCall, underNumbers}
+use Rattle.table.specs.Answer.{firstOf}
+use Rattle.table.specs.Trial.{isContact, trialCall, underNumbers}
+use Rattle.table.specs.Rung.{goesBy, goesOn, isEntered, rungRefusal, rungCall, listUnder}
 use Rattle.table.specs.Squeeze.{newNumber, oldNumber, moved, squeezed, squeezeRefusal, Renumbered}
-use Rattle.table.proofs.Places.{exit-at-below}
+use Rattle.table.proofs.Places.{own-exit, exit-at-below}
 use Rattle.table.proofs.Links.{Wired, sound-wired, empty-target}
 use Rattle.table.proofs.Renumber.{new-zero, new-step, new-below, moved-step, moved-none, moved-new, old-new, squeezed-renumbered}
-use Rattle.table.proofs.Follow.{Follows, renumbered-follows, new-exits, follow-holds}
+use Rattle.table.proofs.Follow.{Follows, renumbered-follows, new-nonzero, new-exits, follow-holds, reach-there, start}
 use Rattle.table.proofs.Calls.{done, next, first-same, past-sound}
 use Rattle.table.proofs.Rings.{trials-under}
+use Rattle.table.proofs.Rung.{entered, goes-exit, exit-goes, goes-below, entered-used, rung-made, rung-refused-as, rung-refusal}
 use Rattle.table.proofs.Squeeze.{SqueezeFits, squeezed-wired, used-same, squeeze-sound}
 
 -- a field of each step of u is that of the steps of t that were moved there
@@ -124,3 +133,86 @@ module _ {t : Table} (s : Sound t) (c : ℕ) (q : List ℕ) (fit : SqueezeFits t
 
   pub squeeze-trial : (limit : ℕ) (results trace : List ℕ) → trialCall u limit results trace ≡ underNumbers (newNumber t) (trialCall t limit results trace)
   squeeze-trial = trials-under s sound-under (record { alarm = new-zero t; kind = r .kind; target = r .target; filled = follow-holds w (s .formed .alarm) f })
+
+  -- who can be rung: a step goes on by an exit as it did
+  goesBoth : Table → ℕ → ℕ → Bool
+  goesBoth t i e = ltb e exits && (goesBy t i e && holds t i e)
+
+  goes-both : (t : Table) (i j : ℕ) → goesOn t i j ≡ true → (e : ℕ) × (e < exitsOf i) × (goesBoth t i e ≡ true) × (targetOf t i e ≡ j)
+  unfolding goesBoth
+  goes-both t i j h =
+      let x = goes-exit t i j h in
+      (x .0, own-exit i (x .0) (x .1), and-intro (lt-ltb _ _ (x .1)) (and-intro (x .2) (x .3)), x .4)
+
+  both-goes : (t : Table) (i j e : ℕ) → e < exitsOf i → goesBoth t i e ≡ true → targetOf t i e ≡ j → goesOn t i j ≡ true
+  unfolding goesBoth
+  both-goes t i j e l h q =
+      let y = and-right (ltb e exits) _ h in
+      exit-goes t i j e (ltb-true e exits (and-left (ltb e exits) _ h)) (and-left (goesBy t i e) _ y) (and-right (goesBy t i e) _ y) q
+
+  both-holds : (i e : ℕ) → goesBoth t i e ≡ true → holds t i e ≡ true
+  unfolding goesBoth
+  both-holds i e h = and-right (goesBy t i e) _ (and-right (ltb e exits) _ h)
+
+  contact-same : (i : ℕ) → inUse t i ≡ true → isContact u (newNumber t i) ≡ isContact t i
+  unfolding isContact
+  contact-same i x = rw (r .kind i x)
+
+  both-same : (i e : ℕ) → inUse t i ≡ true → e < exitsOf i → goesBoth u (newNumber t i) e ≡ goesBoth t i e
+  unfolding goesBoth goesBy
+  both-same i e x l = rw (contact-same i x, follow-holds w (s .formed .alarm) f i e x l)
+
+  entered-same : (i : ℕ) → inUse t i ≡ true → entered u (newNumber t i) ≡ entered t i
+  unfolding isEntered reaches
+  entered-same i x =
+      ap₂ (λ (a b : Bool). not a && b)
+      (same-test _ _
+      (λ h. ⊎-elim (λ (z : i ≡ 0). eq-eqb i 0 z) (λ d. absurd (new-nonzero t (s .formed .alarm) i d (eqb-true _ 0 h))) (eq-or-ne i 0))
+      (λ h. eq-eqb _ 0 (ap (newNumber t) (eqb-true i 0 h) ∙ new-zero t)))
+      (reach-there w (s .formed .alarm) f goesOn goesBoth goes-both both-goes both-holds both-same (goes-below s) (goes-below sound-under)
+      (start w (s .formed .alarm) f v) i x)
+
+  numbers-under : those (u .capacity) (entered u) ≡ map (newNumber t) (those (t .capacity) (entered t))
+  unfolding stepsInUse newNumber
+  numbers-under =
+      let room = fit .roomy .room in
+      let same : u .capacity ≡ c = unfold squeezed in refl in
+      let e : stepsInUse t + (c - stepsInUse t) ≡ u .capacity = omega arith in
+      ap (λ (n : ℕ). those n (entered u)) (sym e)
+      ∙ those-past (stepsInUse t) (c - stepsInUse t) (entered u)
+      (λ k l. refute (entered u k) (λ h. let b = ltb-true k (stepsInUse t) (sym (r .used k) ∙ entered-used sound-under k h) in omega arith))
+      ∙ those-packed (t .capacity) (inUse t) (entered t) (entered u) (λ i l x. entered-same i x) (λ i l x. refute (entered t i) (λ h. clash (entered-used s i h) x))
+
+  contacts-under : (xs : List ℕ) → xs ≡ those (t .capacity) (entered t) →
+      count (length (map (newNumber t) xs)) (λ m. isContact u (getD (map (newNumber t) xs) m 0)) ≡ count (length xs) (λ m. isContact t (getD xs m 0))
+  contacts-under xs q =
+      ap (λ (n : ℕ). count n (λ m. isContact u (getD (map (newNumber t) xs) m 0))) (length-map xs (newNumber t))
+      ∙ count-ext (length xs) _ _
+      (λ m l.
+      ap (isContact u) (ap (getD (map (newNumber t) xs) m) (sym (new-zero t)) ∙ List·getD-map (newNumber t) xs m 0)
+      ∙ contact-same (getD xs m 0) (used-at m l))
+    where
+      used-at : (m : ℕ) → m < length xs → inUse t (getD xs m 0) ≡ true
+      used-at m l =
+          let low : m < count (t .capacity) (entered t) = rw (sym (length-those (t .capacity) (entered t)), sym q) l in
+          let x = those-entry (t .capacity) (entered t) m low in
+          rw (q, x .1) (entered-used s (x .0 .number) (x .0 .passes))
+
+  pub squeeze-rung : (buffer : List ℕ) → rungCall u buffer ≡ listUnder (newNumber t) (rungCall t buffer)
+  unfolding listUnder firstOf
+  squeeze-rung buffer =
+      let xs = those (t .capacity) (entered t) in
+      let same : rungRefusal u (length buffer) ≡ rungRefusal t (length buffer) = rung-refusal sound-under buffer ∙ sym (rung-refusal s buffer) in
+      ⊎-elim
+      (λ (z : rungRefusal t (length buffer) ≡ 0).
+      rw (
+        rung-made u buffer (same ∙ z),
+        rung-made t buffer z,
+        numbers-under,
+        contacts-under xs refl,
+        length-map xs (newNumber t),
+        take-at xs (drop (length xs) buffer) (length xs) refl,
+        drop-at xs (drop (length xs) buffer) (length xs) refl,
+      ))
+      (λ (d : rungRefusal t (length buffer) ≡ 0 → ⊥). rw (rung-refused-as u buffer (λ z. d (sym same ∙ z)), rung-refused-as t buffer d, same))
+      (eq-or-ne (rungRefusal t (length buffer)) 0)

@@ -5,11 +5,13 @@
 --   refusalOf firstOf secondOf   the paper's numbers for each case of an answer: the refusal or 0, then two numbers, zero where refused
 --   triedRefusal endingOf lastOf movesOf   the same for a trial: the refusal or 0, how it ended, the last step, the moves
 --   unless n t o    the outcome o where n is 0, else refusal n with the table t
+--   stepsRoom       the bytes that a lent buffer has to have where steps are listed in it
+--   listing n a numbers buffer   the answer a with the numbers listed in the buffer where n is 0, else refusal n with the buffer as it was
 use mathlib.Core.Path.{_≡_}
 use mathlib.Core.Bool.{Bool, true, false, cond}
-use mathlib.Core.List.{List, [], _∷_}
+use mathlib.Core.List.{List, [], _∷_, _++_}
 use Prim.Native.Nat.{ℕ, _<_}
-use lib.ListN.{getD}
+use lib.ListN.{length, getD, drop}
 use lib.Dec.{eqb}
 use Rattle.table.specs.Table.{Table}
 use Rattle.table.specs.declared.Answer.{Answer}
@@ -120,6 +122,17 @@ secondOf (Given a b) = b
 
 unfoldable pub unless : ℕ → Table → Outcome → Outcome
 unless n t o = cond (eqb n 0) o (record { answer = Refused n; table = t })
+
+-- W8: "The buffer must hold 127 bytes": a byte for every step but step 0, whatever the table, and even where nothing is listed
+abbrev pub stepsRoom : ℕ
+stepsRoom = 127
+
+-- the numbers at the start of the buffer, a byte each, and the bytes past them untouched
+unfoldable pub listing : ℕ → Answer → List ℕ → List ℕ → WriteOutcome
+listing n a numbers buffer =
+    cond (eqb n 0)
+    (record { answer = a; buffer = numbers ++ drop (length numbers) buffer })
+    (record { answer = Refused n; buffer = buffer })
 
 -- how a trial ended, by number: open 0, spent 1, stopped 2
 unfoldable pub endingNumber : Ending → ℕ

@@ -6,6 +6,7 @@
 --   planInUse planTarget planHolds planLinked planCount planCharge   read on a plan what a table's steps and exits say
 --   freshPlan planAdd planLink planClear planSqueeze   the plan after an accepted call
 --   packed planRank   the steps of a plan without the gaps, and how many stand before a number
+--   planContact planGoesOn planRungRefusal planRungCall   who can be rung, read on the plan
 --   planAddRefusal and so on   the refusal of a call, read on the plan; "1 never holds there"; planExitTests and its sisters, what several ask of an exit
 --   replan          a plan with another last number and other steps
 use mathlib.Core.Bool.{Bool, true, false, _&&_, _||_, not, cond}
@@ -19,9 +20,10 @@ use Rattle.finite.specs.Reach.{marked, reach}
 use Rattle.table.specs.Table.{Table, exits, exitsOf, cabinCount, inUse, kindOf, contentOf, cabinOf, targetOf}
 use Rattle.table.specs.Cabins.{listFits, atLimit, noneToSpare, chargesFit}
 use Rattle.table.specs.Sound.{capacityFits, contentFits}
-use Rattle.table.specs.Answer.{badCapacity, notInUse, badExit, exitFilled, exitEmpty, badKind, full, badResult, tooShort, doesNotFit, cabinAtLimit, stepsReserved, badCabins, first}
+use Rattle.table.specs.Answer.{WriteOutcome, badCapacity, notInUse, badExit, exitFilled, exitEmpty, badKind, full, badResult, tooShort, doesNotFit, cabinAtLimit, stepsReserved, badCabins, first, stepsRoom}
 use Rattle.table.specs.Calls.{numberGiven}
-use Rattle.table.specs.Trial.{resultsFit}
+use Rattle.table.specs.Trial.{answered, resultsFit}
+use Rattle.table.specs.Rung.{rungBy}
 
 -- what a plan keeps of a step in use: "the number, kind, content and four targets"; the number is its place in the list of steps. W5: "The plain plan
 -- keeps the guarantees, the limits and each step's cabin".
@@ -54,6 +56,10 @@ stepOf p i = getD (p .steps) i none
 abbrev pub isStep : Option PlanStep → Bool
 isStep none = false
 isStep (some s) = true
+
+abbrev pub stepKind : Option PlanStep → ℕ
+stepKind none = 0
+stepKind (some s) = s .kind
 
 abbrev pub stepTarget : Option PlanStep → ℕ → ℕ
 stepTarget none e = 0
@@ -204,3 +210,16 @@ planSqueezeRefusal p c quotas =
 -- limit and results stand in the call by value, and of the trace only the length counts: nothing is asked of the plan
 unfoldable pub planTrialRefusal : ℕ → List ℕ → ℕ → ℕ
 planTrialRefusal limit results room = first ((not (resultsFit results), badResult) ∷ (ltb room limit, tooShort) ∷ [])
+
+-- who can be rung, by kinds and targets alone: "1 contact"
+unfoldable pub planContact : Plan → ℕ → Bool
+planContact p i = eqb (stepKind (stepOf p i)) 1
+
+unfoldable pub planGoesOn : Plan → ℕ → ℕ → Bool
+planGoesOn p i j = any exits (λ e. (planContact p i || eqb e answered) && (planHolds p i e && eqb (planTarget p i e) j))
+
+unfoldable pub planRungRefusal : ℕ → ℕ
+planRungRefusal room = first ((ltb room stepsRoom, tooShort) ∷ [])
+
+unfoldable pub planRungCall : Plan → List ℕ → WriteOutcome
+planRungCall p buffer = rungBy (planRungRefusal (length buffer)) (p .capacity) (planGoesOn p) (planContact p) buffer

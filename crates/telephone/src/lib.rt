@@ -10,6 +10,7 @@ ghost use Rattle.table.specs.Answer.{endingNumber, movesOf};
 ghost use Rattle.table.specs.Calls.{freshCall, addCall, linkCall, readCall, countsCall};
 ghost use Rattle.table.specs.Clear.{clearCall};
 ghost use Rattle.table.specs.Preview.{previewCall};
+ghost use Rattle.table.specs.Rung.{rungCall};
 ghost use Rattle.table.specs.Squeeze.{squeezeCall};
 ghost use Rattle.table.specs.Trial.{trialCall};
 ghost use Rattle.words.specs.Words.{tableOf, wordsOf};
@@ -258,6 +259,16 @@ pub extern "C" fn plan_preview_clear(
     ensures written { λ r. ⌜ now (buffer .exit) ≡ previewCall (tableOf (now (t .entry))) step exit (now (buffer .entry)) .buffer ⌝ }
 {
     reply_of(clearing::preview_clear(t, step, exit, buffer))
+}
+
+// Who can be rung: the numbers of the steps that some trial enters, a byte each. First is how many there are, second how many of them are contacts. Refusals:
+// 1, 11.
+#[no_mangle]
+pub extern "C" fn plan_rung(t: &[u16; WORDS], buffer: &mut [u8]) -> Reply
+    ensures answer { λ r. ⌜ r ≡ replyOf (rungCall (tableOf (now (t .entry))) (now (buffer .entry)) .answer) ⌝ }
+    ensures written { λ r. ⌜ now (buffer .exit) ≡ rungCall (tableOf (now (t .entry))) (now (buffer .entry)) .buffer ⌝ }
+{
+    reply_of(ringing::rung(t, buffer))
 }
 
 // Squeeze: the steps in use get the lowest numbers, in their old order, and the table the capacity and the quotas given. Refusals: 1, 2, 16, 13.

@@ -10,12 +10,10 @@ ghost use Rattle.words.specs.Words.{tableOf};
 use table::Ending;
 use table::Tried;
 use words::BAD_RESULT;
+use words::CONTACT;
 use words::TOO_SHORT;
 use words::WORDS;
 use words::wide;
-
-// The kind of a contact, which alone has a line result.
-const CONTACT: u16 = 1;
 
 // The exit of all other kinds, answered.
 const ANSWERED: usize = 0;

@@ -27,6 +27,12 @@ pub const CABINS: usize = 8;
 
 pub const QUOTAS: usize = 16;
 
+// The kind of a contact, which alone has a line result.
+pub const CONTACT: u16 = 1;
+
+// The bytes that a lent buffer has to have where steps are listed in it: one for every step but step 0.
+pub const STEPS_ROOM: usize = 127;
+
 // The places of all exits, and of all counters.
 pub const LINKS: usize = 512;
 

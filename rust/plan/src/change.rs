@@ -1,6 +1,8 @@
 //! What an accepted call did to a table, read off the table before and the table after.
 
 use crate::view::{Held, View};
+use crate::words::refused;
+use telephone::{raw, Refusal, Table, STEPS_ROOM};
 
 /// What changed.
 #[derive(Clone, PartialEq, Eq, Debug)]
@@ -33,6 +35,37 @@ impl Clearing {
         steps.sort_unstable();
         steps
     }
+}
+
+/// A call on a table with any numbers: the table after it and its two numbers, or its refusal.
+pub fn call(
+    table: &Table,
+    call: impl FnOnce(&mut raw::Table) -> raw::Reply,
+) -> Result<(Table, (u16, u16)), Refusal> {
+    let mut after = table.clone().into_raw();
+    let reply = call(&mut after);
+    Refusal::check(reply.refusal)?;
+    Ok((Table::from_raw(after)?, (reply.first, reply.second)))
+}
+
+/// What clearing an exit does, made on a copy: the table after it, what stands in it, and what changed; where its preview tells the same.
+pub fn foretold(
+    table: &Table,
+    view: &View,
+    step: u16,
+    exit: u16,
+) -> Result<(Table, View, Clearing), String> {
+    let mut steps = [0; STEPS_ROOM];
+    let told = call(table, |table| raw::preview_clear(table, step, exit, &mut steps));
+    let (same, answer) = told.map_err(refused)?;
+    let (after, made) = call(table, |table| raw::clear(table, step, exit)).map_err(refused)?;
+    let seen = View::of(&after);
+    let clearing = cleared(view, &seen, made)?;
+    let freed = steps.iter().take(answer.1.into()).map(|&step| u16::from(step));
+    if same != *table || made != answer || !freed.eq(clearing.freed.iter().copied()) {
+        return Err("the clearing does not do what its preview tells".to_string());
+    }
+    Ok((after, seen, clearing))
 }
 
 /// What an add, a link, a clearing or a call that changes nothing did.
@@ -83,7 +116,7 @@ pub fn taken_back(before: &View, after: &View, answer: (u16, u16)) -> Result<Cle
 }
 
 /// What the tables show, where its two numbers are those of the call's answer.
-fn agreed<T>(seen: T, shown: (usize, usize), answer: (u16, u16)) -> Result<T, String> {
+pub fn agreed<T>(seen: T, shown: (usize, usize), answer: (u16, u16)) -> Result<T, String> {
     if shown == (answer.0.into(), answer.1.into()) {
         return Ok(seen);
     }

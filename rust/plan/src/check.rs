@@ -6,8 +6,8 @@ use crate::view::View;
 use crate::words::count;
 use std::collections::BTreeSet;
 use telephone::{
-    convert_down, sole_quotas, Exit, Kind, Link, Quota, Quotas, Step, Table, CABINS, EXITS,
-    IMAGE_MAX, PLACES,
+    convert_down, slip_length, sole_quotas, Exit, Kind, Link, Quota, Quotas, Step, Table, CABINS,
+    EXITS, IMAGE_MAX, PLACES,
 };
 
 /// An edition of the format: bytes of the header and of a step record, and the kinds of both.
@@ -125,6 +125,12 @@ pub fn edition(image: &[u8]) -> Result<&'static Edition, Fault> {
     Ok(edition)
 }
 
+/// Whether bytes begin as an image does, with the length and the kind of a header.
+pub fn begins_as_image(bytes: &[u8]) -> bool {
+    let begins = (word(bytes, 0).into(), word(bytes, 2));
+    EDITIONS.iter().any(|edition| (edition.header, edition.header_kind) == begins)
+}
+
 /// Rules 2 and 3: the lengths and kinds of the step records, as far as the image goes, and its length.
 fn framing(image: &[u8], edition: &Edition) -> Result<(), Fault> {
     let (length, steps) = (image.len(), usize::from(word(image, 8)));
@@ -183,6 +189,14 @@ fn limit_byte(cabin: usize) -> usize {
 
 /// Bytes of a slip before its records: the step, the exit, and the number of pairs of an old and a new record.
 const SLIP_HEADER: usize = 6;
+
+/// The step and the exit of the clearing whose slip these bytes could be: they have its length, and step records of edition 2.
+pub fn cleared_exit(slip: &[u8]) -> Option<(u16, u16)> {
+    let records = slip.get(SLIP_HEADER..).filter(|records| !records.is_empty())?;
+    let mut records = records.chunks(EDITIONS[1].step).map(|record| frame(record, 0, &EDITIONS[1]));
+    let whole = slip_length(slip) == Some(slip.len()) && records.all(|frame| frame.is_ok());
+    whole.then(|| (word(slip, 0), word(slip, 2)))
+}
 
 /// The first step of a slip that is not as its new record says, in the table of an image of edition 2, where a step with no record is free.
 pub fn changed_since(image: &[u8], slip: &[u8]) -> Option<u16> {

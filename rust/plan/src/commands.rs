@@ -1,25 +1,27 @@
 //! The commands. Each reads what it is given, asks the library, and only then writes.
 
 use crate::files::{
-    apart, broken_rule, give, give_cleared, give_image, give_table, goes_nowhere, image_bytes,
-    input, input_failed, load, print, refused_image, say, shown, slip_bytes,
+    apart, broken_rule, edition_of, give, give_image, goes_nowhere, image_bytes, input,
+    input_failed, load, nothing_held, print, refused_image, say, shown, slip_bytes,
 };
-use crate::{next, number, Failure, Request};
-use plan::change::{checked, cleared, taken_back};
-use plan::check::{cabin_line, changed_since, edition, unfit};
+use crate::{edition, next, number, Failure, Request};
+use plan::change::{call, checked, cleared, foretold, taken_back, Change, Clearing};
+use plan::check::{cabin_line, changed_since, unfit};
 use plan::diff::{diff, Verdict};
 use plan::draw::{as_dot, as_svg};
 use plan::line::{answered, Call};
 use plan::pages;
+use plan::risks;
+use plan::rung::{self, Rung, Viewed};
 use plan::view::View;
 use plan::words::{count, refused};
 use std::collections::BTreeMap;
 use std::ffi::{OsStr, OsString};
 use std::io::{self, BufRead, BufReader, IsTerminal, Read};
-use std::path::Path;
+use std::path::{Path, PathBuf};
 use telephone::{
-    convert_down, convert_up, raw, slip_length, sole_quotas, Ending, Line, Quota, Quotas, Refusal,
-    Table, CABINS, IMAGE_MAX, PLACES, PREVIEW_ROOM, SLIP_MAX,
+    convert_down, convert_up, raw, slip_length, sole_quotas, Line, Quota, Quotas, Refusal, Table,
+    CABINS, IMAGE_MAX, PLACES, SLIP_MAX,
 };
 
 /// A command of the program.
@@ -31,7 +33,7 @@ pub struct Command {
     pub options: &'static [&'static str],
     /// What it does, in a few words and at length.
     pub gist: &'static str,
-    pub help: &'static str,
+    help: &'static str,
     pub run: fn(&Request) -> Result<u8, Failure>,
 }
 
@@ -41,6 +43,22 @@ impl Command {
         let words = self.words.iter().map(|word| format!(" {word}"));
         let options = self.options.iter().map(|option| format!(" [{option}]"));
         [self.name.to_string()].into_iter().chain(words).chain(options).collect()
+    }
+
+    /// Its page of help.
+    pub fn page(&self) -> String {
+        let shared = SHARED.iter().filter(|(option, _)| self.options.contains(option));
+        let shared: String = shared.map(|(_, help)| *help).collect();
+        format!("usage: plan {}\n\n{}{shared}", self.usage(), self.help)
+    }
+
+    /// The files that it reads, of the words that it is given.
+    pub fn files(&self, words: &[OsString]) -> Vec<PathBuf> {
+        let named = self.words.iter().zip(words);
+        named
+            .filter(|(name, _)| ["IMAGE", "SLIP"].contains(name))
+            .map(|(_, file)| file.into())
+            .collect()
     }
 
     /// Whether it takes so many words.
@@ -56,6 +74,27 @@ impl Command {
 }
 
 const STORE: &str = "-o FILE";
+const EDITION: &str = "--edition N";
+const FORCE: &str = "--force";
+
+/// What the pages of help say of options that several commands have.
+const SHARED: [(&str, &str); 2] = [
+    (
+        EDITION,
+        "
+The image is stored in the edition that was read, and a fresh one in edition 2.
+--edition N stores it in edition N, 1 or 2. What edition 1 cannot say is refused
+by 17.
+",
+    ),
+    (
+        FORCE,
+        "
+Where someone else changed FILE since the command began, nothing is stored. A
+plan or a slip that the command did not read is replaced only with --force.
+",
+    ),
+];
 
 /// Guarantees and limits, one for each cabin at most.
 const LIST: &str = "[G/L ..]";
@@ -63,11 +102,11 @@ const LIST: &str = "[G/L ..]";
 /// Calls on a dispatcher, as many as one likes.
 const CALLS: &str = "CALL ..";
 
-pub const COMMANDS: [Command; 15] = [
+pub const COMMANDS: [Command; 17] = [
     Command {
         name: "fresh",
         words: &["CAPACITY", LIST],
-        options: &[STORE],
+        options: &[EDITION, FORCE, STORE],
         gist: "a new plan with the alarm alone",
         help: FRESH,
         run: fresh,
@@ -75,7 +114,7 @@ pub const COMMANDS: [Command; 15] = [
     Command {
         name: "key",
         words: &["IMAGE"],
-        options: &["--skip-refused", STORE],
+        options: &["--skip-refused", EDITION, FORCE, STORE],
         gist: "key lines from standard input, on a stored plan",
         help: KEY,
         run: key,
@@ -83,7 +122,7 @@ pub const COMMANDS: [Command; 15] = [
     Command {
         name: "add",
         words: &["IMAGE", "STEP", "EXIT", "KIND", "CONTENT", "CABIN"],
-        options: &[STORE],
+        options: &[EDITION, FORCE, STORE],
         gist: "a step added for a cabin",
         help: ADD,
         run: add,
@@ -99,7 +138,7 @@ pub const COMMANDS: [Command; 15] = [
     Command {
         name: "draw",
         words: &["IMAGE"],
-        options: &["--dot", STORE],
+        options: &["--dot", FORCE, STORE],
         gist: "a picture for a browser",
         help: DRAW,
         run: draw,
@@ -108,9 +147,17 @@ pub const COMMANDS: [Command; 15] = [
         name: "why",
         words: &["IMAGE", "STEP"],
         options: &[],
-        gist: "what holds a step in use",
+        gist: "what holds a step in use, and is it rung",
         help: WHY,
         run: why,
+    },
+    Command {
+        name: "rung",
+        words: &["IMAGE", "[CONTACT]"],
+        options: &[],
+        gist: "who can be rung, and who never is",
+        help: RUNG,
+        run: rung,
     },
     Command {
         name: "preview",
@@ -121,9 +168,17 @@ pub const COMMANDS: [Command; 15] = [
         run: preview,
     },
     Command {
+        name: "risks",
+        words: &["IMAGE"],
+        options: &[],
+        gist: "what clearing each exit would do, the worst first",
+        help: RISKS,
+        run: risks,
+    },
+    Command {
         name: "clear",
         words: &["IMAGE", "STEP", "EXIT"],
-        options: &["--slip SLIP", STORE],
+        options: &["--slip SLIP", EDITION, FORCE, STORE],
         gist: "what clearing an exit does",
         help: CLEAR,
         run: clear,
@@ -131,7 +186,7 @@ pub const COMMANDS: [Command; 15] = [
     Command {
         name: "take-back",
         words: &["IMAGE", "SLIP"],
-        options: &[STORE],
+        options: &[EDITION, FORCE, STORE],
         gist: "a clearing taken back by its slip",
         help: TAKE_BACK,
         run: take_back,
@@ -147,7 +202,7 @@ pub const COMMANDS: [Command; 15] = [
     Command {
         name: "squeeze",
         words: &["IMAGE", "CAPACITY", LIST],
-        options: &[STORE],
+        options: &[EDITION, FORCE, STORE],
         gist: "the plan in a table of another capacity",
         help: SQUEEZE,
         run: squeeze,
@@ -155,7 +210,7 @@ pub const COMMANDS: [Command; 15] = [
     Command {
         name: "convert",
         words: &["IMAGE", "EDITION"],
-        options: &[STORE],
+        options: &[FORCE, STORE],
         gist: "the image in the other edition",
         help: CONVERT,
         run: convert,
@@ -191,7 +246,8 @@ Carries out key lines on a stored plan and answers each in words on standard
 error. The new image goes to FILE, which may be IMAGE itself, or to standard
 output. Where a line is refused, all lines are answered and nothing is stored;
 with --skip-refused, and where the lines are keyed at a terminal, a refused
-line changes nothing and the others count.
+line changes nothing and the others count. The answer to a clearing names the
+contacts that are no longer rung, whatever the line results.
 
   H*1 step exit kind content A  adds a step at an empty exit      H*100001000A
   H*2 step exit step exit A     copies an exit into an empty one  H*200000012A
@@ -204,6 +260,9 @@ contents have three digits, exits and kinds one. Exits: 0 answered, 1 engaged,
 2 message (0 to 15), 3 wait (1 to 600 seconds). Key lines add for cabin 0.
 ";
 
+/// What is said of contacts that no trial rings any more.
+const NO_LONGER: &str = "no longer rung";
+
 const ADD: &str = "\
 Adds a step at an empty exit of STEP and charges it to CABIN, 0 to 7. What was
 added is said on standard error; the new image goes to FILE, which may be IMAGE
@@ -215,26 +274,28 @@ const PREVIEW: &str = "\
 Says what clearing the exit would do: how many steps would be doubtful, and
 which of them would go. The image is only read. The same plan clear, made next,
 frees just these steps, and says what holds the others then. Where another
-contact would be rung first, or nobody, that is said too. Exits: 0 answered,
-1 engaged, 2 no reply, 3 line fault.
+contact would be rung first, or nobody, that is said too, and so is every
+contact that could be rung before and could not be after, whatever the line
+results. Exits: 0 answered, 1 engaged, 2 no reply, 3 line fault.
 ";
 
 const CLEAR: &str = "\
 Says on standard error what clearing the exit does: which steps become
-doubtful, which of them stay and what holds each then, which go, and who is rung
-first now where that is another. The new image goes to FILE, which may be IMAGE
-itself, or to standard output; at a terminal it goes nowhere. plan preview says
-beforehand which steps would go, and gives no image. With --slip, a slip of the
-clearing is stored in the file SLIP, by which plan take-back takes it back.
-Exits: 0 answered, 1 engaged, 2 no reply, 3 line fault.
+doubtful, which of them stay and what holds each then, which go, who is rung
+first before and after where these differ, and who is no longer rung, whatever
+the line results: a step may be held and never entered. The new image goes to
+FILE, which may be IMAGE itself, or to standard output; at a terminal it goes
+nowhere. plan preview says beforehand which steps would go, and gives no image.
+With --slip, a slip of the clearing is stored in the file SLIP, by which plan
+take-back takes it back. Exits: 0 answered, 1 engaged, 2 no reply, 3 line fault.
 ";
 
 const TAKE_BACK: &str = "\
 Takes back the clearing of which SLIP is the slip, and says on standard error
-which steps are back in use and which are held as before. The new image goes to
-FILE, which may be IMAGE itself, or to standard output. Where a step of the slip
-is no longer as the clearing left it, or would not fit in again, it is refused
-by 18; other steps may have changed.
+which steps are back in use, which are held as before, and who can be rung
+again. The new image goes to FILE, which may be IMAGE itself, or to standard
+output. Where a step of the slip is no longer as the clearing left it, or would
+not fit in again, it is refused by 18; other steps may have changed.
 ";
 
 const TRIAL: &str = "\
@@ -268,8 +329,10 @@ goes to FILE, which may be IMAGE itself, or to standard output.
 
 const DRAW: &str = "\
 A picture of the plan as SVG, which a browser opens: the alarm on top, strong
-links solid, weak ones dashed. A step says its cabin where that is not 0. With
---dot the same for Graphviz. It goes to FILE, or to standard output.
+links solid, weak ones dashed. Links in exits that no trial takes are grey, and
+a step that no trial enters has a dashed edge and says so. A step says its cabin
+where that is not 0. With --dot the same for Graphviz. It goes to FILE, or to
+standard output.
 ";
 
 const DIFF: &str = "\
@@ -284,8 +347,9 @@ editions, 1 where not, 2 where one could not be read or is not accepted.
 
 const CHECK: &str = "\
 Accepted, with its edition, or the first rule of docs/IMAGE.md that is broken,
-with the byte to look at. Status 0 where it is accepted, 1 where not, 2 where it
-could not be read.
+with the byte to look at. Where it is accepted and no line results ring the
+primary, a second line says so. Status 0 where it is accepted, 1 where not,
+2 where it could not be read.
 ";
 
 const LINE: &str = "\
@@ -313,29 +377,41 @@ itself: both are CAPACITY less 1. The image goes to FILE, or to standard output.
 const SHOW: &str = "\
 Every cabin that may have steps with its guarantee, its limit, the steps charged
 to it and those still owed to it; every step in use with its cabin and its four
-exits, each with its target and strength; then the free numbers.
+exits, each with its target and strength; then the free numbers. A step that no
+trial enters is marked, and so is a link in an exit that none takes.
 ";
 
 const WHY: &str = "\
-A strong chain from step 0 that holds the step, and every other link to it.
+A strong chain from step 0 that holds the step, and every other link to it. Then
+whether some trial enters the step, which is a second thing: with the fewest
+line results that do, or with the exit on that chain that is never taken. The
+alarm, messages and waits go on by their answered exit alone.
+";
+
+const RUNG: &str = "\
+Who can be rung. Each contact that some trial rings, with as few line results as
+any that ring it, in words and as the digits that plan trial takes; then each
+contact that none rings, with the exits that hold its step in use and why they
+are never taken. The alarm, messages and waits go on by their answered exit
+alone, so a step behind another exit of theirs may be held and never entered.
+With CONTACT, a phone book number (0 is the primary), the steps of that contact
+alone. Status 0: where CONTACT is given, it can be rung. 1: it is never rung, or
+no step has it. 2: the image could not be read or is not accepted.
+";
+
+const RISKS: &str = "\
+For every exit that holds a link: who would fall silent if it were cleared, so
+that no line results ring them any more, and which steps would go. The worst
+come first: those that silence the primary, then by the number of contacts
+silenced, then by the number of steps freed, then by step and exit. The exits
+whose clearing would do neither are counted in the last line. The image is only
+read. plan preview says more about one exit.
 ";
 
 /// The table of an image, and what stands in it.
 fn viewed(path: &OsStr) -> Result<(Table, View), Failure> {
-    let table = load(path)?;
-    let view = View::of(&table);
+    let (table, view, _) = opened(path)?;
     Ok((table, view))
-}
-
-/// A call on a table with any numbers: the table after it and its two numbers, or its refusal.
-fn call(
-    table: &Table,
-    call: impl FnOnce(&mut raw::Table) -> raw::Reply,
-) -> Result<(Table, (u16, u16)), Refusal> {
-    let mut after = table.clone().into_raw();
-    let reply = call(&mut after);
-    Refusal::check(reply.refusal)?;
-    Ok((Table::from_raw(after)?, (reply.first, reply.second)))
 }
 
 /// Guarantees and limits from cabin 0 on; the other list where none are given.
@@ -392,6 +468,32 @@ fn said_cabins(view: &View, words: &[OsString]) -> String {
     }
 }
 
+/// The table of an image, what stands in it, and the image's edition.
+fn opened(path: &OsStr) -> Result<(Table, View, u16), Failure> {
+    let (table, edition) = load(path)?;
+    let view = View::of(&table);
+    Ok((table, view, edition))
+}
+
+/// The image of a table in the edition that the command line asks for, or else in this one.
+fn image_in(request: &Request, read: u16, table: &Table) -> Result<Vec<u8>, Failure> {
+    let (mut image, mut old) = ([0; IMAGE_MAX], [0; IMAGE_MAX]);
+    let length = table.write_image(&mut image).map_err(refused)?;
+    if request.edition.unwrap_or(read) == 2 {
+        return Ok(image[..length].to_vec());
+    }
+    let length = convert_down(&image[..length], &mut old).map_err(|refusal| {
+        let why = pages::needs_edition_2(&View::of(table));
+        format!("{}; {why}; --edition 2 stores it in edition 2", refused(refusal))
+    })?;
+    Ok(old[..length].to_vec())
+}
+
+/// Says words, and gives the image of a table in such an edition.
+fn give_table(request: &Request, words: &str, read: u16, table: &Table) -> Result<(), Failure> {
+    give_image(request, words, &image_in(request, read, table)?, &[])
+}
+
 fn fresh(request: &Request) -> Result<u8, Failure> {
     let (capacity, pairs) = (number("the capacity", &request.words[0])?, &request.words[1..]);
     let quotas = list(pairs, sole_quotas(capacity))?;
@@ -400,13 +502,13 @@ fn fresh(request: &Request) -> Result<u8, Failure> {
         refused_for(refusal, &view, None)
     })?;
     let view = View::of(&table);
-    say(&format!("{}\n{}", pages::numbers(&view), said_cabins(&view, pairs)))?;
-    give_table(request, &table)?;
+    let words = format!("{}\n{}", pages::numbers(&view), said_cabins(&view, pairs));
+    give_table(request, &words, 2, &table)?;
     Ok(0)
 }
 
 fn add(request: &Request) -> Result<u8, Failure> {
-    let (table, before) = viewed(&request.words[0])?;
+    let (table, before, edition) = opened(&request.words[0])?;
     let step = number("the step", &request.words[1])?;
     let exit = number("the exit", &request.words[2])?;
     let kind = number("the kind", &request.words[3])?;
@@ -416,23 +518,24 @@ fn add(request: &Request) -> Result<u8, Failure> {
     let (table, answer) =
         added.map_err(|refusal| refused_for(refusal, &before, Some(cabin.into())))?;
     let after = View::of(&table);
-    say(&format!("{}\n", pages::answered(&after, &checked(&before, &after, answer)?)))?;
-    give_table(request, &table)?;
+    let words = format!("{}\n", pages::answered(&after, &checked(&before, &after, answer)?));
+    give_table(request, &words, edition, &table)?;
     Ok(0)
 }
 
 fn show(request: &Request) -> Result<u8, Failure> {
-    let (_, view) = viewed(&request.words[0])?;
-    print(&pages::show(&view))?;
+    let (table, view) = viewed(&request.words[0])?;
+    print(&pages::show(&view, &Rung::of(&table, &view)?))?;
     Ok(0)
 }
 
 fn draw(request: &Request) -> Result<u8, Failure> {
     apart("a picture", &request.output, Path::new(&request.words[0]))?;
-    let (_, view) = viewed(&request.words[0])?;
+    nothing_held(request)?;
+    let (table, view) = viewed(&request.words[0])?;
     let name = Path::new(&request.words[0]).file_name().unwrap_or_default().to_string_lossy();
-    let picture = if request.dot { as_dot(&name, &view) } else { as_svg(&name, &view) };
-    give(request, &picture)?;
+    let drawn = if request.dot { as_dot } else { as_svg };
+    give(request, &drawn(&name, &view, &Rung::of(&table, &view)?))?;
     Ok(0)
 }
 
@@ -440,44 +543,57 @@ fn why(request: &Request) -> Result<u8, Failure> {
     let (table, view) = viewed(&request.words[0])?;
     let step = number("the step", &request.words[1])?;
     table.read(step).map_err(refused)?;
-    print(&pages::why(&view, step))?;
+    let rung = Rung::of(&table, &view)?;
+    print(&pages::why(&view, step, &rung, &rung.fewest(&table, &view)?))?;
+    Ok(0)
+}
+
+fn rung(request: &Request) -> Result<u8, Failure> {
+    let (table, view) = viewed(&request.words[0])?;
+    let entry = request.words.get(1).map(|word| number("the contact", word)).transpose()?;
+    let rung = Rung::of(&table, &view)?;
+    print(&pages::rung(&view, &rung, &rung.fewest(&table, &view)?, entry))?;
+    Ok(u8::from(entry.is_some_and(|entry| !rung.rings(entry))))
+}
+
+fn risks(request: &Request) -> Result<u8, Failure> {
+    let (table, view) = viewed(&request.words[0])?;
+    print(&pages::risks(&risks::risks(&table, &view)?))?;
     Ok(0)
 }
 
 /// The table of an image, what stands in it, and the step and the exit of a command line.
 fn exit_of(request: &Request) -> Result<(Table, View, u16, u16), Failure> {
     let (table, view) = viewed(&request.words[0])?;
-    let step = number("the step", &request.words[1])?;
-    let exit = number("the exit", &request.words[2])?;
+    let (step, exit) = place_of(request)?;
     Ok((table, view, step, exit))
+}
+
+/// The step and the exit of a command line.
+fn place_of(request: &Request) -> Result<(u16, u16), Failure> {
+    Ok((number("the step", &request.words[1])?, number("the exit", &request.words[2])?))
 }
 
 fn preview(request: &Request) -> Result<u8, Failure> {
     let (table, view, step, exit) = exit_of(request)?;
-    let mut steps = [0; PREVIEW_ROOM];
-    let told = call(&table, |table| raw::preview_clear(table, step, exit, &mut steps));
-    let (same, answer) = told.map_err(refused)?;
-    // the same clearing, made on a copy
-    let (after, made) = call(&table, |table| raw::clear(table, step, exit)).map_err(refused)?;
-    let clearing = cleared(&view, &View::of(&after), made)?;
-    let freed = steps.iter().take(answer.1.into()).map(|&step| u16::from(step));
-    if same != table || made != answer || !freed.eq(clearing.freed.iter().copied()) {
-        return Err("the clearing does not do what its preview tells".to_string());
-    }
-    let rung = [&table, &after].map(first_rung);
-    print(&(pages::preview(&view, &clearing) + &pages::rung(&view, rung, ["now", "then"])))?;
+    let (after, seen, clearing) = foretold(&table, &view, step, exit)?;
+    let tables = [(&table, &view), (&after, &seen)];
+    let ringing = ringing("would no longer be rung", &clearing, tables)?;
+    print(&(pages::preview(&view, &clearing) + &ringing))?;
     Ok(0)
 }
 
-/// The step that rings first: where a trial with no line result is spent.
-fn first_rung(table: &Table) -> Option<u16> {
-    let mut trace = [0; PLACES];
-    let trial = table.trial(PLACES as u16, &[], &mut trace).ok()?;
-    (trial.ending == Ending::Spent).then_some(trial.last)
+/// Who is rung first before and after a clearing where they differ, and who falls silent by it.
+fn ringing(words: &str, clearing: &Clearing, tables: [Viewed; 2]) -> Result<String, Failure> {
+    let [before, after] = tables;
+    let silenced = pages::silenced(words, clearing, &rung::silent(before, after)?);
+    let first = [rung::first(before.0)?, rung::first(after.0)?];
+    Ok(pages::ringing(before.1, first, silenced))
 }
 
 fn clear(request: &Request) -> Result<u8, Failure> {
-    let (table, before, step, exit) = exit_of(request)?;
+    let (table, before, edition) = opened(&request.words[0])?;
+    let (step, exit) = place_of(request)?;
     let mut slip = [0; SLIP_MAX];
     let made = call(&table, |table| match request.slip {
         Some(_) => raw::clear_with_slip(table, step, exit, &mut slip),
@@ -491,24 +607,26 @@ fn clear(request: &Request) -> Result<u8, Failure> {
     if request.slip.is_some() && back() != Ok((table.clone(), (answer.1, 0))) {
         return Err("the slip does not take the clearing back".to_string());
     }
-    let rung = pages::rung(&before, [&after, &table].map(first_rung), ["now", "before"]);
-    say(&(pages::cleared(&before, &view, &clearing) + &rung))?;
-    give_cleared(request, &after, slip)?;
+    let ringing = ringing(NO_LONGER, &clearing, [(&table, &before), (&after, &view)])?;
+    let words = pages::cleared(&before, &view, &clearing) + &ringing;
+    give_image(request, &words, &image_in(request, edition, &after)?, slip)?;
     Ok(0)
 }
 
 fn take_back(request: &Request) -> Result<u8, Failure> {
-    let (table, before) = viewed(&request.words[0])?;
+    let (table, before, edition) = opened(&request.words[0])?;
     let name = &request.words[1];
     apart("an image", &request.output, Path::new(name))?;
     let slip = slip_bytes(Path::new(name))?;
     let taken = call(&table, |table| raw::take_back(table, &slip));
-    let (table, answer) = taken.map_err(|refusal| {
+    let (back, answer) = taken.map_err(|refusal| {
         format!("{}: {}; {}", shown(name), refused(refusal), why_not_taken_back(&table, &slip))
     })?;
-    let after = View::of(&table);
-    say(&pages::taken_back(&after, &taken_back(&before, &after, answer)?))?;
-    give_table(request, &table)?;
+    let after = View::of(&back);
+    let clearing = taken_back(&before, &after, answer)?;
+    let again = rung::silent((&back, &after), (&table, &before))?;
+    let words = pages::taken_back(&after, &clearing, &again);
+    give_table(request, &words, edition, &back)?;
     Ok(0)
 }
 
@@ -549,7 +667,7 @@ fn results(word: &OsStr) -> Result<Vec<u8>, Failure> {
 }
 
 fn squeeze(request: &Request) -> Result<u8, Failure> {
-    let (table, before) = viewed(&request.words[0])?;
+    let (table, before, edition) = opened(&request.words[0])?;
     let (capacity, pairs) = (number("the capacity", &request.words[1])?, &request.words[2..]);
     let quotas = list(pairs, kept_list(&before, capacity))?;
     let squeezed = call(&table, |table| raw::squeeze(table, capacity, &quotas));
@@ -557,30 +675,29 @@ fn squeeze(request: &Request) -> Result<u8, Failure> {
         refused_for(refusal, &View { capacity, quotas, ..before.clone() }, None)
     })?;
     let after = View::of(&table);
-    say(&(pages::squeezed(&before, &after) + &said_cabins(&after, pairs)))?;
-    give_table(request, &table)?;
+    let words = pages::squeezed(&before, &after) + &said_cabins(&after, pairs);
+    give_table(request, &words, edition, &table)?;
     Ok(0)
 }
 
 fn convert(request: &Request) -> Result<u8, Failure> {
     let name = &request.words[0];
     let bytes = image_bytes(Path::new(name))?;
-    let to = number("the edition", &request.words[1])?;
+    let to = edition(&request.words[1])?;
     let mut image = [0; IMAGE_MAX];
     let converted = match to {
         1 => convert_down(&bytes, &mut image),
-        2 => convert_up(&bytes, &mut image),
-        _ => return Err(format!("the edition to be written is 1 or 2, and not {to}")),
+        _ => convert_up(&bytes, &mut image),
     };
     let length = converted
         .map_err(|refusal| refused_image(name, refusal, &why_not_converted(&bytes, to, refusal)))?;
     let (image, from) = (&image[..length], edition_of(&bytes)?);
-    if Table::load(image) != Table::load(&bytes) || u16::from(edition_of(image)?) != to {
+    if Table::load(image) != Table::load(&bytes) || edition_of(image)? != to {
         return Err("the image converted is another table, or of another edition".to_string());
     }
     let given = bytes.len();
-    say(&format!("edition {from}, {given} bytes, to edition {to}, {length} bytes\n"))?;
-    give_image(request, image)?;
+    let words = format!("edition {from}, {given} bytes, to edition {to}, {length} bytes\n");
+    give_image(request, &words, image, &[])?;
     Ok(0)
 }
 
@@ -591,11 +708,6 @@ fn why_not_converted(bytes: &[u8], to: u16, refusal: Refusal) -> String {
         (Ok(_), Refusal::NotAccepted) => format!("it is of edition {to} already"),
         _ => broken_rule(bytes),
     }
-}
-
-/// The edition of an image that the library accepts.
-fn edition_of(image: &[u8]) -> Result<u8, Failure> {
-    edition(image).map(|edition| edition.number).map_err(|fault| fault.words)
 }
 
 fn differ(request: &Request) -> Result<u8, Failure> {
@@ -614,9 +726,9 @@ fn check(request: &Request) -> Result<u8, Failure> {
     let bytes = image_bytes(Path::new(&request.words[0]))?;
     match Table::load(&bytes) {
         Ok(table) => {
-            let edition = edition_of(&bytes)?;
-            let numbers = pages::numbers(&View::of(&table));
-            print(&format!("accepted, edition {edition}: {numbers}\n"))?;
+            let (edition, view) = (edition_of(&bytes)?, View::of(&table));
+            let primary = pages::silent_primary(&view, &Rung::of(&table, &view)?);
+            print(&format!("accepted, edition {edition}: {}\n{primary}", pages::numbers(&view)))?;
             Ok(0)
         }
         Err(refusal) => {
@@ -664,10 +776,12 @@ fn calls(words: &[OsString]) -> Result<Vec<Call>, Failure> {
 }
 
 fn key(request: &Request) -> Result<u8, Failure> {
-    let (mut table, mut view) = viewed(&request.words[0])?;
+    let (mut table, mut view, edition) = opened(&request.words[0])?;
     let input = input()?;
-    let skip = request.skip_refused || input.is_terminal();
-    if input.is_terminal() {
+    let at_terminal = input.is_terminal();
+    let skip = request.skip_refused || at_terminal;
+    if at_terminal {
+        nothing_held(request)?;
         let end =
             if goes_nowhere(request) { "ends; -o FILE would store" } else { "ends and stores" };
         say(&format!("a key line, then Enter; Ctrl-D {end} (plan key --help names the lines)\n"))?;
@@ -676,13 +790,23 @@ fn key(request: &Request) -> Result<u8, Failure> {
     let mut line = Vec::new();
     let mut refusals = 0;
     let mut ended = false;
+    let mut fits = true;
     // each time round: the table and the view are as the lines so far left them
     while !ended && next_line(&mut input, &mut line, &mut ended).map_err(input_failed)? {
         let words = match call(&table, |table| raw::key_line(table, &line)) {
             Ok((after, answer)) => {
-                let before = std::mem::replace(&mut view, View::of(&after));
-                table = after;
-                pages::answered(&view, &checked(&before, &view, answer)?)
+                let seen = View::of(&after);
+                let change = checked(&view, &seen, answer)?;
+                let silenced = match &change {
+                    Change::Cleared(clearing) => {
+                        let silent = rung::silent((&table, &view), (&after, &seen))?;
+                        pages::silenced(NO_LONGER, clearing, &silent)
+                    }
+                    _ => None,
+                };
+                (table, view) = (after, seen);
+                let words = [Some(pages::answered(&view, &change)), silenced];
+                words.into_iter().flatten().collect::<Vec<_>>().join("; ")
             }
             Err(refusal) => {
                 refusals += 1;
@@ -690,11 +814,17 @@ fn key(request: &Request) -> Result<u8, Failure> {
             }
         };
         say(&format!("{:<12}  {words}\n", pages::line(&line)))?;
+        // at a terminal it is said at once, while the line can be taken back
+        let unfit = at_terminal.then(|| image_in(request, edition, &table).err()).flatten();
+        if let Some(failure) = unfit.as_ref().filter(|_| fits) {
+            say(&format!("this cannot be stored: {failure}\n"))?;
+        }
+        fits = unfit.is_none();
     }
     if refusals > 0 && !skip {
         return Err(format!("{} refused: nothing is stored", count(refusals, "line")));
     }
-    give_table(request, &table)?;
+    give_table(request, "", edition, &table)?;
     Ok(0)
 }
 

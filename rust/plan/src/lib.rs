@@ -8,5 +8,7 @@ pub mod draw;
 pub mod line;
 pub mod pages;
 pub mod picture;
+pub mod risks;
+pub mod rung;
 pub mod view;
 pub mod words;

@@ -1,18 +1,19 @@
 //! The program `plan`: shows, draws, explains, compares, converts and edits images of call plans, and makes calls on a dispatcher. Words about a table
 //! or a dispatcher go to standard output; a command that gives a new image says what it did on standard error. Status 0: done. 1: the answer is no
-//! (`check`, `diff`), or a call was refused (`line`). 2: bad input, or something could not be read or written; then one line on standard error says
-//! what, and nothing is stored.
+//! (`check`, `diff`, `rung`), or a call was refused (`line`). 2: bad input, something in the way, or something that could not be read or written; then
+//! one line on standard error says what, but of a pipe that nobody reads any more, and nothing is stored.
 
 mod commands;
 mod files;
 
 use commands::{Command, COMMANDS};
+use files::Place;
 use std::env::args_os;
 use std::ffi::{OsStr, OsString};
 use std::path::PathBuf;
 use std::process::ExitCode;
 
-/// What goes wrong, in a line.
+/// What goes wrong, in a line; no words where there is nobody to tell.
 pub type Failure = String;
 
 /// The words of a command line after its command, taken apart.
@@ -23,6 +24,12 @@ pub struct Request {
     pub output: Option<PathBuf>,
     /// Where the slip of a clearing is stored.
     pub slip: Option<PathBuf>,
+    /// What stood at these places when the command began.
+    pub places: Vec<Place>,
+    /// The edition of the image that is given; that of the image read where nothing is said.
+    pub edition: Option<u16>,
+    /// Whether a plan or a slip that was not read may be replaced.
+    pub force: bool,
     pub limit: Option<u16>,
     pub dot: bool,
     pub skip_refused: bool,
@@ -34,7 +41,9 @@ fn main() -> ExitCode {
         Ok(status) => status.into(),
         Err(failure) => {
             // where nobody hears it, the status says it
-            let _ = files::say(&format!("plan: {failure}\n"));
+            if !failure.is_empty() {
+                let _ = files::say(&format!("plan: {failure}\n"));
+            }
             2.into()
         }
     }
@@ -50,11 +59,11 @@ fn run(words: &[OsString]) -> Result<u8, Failure> {
         return Ok(0);
     }
     let command = command(name)?;
-    let request = request(command, rest)?;
+    let mut request = request(command, rest)?;
     if !command.takes(request.words.len()) {
         return Err(format!("usage: plan {}", command.usage()));
     }
-    files::can_store(&request)?;
+    request.places = files::look(&request, &command.files(&request.words))?;
     (command.run)(&request)
 }
 
@@ -79,8 +88,7 @@ fn page(name: &OsStr, rest: &[OsString]) -> Result<Option<String>, Failure> {
     if asked == "help" || is_help(asked) {
         return Ok(Some(overview()));
     }
-    let command = command(asked)?;
-    Ok(Some(format!("usage: plan {}\n\n{}", command.usage(), command.help)))
+    Ok(Some(command(asked)?.page()))
 }
 
 fn is_help(word: &OsStr) -> bool {
@@ -91,9 +99,10 @@ const MORE: &str = "\
 plan COMMAND --help says more, and plan --version which version this is. IMAGE
 is a file that holds an image.
 
-Status 0: done. 1: the answer is no (check, diff), or a call was refused (line).
-2: bad input, or something is missing, is not proved, or could not be read or
-written; then nothing is stored, and standard error says what.
+Status 0: done. 1: the answer is no (check, diff, rung), or a call was refused
+(line). 2: bad input, or something is missing, is not proved, stands in the way,
+or could not be read or written; then nothing is stored, and standard error says
+what, but of a pipe that nobody reads any more.
 ";
 
 fn overview() -> String {
@@ -127,6 +136,8 @@ fn request(command: &Command, words: &[OsString]) -> Result<Request, Failure> {
             seen.push(text);
             match text {
                 "--dot" => request.dot = true,
+                "--force" => request.force = true,
+                "--edition" => request.edition = Some(edition(next(text, words.next())?)?),
                 "--skip-refused" => request.skip_refused = true,
                 "--slip" => request.slip = Some(next(text, words.next())?.into()),
                 "--limit" => request.limit = Some(number("the limit", next(text, words.next())?)?),
@@ -140,6 +151,14 @@ fn request(command: &Command, words: &[OsString]) -> Result<Request, Failure> {
 /// The value of an option, or of a call on a dispatcher: the word after it.
 pub fn next<'a>(option: &str, word: Option<&'a OsString>) -> Result<&'a OsString, Failure> {
     word.ok_or_else(|| format!("{option} is the last word, and has to be followed by its value"))
+}
+
+/// An edition of the image that can be written.
+pub fn edition(word: &OsStr) -> Result<u16, Failure> {
+    match number("the edition", word)? {
+        edition @ 1..=2 => Ok(edition),
+        other => Err(format!("the edition to be written is 1 or 2, and not {other}")),
+    }
 }
 
 /// A number of 16 bits in decimal digits.

@@ -1,10 +1,14 @@
-//! What the commands say: a page of lines for a table, for a step, for a trial and for what a call did.
+//! What the commands say: a page of lines for a table, for a step, for a trial, for who can be rung and for what a call did.
 
 use crate::change::{Change, Clearing};
 use crate::check::last_old_contact;
+use crate::risks::Risk;
+use crate::rung::{Contact, Fewest, Rung};
 use crate::view::{Held, View};
-use crate::words::{self, count, for_cabin, listed, named, place, row, steps, strength};
-use telephone::{sole_quotas, Ending, Exit, Kind, Step, Trial, CABINS, PLACES};
+use crate::words::{
+    self, count, for_cabin, listed, named, place, row, steps, strength, NEVER_ENTERED, NEVER_TAKEN,
+};
+use telephone::{sole_quotas, Ending, Exit, Trial, CABINS, PLACES};
 
 /// Steps of which one line says what holds them; a page says it of all.
 const HELD_IN_A_LINE: usize = 4;
@@ -47,17 +51,22 @@ pub fn cabins(view: &View) -> String {
     text(&page)
 }
 
-/// The whole table: its numbers, its cabins, each step in use with its four exits, and the free numbers.
-pub fn show(view: &View) -> String {
+/// The whole table: its numbers, its cabins, each step in use with its four exits, and the free numbers. Steps that no trial enters and exits that none
+/// takes are marked.
+pub fn show(view: &View, rung: &Rung) -> String {
     let numbers = format!("capacity {}, last number given {}", view.capacity, view.last);
     let start = text(&[numbers, counts(view)]) + &cabins(view);
     let mut page = Vec::new();
     for (&number, step) in &view.steps {
         let cabin = if number == 0 { String::new() } else { format!(", cabin {}", step.cabin) };
-        page.push(format!("{}{cabin}{}", named(view, number), bits_and_links(view, number)));
+        let links = bits_and_links(view, number);
+        let never = rung.never_enters(number).then(|| format!("; {NEVER_ENTERED}"));
+        let never = never.unwrap_or_default();
+        page.push(format!("{}{cabin}{links}{never}", named(view, number)));
         for exit in Exit::ALL {
             let held = view.link(number, exit);
-            let held = held.map_or("empty".to_string(), |held| link(view, &held));
+            let words = |held| link(view, &held) + &never_taken(view, rung, &held);
+            let held = held.map_or("empty".to_string(), words);
             page.push(format!("    {} {exit:<10}  {held}", exit.number()));
         }
     }
@@ -87,6 +96,11 @@ fn link(view: &View, held: &Held) -> String {
     format!("{} link to {}", strength(held), named(view, held.link.target))
 }
 
+/// A mark behind a link in an exit that no trial takes.
+fn never_taken(view: &View, rung: &Rung, held: &Held) -> String {
+    rung.never_taken(view, held).map_or(String::new(), |_| format!(" ({NEVER_TAKEN})"))
+}
+
 fn weak(number: usize) -> String {
     match number {
         0 => "no weak one".to_string(),
@@ -95,8 +109,9 @@ fn weak(number: usize) -> String {
     }
 }
 
-/// Why a step in use stays: a strong chain from step 0, and every other link to the step.
-pub fn why(view: &View, step: u16) -> String {
+/// Why a step in use stays: a strong chain from step 0, and every other link to the step; then with which line results it is entered, or what keeps every
+/// trial from it.
+pub fn why(view: &View, step: u16, rung: &Rung, fewest: &Fewest) -> String {
     let mut page = Vec::new();
     let chain = view.strong_chain(0, step).unwrap_or_default();
     if step == 0 {
@@ -105,16 +120,143 @@ pub fn why(view: &View, step: u16) -> String {
         page.push(format!("{} is held by this strong chain:", named(view, step)));
     }
     for held in &chain {
-        page.push(format!("    {}", leading(view, held)));
+        page.push(format!("    {}{}", leading(view, held), never_taken(view, rung, held)));
     }
     let others: Vec<Held> = view.links_to(step).filter(|held| chain.last() != Some(held)).collect();
     if step != 0 {
         page.push(format!("{} to it{}", count(others.len(), "other link"), colon(&others)));
     }
     for held in &others {
-        page.push(format!("    {}, {}", leading(view, held), strength(held)));
+        let taken = never_taken(view, rung, held);
+        page.push(format!("    {}, {}{taken}", leading(view, held), strength(held)));
+    }
+    // the first exit of the chain that no trial takes: trials come as far as its step
+    let untaken = chain.iter().find_map(|held| Some((held, rung.never_taken(view, held)?)));
+    match (fewest.get(&step), untaken) {
+        (Some(results), _) => page.push(format!("held, and {}", way(view, step, results))),
+        (None, Some((held, reason))) => {
+            let never = format!("held, and never {}, {WHATEVER}", verb(view, step));
+            page.push(format!("{never}: {} is {NEVER_TAKEN} ({reason})", place(held)));
+        }
+        // step 0
+        (None, None) => {}
     }
     text(&page)
+}
+
+const WHATEVER: &str = "whatever the line results";
+
+/// What a trial does with a step.
+fn verb(view: &View, step: u16) -> &'static str {
+    match view.contact(step) {
+        Some(_) => "rung",
+        None => "entered",
+    }
+}
+
+/// With which line results a step is entered, as `rung after no reply, engaged (21)`.
+fn way(view: &View, step: u16, results: &[Exit]) -> String {
+    let runs: Vec<String> = results.chunk_by(|one, next| one == next).map(run).collect();
+    let digits: String = results.iter().map(|exit| exit.number().to_string()).collect();
+    match (view.contact(step), results) {
+        (Some(_), []) => "rung first of all".to_string(),
+        (None, []) => "entered before anybody is rung".to_string(),
+        _ => format!("{} after {} ({digits})", verb(view, step), runs.join(", ")),
+    }
+}
+
+/// A line result, and how often it comes, as `no reply 3 times`.
+fn run(results: &[Exit]) -> String {
+    match results {
+        [exit] => exit.to_string(),
+        _ => format!("{} {} times", results[0], results.len()),
+    }
+}
+
+/// Who can be rung, with the fewest line results, and who never is, with the exits that hold each and are never taken: everybody, or the steps of a phone
+/// book number.
+pub fn rung(view: &View, rung: &Rung, fewest: &Fewest, entry: Option<u16>) -> String {
+    let asked =
+        |step: &u16| view.contact(*step).is_some_and(|of| entry.is_none_or(|entry| of == entry));
+    let mut ways: Vec<(&u16, &Vec<Exit>)> = fewest.iter().filter(|(step, _)| asked(step)).collect();
+    ways.sort_by_key(|(_, results)| results.len());
+    let line = |(step, results): (&u16, &Vec<Exit>)| {
+        format!("    {}: {}", named(view, *step), way(view, *step, results))
+    };
+    let ways: Vec<String> = ways.into_iter().map(line).collect();
+    let never = view.steps.keys().filter(|step| asked(step) && rung.never_enters(**step));
+    let never: Vec<String> = never.map(|&step| untaken(view, rung, step)).collect();
+    if let Some(entry) = entry {
+        return text(&[vec![can_be_rung(view, rung, entry)], ways, never].concat());
+    }
+    let numbers = format!(
+        "steps in use besides the alarm: {}; entered by some trial: {}; contacts among these: {}",
+        view.steps.len().saturating_sub(1),
+        rung.entered().len(),
+        rung.contacts().len()
+    );
+    let ways = section("rung, with the fewest line results", ways);
+    let never = section(&format!("never rung, {WHATEVER}"), never);
+    text(&[vec![numbers], ways, never].concat())
+}
+
+/// Lines below what they are about, or `nobody` behind it.
+fn section(about: &str, lines: Vec<String>) -> Vec<String> {
+    let nobody = if lines.is_empty() { " nobody" } else { "" };
+    [vec![format!("{about}:{nobody}")], lines].concat()
+}
+
+/// A line that says what holds a step which no trial enters, and why each of these exits is never taken.
+fn untaken(view: &View, rung: &Rung, step: u16) -> String {
+    let reason = |held: &Held| rung.never_taken(view, held).unwrap_or_default();
+    let exit = |held: &Held| format!("{} ({NEVER_TAKEN}: {})", place(held), reason(held));
+    let holders: Vec<String> = view.holders(step).iter().map(exit).collect();
+    format!("    {} is held by {}", named(view, step), row(&holders))
+}
+
+/// Whether a phone book number can be rung.
+fn can_be_rung(view: &View, rung: &Rung, entry: u16) -> String {
+    let contact = words::contact(entry);
+    if rung.rings(entry) {
+        format!("{contact} can be rung")
+    } else if view.steps.keys().any(|&step| view.contact(step) == Some(entry)) {
+        format!("{contact} is never rung, {WHATEVER}")
+    } else {
+        format!("no step has {contact}")
+    }
+}
+
+/// That the primary is never rung, in a line; nothing where it can be.
+pub fn silent_primary(view: &View, rung: &Rung) -> String {
+    match rung.rings(0) {
+        true => String::new(),
+        false => text(&[can_be_rung(view, rung, 0)]),
+    }
+}
+
+/// A line for each exit whose clearing would silence somebody or free a step, and one for all others.
+pub fn risks(risks: &[Risk]) -> String {
+    let (none, some): (Vec<&Risk>, Vec<&Risk>) = risks.iter().partition(|risk| risk.is_harmless());
+    let line = |risk: &&Risk| {
+        let freed = match &risk.freed[..] {
+            [] => "no step".to_string(),
+            freed => steps(freed),
+        };
+        format!("{}: silences {}; frees {freed}", exit(&risk.link), contacts(&risk.silent))
+    };
+    let others = format!("nobody silenced, no step freed: {}", count(none.len(), "exit"));
+    text(&some.iter().map(line).chain([others]).collect::<Vec<_>>())
+}
+
+/// Contacts by their phone book numbers, ascending, as `the primary and contacts 1 to 9`.
+fn contacts(entries: &[u16]) -> String {
+    let others = |entries: &[u16]| listed("contact", entries);
+    match entries {
+        [] => "nobody".to_string(),
+        [0] => "the primary".to_string(),
+        [0, rest @ ..] => format!("the primary and {}", others(rest)),
+        _ => others(entries),
+    }
 }
 
 fn colon<T>(list: &[T]) -> &'static str {
@@ -163,14 +305,40 @@ pub fn preview(view: &View, clearing: &Clearing) -> String {
     text(&page)
 }
 
-/// The steps that ring first, at two times that are named, where they differ; else nothing.
-pub fn rung(view: &View, steps: [Option<u16>; 2], times: [&str; 2]) -> String {
-    let [one, other] =
-        steps.map(|step| step.map_or("nobody".to_string(), |step| named(view, step)));
-    match one == other {
-        true => String::new(),
-        false => format!("first rung {}: {one}; {}: {other}\n", times[0], times[1]),
-    }
+/// The steps that ring first before and after a clearing, where they differ, and the contacts that fall silent by it, each in a line.
+pub fn ringing(view: &View, first: [Option<u16>; 2], silenced: Option<String>) -> String {
+    let [before, after] =
+        first.map(|step| step.map_or("nobody".to_string(), |step| named(view, step)));
+    let first = (before != after).then(|| format!("first rung before: {before}; after: {after}"));
+    text(&first.into_iter().chain(silenced).collect::<Vec<_>>())
+}
+
+/// The contacts that no trial rings after a clearing, and whether their steps are still held; nothing where there are none.
+pub fn silenced(words: &str, clearing: &Clearing, silent: &[Contact]) -> Option<String> {
+    let (gone, held): (Vec<Contact>, Vec<Contact>) =
+        silent.iter().partition(|(_, step)| clearing.freed.contains(step));
+    let group = |(contacts, state): (&[Contact], &str)| {
+        let all = if contacts.len() > 1 { "all " } else { "" };
+        (!contacts.is_empty()).then(|| format!("{} ({all}{state})", at_steps(contacts)))
+    };
+    let groups = [(&held[..], "still held"), (&gone, "freed")].into_iter().filter_map(group);
+    let groups = groups.collect::<Vec<_>>().join("; ");
+    (!silent.is_empty()).then(|| format!("{words}, {WHATEVER}: {groups}"))
+}
+
+/// Contacts with their steps, as `contact 0 (the primary) at step 3 and contacts 1 to 9 at steps 4 to 12`.
+fn at_steps(contacts: &[Contact]) -> String {
+    // the primary stands by itself
+    let follows = |a: &Contact, b: &Contact| a.0 != 0 && (a.0 + 1, a.1 + 1) == *b;
+    let one = |&(entry, step): &Contact| format!("{} at step {step}", words::contact(entry));
+    let words = |run: &[Contact]| match run {
+        [_, _, _, ..] => {
+            let (entries, numbers): (Vec<u16>, Vec<u16>) = run.iter().copied().unzip();
+            vec![format!("{} at {}", listed("contact", &entries), steps(&numbers))]
+        }
+        few => few.iter().map(one).collect(),
+    };
+    row(&contacts.chunk_by(follows).flat_map(words).collect::<Vec<_>>())
 }
 
 /// The exit that is cleared and what it holds, as `clearing exit 2 of step 1 (no reply): a weak link to step 2 (contact 7)`.
@@ -178,21 +346,22 @@ fn clearing_of(before: &View, held: &Held) -> String {
     format!("clearing {}: a {}", exit(held), link(before, held))
 }
 
-/// What taking back a clearing does, line by line, given the table after it: the link that is back, the steps that are back in use, and those that are
-/// held as they were before the clearing.
-pub fn taken_back(after: &View, clearing: &Clearing) -> String {
+/// What taking back a clearing does, line by line, given the table after it: the link that is back, the steps that are back in use, those that are held
+/// as they were before the clearing, and the contacts that some trial rings again.
+pub fn taken_back(after: &View, clearing: &Clearing, again: &[Contact]) -> String {
     let held = &clearing.link;
     let mut page = vec![format!("{} is filled again: a {}", exit(held), link(after, held))];
+    let changed =
+        [("steps back in use", &clearing.freed), ("steps held as before", &clearing.stayed)];
     if clearing.doubtful().is_empty() {
         page.push("no other step changes".to_string());
-        return text(&page);
+    } else {
+        for (words, numbers) in changed {
+            page.push(format!("{words}: {}", some(numbers.len())));
+            page.extend(held_steps(after, numbers));
+        }
     }
-    for (words, numbers) in
-        [("steps back in use", &clearing.freed), ("steps held as before", &clearing.stayed)]
-    {
-        page.push(format!("{words}: {}", some(numbers.len())));
-        page.extend(held_steps(after, numbers));
-    }
+    page.extend((!again.is_empty()).then(|| format!("rung again: {}", at_steps(again))));
     text(&page)
 }
 
@@ -286,7 +455,7 @@ pub fn trial(view: &View, results: &[u8], trace: &[u8], trial: Trial) -> String 
         let last = at + 1 == trace.len() && trial.ending != Ending::Open;
         let mut words = named(view, step);
         taken = Exit::Answered;
-        if let Some(Kind::Contact(entry)) = view.steps.get(&step).map(|step| step.kind) {
+        if let Some(entry) = view.contact(step) {
             rung.push(entry.to_string());
             if let (false, Some(Ok(result))) = (last, left.next()) {
                 words += &format!(": {result}");
@@ -317,10 +486,7 @@ pub fn trial(view: &View, results: &[u8], trace: &[u8], trial: Trial) -> String 
 
 /// Whether a trial went on for as many moves as there can be steps and entered no contact: then it goes round in the same steps for ever.
 fn rings_nobody(view: &View, trace: &[u8]) -> bool {
-    let contact = |&step: &u8| {
-        let step = view.steps.get(&u16::from(step));
-        step.is_some_and(|step| matches!(step.kind, Kind::Contact(_)))
-    };
+    let contact = |&step: &u8| view.contact(u16::from(step)).is_some();
     trace.len() >= PLACES && !trace[trace.len() - PLACES..].iter().any(contact)
 }
 
@@ -364,8 +530,8 @@ fn other_cabins(view: &View) -> Option<String> {
 /// The first step with a larger contact than an old telephone takes, and how many more there are.
 fn larger_contacts(view: &View) -> Option<String> {
     let last = last_old_contact();
-    let larger = |step: &Step| matches!(step.kind, Kind::Contact(entry) if entry > last);
-    let mut steps = view.steps.iter().filter(|(_, step)| larger(step)).map(|(&number, _)| number);
+    let larger = |&step: &u16| view.contact(step).is_some_and(|entry| entry > last);
+    let mut steps = view.steps.keys().copied().filter(larger);
     let first = named(view, steps.next()?);
     let more = match steps.count() {
         0 => String::new(),

@@ -24,7 +24,7 @@ pub struct Node {
     pub shade: Shade,
 }
 
-/// The look of a box: a light fill.
+/// The look of a box: a light fill, or none and an edge of dashes.
 #[derive(Clone, Copy, PartialEq, Eq, Debug)]
 pub enum Shade {
     First,
@@ -32,28 +32,42 @@ pub enum Shade {
     Third,
     Fourth,
     Fifth,
+    Open,
 }
 
 impl Shade {
-    /// All shades, in order.
+    /// All shades with a fill, in order.
     pub const ALL: [Shade; 5] =
         [Shade::First, Shade::Second, Shade::Third, Shade::Fourth, Shade::Fifth];
 
-    fn fill(self) -> &'static str {
-        ["#fde9bf", "#d9e8fa", "#d8f0d3", "#e9e9ec", "#f9dbe4"][self as usize]
+    /// Its attributes.
+    fn paint(self) -> String {
+        let fills = ["#fde9bf", "#d9e8fa", "#d8f0d3", "#e9e9ec", "#f9dbe4", "#fff"];
+        let dashes = if self == Shade::Open { " stroke-dasharray=\"4 3\"" } else { "" };
+        format!("fill=\"{}\"{dashes}", fills[self as usize])
     }
 }
 
-/// The look of an arrow: a dark line, or a line of dashes in another colour.
+/// The look of an arrow: a dark line, or a line of dashes in another colour. Each may be pale, with a head that is not filled.
 #[derive(Clone, Copy, PartialEq, Eq, Debug)]
 pub enum Style {
     Solid,
     Dashed,
+    PaleSolid,
+    PaleDashed,
 }
 
 impl Style {
     fn class(self) -> &'static str {
-        ["solid", "dashed"][self as usize]
+        ["solid", "dashed", "solid pale", "dashed pale"][self as usize]
+    }
+
+    fn is_solid(self) -> bool {
+        matches!(self, Style::Solid | Style::PaleSolid)
+    }
+
+    fn is_pale(self) -> bool {
+        matches!(self, Style::PaleSolid | Style::PaleDashed)
     }
 }
 
@@ -71,13 +85,8 @@ pub struct Arrow {
     pub title: String,
 }
 
-/// The picture as an SVG document. Arrows from or to a box that is not there are left out.
-pub fn svg(title: &str, legend: &[(Style, &str)], nodes: &[Node], arrows: &[Arrow]) -> String {
-    svg_with_groups(title, legend, &[], nodes, arrows)
-}
-
-/// The picture as an SVG document that says what the shades mean too.
-pub fn svg_with_groups(
+/// The picture as an SVG document, with the meaning of styles and shades. Arrows from or to a box that is not there are left out.
+pub fn svg(
     title: &str,
     legend: &[(Style, &str)],
     groups: &[(Shade, &str)],
@@ -96,7 +105,8 @@ pub fn svg_with_groups(
     let size = format!("width=\"{width}\" height=\"{height}\"");
     let root = format!("xmlns=\"http://www.w3.org/2000/svg\" {size}");
     let mut out = format!("<svg {root} viewBox=\"0 0 {width} {height}\">\n");
-    out += &format!("<title>{}</title>\n{STYLES}<rect {size} fill=\"#fff\"/>\n", escape(title));
+    let styles = styles(arrows.iter().any(|arrow| arrow.style.is_pale()));
+    out += &format!("<title>{}</title>\n{styles}<rect {size} fill=\"#fff\"/>\n", escape(title));
     out += &format!("{head}<g transform=\"translate({} {})\">\n", num(left), num(top));
     out += &body(nodes, &arrows, &shapes, &drawing);
     out + "</g>\n</svg>\n"
@@ -200,16 +210,25 @@ path.lines{fill:none;stroke:#888;stroke-width:0.8}
 path.solid{fill:none;stroke:#222;stroke-width:1.5;marker-end:url(#solid)}
 path.dashed{fill:none;stroke:#c2410c;stroke-width:1.5;stroke-dasharray:5 3;marker-end:url(#dashed)}
 path.solid:hover,path.dashed:hover{stroke-width:4}
-</style>
-<defs>
-<marker id=\"solid\" viewBox=\"0 0 8 8\" refY=\"4\" markerWidth=\"8\" markerHeight=\"8\" markerUnits=\"userSpaceOnUse\" orient=\"auto\">
-<path d=\"M0 0.5L8 4L0 7.5Z\" fill=\"#222\"/>
-</marker>
-<marker id=\"dashed\" viewBox=\"0 0 8 8\" refY=\"4\" markerWidth=\"8\" markerHeight=\"8\" markerUnits=\"userSpaceOnUse\" orient=\"auto\">
-<path d=\"M0 0.5L8 4L0 7.5Z\" fill=\"#c2410c\"/>
-</marker>
-</defs>
 ";
+
+/// The styles and the heads of arrows, those of pale ones only where there are such.
+fn styles(pale: bool) -> String {
+    let mut heads = head("solid", "fill=\"#222\"") + &head("dashed", "fill=\"#c2410c\"");
+    let mut styles = STYLES.to_string();
+    if pale {
+        styles += "path.pale{stroke:#999;stroke-width:1.2;marker-end:url(#pale)}\n";
+        heads += &head("pale", "fill=\"#fff\" stroke=\"#999\"");
+    }
+    format!("{styles}</style>\n<defs>\n{heads}</defs>\n")
+}
+
+/// The head of an arrow.
+fn head(id: &str, paint: &str) -> String {
+    let size = "viewBox=\"0 0 8 8\" refY=\"4\" markerWidth=\"8\" markerHeight=\"8\"";
+    let marker = format!("id=\"{id}\" {size} markerUnits=\"userSpaceOnUse\" orient=\"auto\"");
+    format!("<marker {marker}>\n<path d=\"M0 0.5L8 4L0 7.5Z\" {paint}/>\n</marker>\n")
+}
 
 /// A number with at most two decimals.
 fn num(x: f64) -> String {
@@ -268,8 +287,8 @@ fn path(route: &[(f64, f64)]) -> String {
 /// A box with its text and cells.
 fn write_box(out: &mut String, node: &Node, shape: &Shape, left: f64, top: f64) {
     let [x, y, width, height] = [left, top, shape.width, shape.height].map(num);
-    let fill = node.shade.fill();
-    *out += &format!("<rect class=\"box\" x=\"{x}\" y=\"{y}\" width=\"{width}\" height=\"{height}\" rx=\"4\" fill=\"{fill}\"/>\n");
+    let paint = node.shade.paint();
+    *out += &format!("<rect class=\"box\" x=\"{x}\" y=\"{y}\" width=\"{width}\" height=\"{height}\" rx=\"4\" {paint}/>\n");
     for (i, line) in node.text.iter().enumerate() {
         let class = if i == 0 { "first" } else { "line" };
         let y = top + FIRST_LINE - 1.0 + i as f64 * LINE;
@@ -303,7 +322,7 @@ fn heading(
 ) -> (String, f64, f64) {
     let line = |style: Style| format!("<path class=\"{}\" d=\"M0 -4h26\"/>", style.class());
     let size = "y=\"-11\" width=\"32\" height=\"14\" rx=\"3\"";
-    let square = |shade: Shade| format!("<rect class=\"box\" {size} fill=\"{}\"/>", shade.fill());
+    let square = |shade: Shade| format!("<rect class=\"box\" {size} {}/>", shade.paint());
     let lines = legend.iter().map(|&(style, label)| (line(style), label));
     let squares = groups.iter().map(|&(shade, label)| (square(shade), label));
     let mut out = text("title", MARGIN, 34.0, title);

@@ -1,7 +1,7 @@
 //! What stands in a table: its steps and links, and the strong chains that hold its steps.
 
 use std::collections::{BTreeMap, VecDeque};
-use telephone::{Exit, Link, Quotas, Step, Table};
+use telephone::{Exit, Kind, Link, Quotas, Step, Table};
 
 /// A link where it stands.
 #[derive(Clone, Copy, PartialEq, Eq, Debug)]
@@ -47,6 +47,14 @@ impl View {
     /// The number of steps that a cabin lacks of its guarantee.
     pub fn owed(&self, cabin: usize) -> usize {
         usize::from(self.quotas[cabin].guarantee).saturating_sub(self.charged(cabin).count())
+    }
+
+    /// The phone book number that a step rings, where it is a contact.
+    pub fn contact(&self, step: u16) -> Option<u16> {
+        match self.steps.get(&step)?.kind {
+            Kind::Contact(entry) => Some(entry),
+            _ => None,
+        }
     }
 
     /// What an exit of a step holds, where the step is in use and the exit is not empty.

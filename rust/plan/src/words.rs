@@ -1,7 +1,11 @@
 //! Words for numbers, steps, exits, links and refusals.
 
 use crate::view::{Held, View};
-use telephone::Refusal;
+use telephone::{Kind, Refusal};
+
+/// Of a step that no trial enters, and of an exit that none takes.
+pub const NEVER_ENTERED: &str = "never entered";
+pub const NEVER_TAKEN: &str = "never taken";
 
 /// A refusal with its number.
 pub fn refused(refusal: Refusal) -> String {
@@ -60,6 +64,24 @@ pub fn named(view: &View, number: u16) -> String {
         Some(step) => format!("step {number} ({})", step.kind),
         None => format!("step {number}"),
     }
+}
+
+/// A contact by its phone book number, as `contact 0 (the primary)`.
+pub fn contact(entry: u16) -> String {
+    match entry {
+        0 => "contact 0 (the primary)".to_string(),
+        _ => Kind::Contact(entry).to_string(),
+    }
+}
+
+/// How a step that is no contact goes on.
+pub fn answered_alone(view: &View, number: u16) -> String {
+    let kind = match view.steps.get(&number).map(|step| step.kind) {
+        Some(Kind::Alarm) => "the alarm",
+        Some(Kind::Message(_)) => "a message",
+        _ => "a wait",
+    };
+    format!("{kind} goes on by answered alone")
 }
 
 /// The cabin of a step, as ` for cabin 3`, where it is not 0.

@@ -1,5 +1,7 @@
 //! The program `plan` on stored images: what it writes is held to stored outputs. STORE_OUTPUTS=1 writes them anew; read the difference then.
 
+mod writers;
+
 use plan::diff::{diff, Verdict};
 use plan::view::View;
 use plan::words::count;
@@ -12,8 +14,10 @@ use telephone::{Exit, Refusal, Table, IMAGE_MAX};
 
 /// Each command line, by the name of its output. The images stand in tests/images; those with a file .keys beside them were keyed. They are of edition 1
 /// but for ring-2, which is ring in edition 2, contacts, which has contacts above 99, and those of several cabins. contacts-old has the records of
-/// contacts in edition 1. The slips are those of clearing exit 0 of step 0 in ring and in cabins; cleared and cabins-cleared are the images after it.
-const CASES: [(&str, &str); 114] = [
+/// contacts in edition 1. The slips are those of clearing exit 0 of step 0 in ring and in cabins; cleared and cabins-cleared are the images after it. flat
+/// was keyed by docs/flat.txt, and flat-cleared is flat after a clearing by which the primary and nine other contacts are never rung again. silent has
+/// steps behind exits of the alarm, of a message and of a wait that are never taken.
+const CASES: [(&str, &str); 145] = [
     ("no-command", ""),
     ("wrong-command", "shew ring.img"),
     ("wrong-option", "show --dot ring.img"),
@@ -45,6 +49,7 @@ const CASES: [(&str, &str); 114] = [
     ("show-ring", "show ring.img"),
     ("show-cleared", "show cleared.img"),
     ("show-contacts", "show contacts.img"),
+    ("show-silent", "show silent.img"),
     ("show-unordered", "show unordered.img"),
     ("show-missing", "show missing.img"),
     ("show-folder", "show ."),
@@ -54,10 +59,37 @@ const CASES: [(&str, &str); 114] = [
     ("why-chain", "why thirty.img 26"),
     ("why-free", "why ring.img 4"),
     ("why-65535", "why ring.img 65535"),
+    ("why-first", "why flat.img 2"),
+    ("why-after", "why flat.img 4"),
+    ("why-before-anybody", "why flat.img 1"),
+    ("why-never-rung", "why flat-cleared.img 3"),
+    ("why-never-rung-behind", "why flat-cleared.img 5"),
+    ("why-entered", "why silent.img 4"),
+    ("why-never-entered", "why silent.img 6"),
+    ("rung", "rung flat.img"),
+    ("rung-cleared", "rung flat-cleared.img"),
+    ("rung-silent", "rung silent.img"),
+    ("rung-in-order", "rung thirty.img"),
+    ("rung-nobody", "rung cleared.img"),
+    ("rung-alarm", "rung fresh1.img"),
+    ("rung-contact", "rung flat.img 0"),
+    ("rung-contact-never", "rung flat-cleared.img 0"),
+    ("rung-contact-of-two-steps", "rung silent.img 5"),
+    ("rung-contact-of-no-step", "rung flat.img 10"),
+    ("rung-no-number", "rung flat.img primary"),
+    ("rung-damaged", "rung target.img"),
+    ("risks", "risks flat.img"),
+    ("risks-cleared", "risks flat-cleared.img"),
+    ("risks-silent", "risks silent.img"),
+    ("risks-ring", "risks ring.img"),
+    ("risks-alarm", "risks fresh1.img"),
+    ("risks-damaged", "risks target.img"),
     ("preview-all", "preview cabins.img 0 0"),
     ("preview-some", "preview thirty.img 0 0"),
     ("preview-none", "preview ring.img 0 0"),
     ("preview-weak", "preview ring.img 2 2"),
+    ("preview-silenced", "preview flat.img 2 2"),
+    ("preview-silenced-and-freed", "preview silent.img 8 2"),
     ("preview-step-first", "preview ring.img 4 4"),
     ("preview-bad-exit", "preview ring.img 0 4"),
     ("preview-empty-exit", "preview ring.img 0 3"),
@@ -67,6 +99,9 @@ const CASES: [(&str, &str); 114] = [
     ("clear-held", "clear ring.img 0 0"),
     ("clear-all", "clear cleared.img 0 1"),
     ("clear-weak", "clear ring.img 2 2"),
+    ("clear-silenced", "clear flat.img 2 2"),
+    ("clear-silenced-and-freed", "clear silent.img 8 2"),
+    ("clear-silenced-one", "clear silent.img 9 0"),
     ("clear-step-first", "clear ring.img 4 4"),
     ("clear-bad-exit", "clear ring.img 0 4"),
     ("clear-empty-exit", "clear ring.img 0 3"),
@@ -131,8 +166,10 @@ const CASES: [(&str, &str); 114] = [
 ];
 
 /// Images for `check`, and the status for each.
-const CHECKED: [(&str, i32); 11] = [
+const CHECKED: [(&str, i32); 13] = [
     ("ring", 0),
+    ("flat", 0),
+    ("flat-cleared", 0),
     ("full", 0),
     ("unordered", 0),
     ("ring-2", 0),
@@ -278,7 +315,8 @@ fn checks() {
     }
 }
 
-const DRAWN: [&str; 5] = ["fresh1", "ring", "thirty", "cabins", "contacts"];
+const DRAWN: [&str; 7] =
+    ["fresh1", "ring", "thirty", "cabins", "contacts", "flat-cleared", "silent"];
 
 #[test]
 fn pictures() {
@@ -292,11 +330,12 @@ fn pictures() {
 }
 
 /// Key lines on an image: the name of the output, the image, the option, the lines.
-const KEYED: [(&str, &str, &[&str], &[u8]); 6] = [
+const KEYED: [(&str, &str, &[&str], &[u8]); 7] = [
     ("key-nothing", "ring.img", &[], b""),
     ("key-visit", "fresh128.img", &["--skip-refused"], include_bytes!("../../../docs/visit.txt")),
     ("key-refused", "ring.img", &[], b"H*4A\nH*30003A\n\nH*30000A"),
     ("key-odd", "ring.img", &["--skip-refused"], b"H*4A\r\n\n\xff\0H*4A\nH*30012A\nH*30011A\n"),
+    ("key-silenced", "silent.img", &[], b"H*30010A\nH*30001A\nH*30000A\n"),
     ("key-full", "full.img", &[], b"H*200000003A\nH*200010002A\nH*30000A\nH*30003A\n"),
     (
         "key-cabins",
@@ -316,9 +355,11 @@ fn fed<'a>(command: &'a mut Command, input: &[u8]) -> &'a mut Command {
     command.stdin(File::open(path).unwrap())
 }
 
-/// A path for a test's own file.
+/// A path for a test's own file, which an earlier run may have left there.
 fn scratch(name: &str) -> PathBuf {
-    Path::new(env!("CARGO_TARGET_TMPDIR")).join(name)
+    let path = Path::new(env!("CARGO_TARGET_TMPDIR")).join(name);
+    let _ = fs::remove_file(&path);
+    path
 }
 
 /// An empty folder for a test's own files.
@@ -341,12 +382,16 @@ fn key_lines() {
 /// The images that were keyed come out of their lines.
 #[test]
 fn keyed_images() {
-    for name in ["ring", "thirty", "full", "squeezable", "waits", "contacts", "two-ways"] {
-        let lines = image(&format!("{name}.keys"));
-        let given = output(fed(&mut plan(&["key", "fresh128.img"]), &lines));
+    let keyed = ["ring", "thirty", "full", "squeezable", "waits", "contacts", "two-ways", "silent"];
+    let keyed = keyed.map(|name| (name, image(&format!("{name}.keys"))));
+    let flat = include_bytes!("../../../docs/flat.txt").to_vec();
+    let cleared = [&flat[..], b"H*30022A\n"].concat();
+    for (name, lines) in keyed.into_iter().chain([("flat", flat), ("flat-cleared", cleared)]) {
+        let given = output(fed(&mut plan(&["key", "fresh128.img", "--edition", "2"]), &lines));
         assert!(given.status.success(), "{name}: {}", text(&given.stderr));
         assert_eq!(given.stdout, written(&format!("{name}.img")), "{name}");
-        assert_eq!(text(&given.stderr).lines().count(), text(&lines).lines().count());
+        // and one says the edition
+        assert_eq!(text(&given.stderr).lines().count(), text(&lines).lines().count() + 1);
     }
     assert_eq!(written("ring.img"), image("ring-2.img"));
 }
@@ -387,7 +432,8 @@ fn conversions() {
     let (header, steps) = (&image("ring-2.img")[..42], &image("ring-2.img")[42..]);
     fs::write(&path, [header, &steps[44..], &steps[..44]].concat()).unwrap();
     let stored = output(&mut plan(&["convert", file, "1", "-o", file]));
-    let said = format!("edition 2, 130 bytes, to edition 1, 90 bytes\nstored in {file}\n");
+    let said = "edition 2, 130 bytes, to edition 1, 90 bytes\n";
+    let said = format!("{said}stored in {file}, edition 1\n");
     assert_eq!((stored.status.code(), text(&stored.stderr)), (Some(0), said));
     assert!(is_failure(&output(&mut plan(&["convert", file, "1", "-o", file]))));
     assert_eq!(fs::read(&path).unwrap(), image("ring.img"));
@@ -399,8 +445,9 @@ fn conversions() {
 fn needs_edition_2() {
     let path = scratch("needs_edition_2.img");
     let file = path.to_str().unwrap();
-    let fresh =
-        |list: &str| output(plan(&["fresh", "8", "-o", file]).args(list.split_whitespace()));
+    let fresh = |list: &str| {
+        output(plan(&["fresh", "8", "--force", "-o", file]).args(list.split_whitespace()))
+    };
     let refused = |words: &str| {
         let given = output(&mut plan(&["convert", file, "1"]));
         assert!(is_failure(&given), "{words}");
@@ -449,20 +496,20 @@ fn slips() {
     let (file, slip) = (image_path.to_str().unwrap(), slip_path.to_str().unwrap());
     for (name, cleared) in [("ring", "cleared"), ("cabins", "cabins-cleared")] {
         let name = format!("{name}.img");
-        let given = output(&mut plan(&["clear", &name, "0", "0", "--slip", slip]));
-        assert_eq!(given.stdout, written(&format!("{cleared}.img")), "{}", text(&given.stderr));
+        let given = output(&mut plan(&["clear", &name, "0", "0", "--force", "--slip", slip]));
+        assert_eq!(given.stdout, image(&format!("{cleared}.img")), "{}", text(&given.stderr));
         assert!(text(&given.stderr).ends_with(&format!("slip stored in {slip}\n")));
         assert_eq!(fs::read(&slip_path).unwrap(), image(&name.replace("img", "slip")));
         fs::write(&image_path, &given.stdout).unwrap();
         let given = output(&mut plan(&["take-back", file, slip]));
-        assert_eq!(given.stdout, written(&name), "{}", text(&given.stderr));
+        assert_eq!(given.stdout, image(&name), "{}", text(&given.stderr));
         assert!(output(&mut plan(&["take-back", file, slip, "-o", file])).status.success());
-        assert_eq!(fs::read(&image_path).unwrap(), written(&name));
+        assert_eq!(fs::read(&image_path).unwrap(), image(&name));
         let twice = output(&mut plan(&["take-back", file, slip, "-o", file]));
         let words = "slip not accepted; step 0 is not as the clearing left it";
         let words = format!("plan: {slip}: refused by 18: {words}\n");
         assert!(is_failure(&twice) && text(&twice.stderr) == words, "{}", text(&twice.stderr));
-        assert_eq!(fs::read(&image_path).unwrap(), written(&name));
+        assert_eq!(fs::read(&image_path).unwrap(), image(&name));
         // another content for step 0 in its old record
         let mut bytes = image(&name.replace("img", "slip"));
         bytes[14] = 1;
@@ -481,7 +528,7 @@ fn every_clearing_taken_back() {
     let mut counts = [0; 2];
     for (step, exit) in (0..5).flat_map(|step| (0..4).map(move |exit| (step, exit))) {
         let (step, exit) = (step.to_string(), exit.to_string());
-        let _ = fs::remove_file(&slip_path);
+        let _ = [&slip_path, &image_path].map(fs::remove_file);
         let given =
             output(plan(&["clear", "cabins.img", &step, &exit]).args(["--slip", slip, "-o", file]));
         counts[usize::from(given.status.success())] += 1;
@@ -495,21 +542,32 @@ fn every_clearing_taken_back() {
     assert_eq!(counts, [15, 5]);
 }
 
+/// What a command says, but for the line that says where the image goes.
+fn unplaced(given: &Output) -> String {
+    let said = text(&given.stderr);
+    let lines = said.lines().filter(|line| !line.ends_with(" to standard output"));
+    lines.map(|line| format!("{line}\n")).collect()
+}
+
 /// Every exit of stored images: a preview names the steps of which the clearing says that they go, or is refused as it is. The image stays.
 #[test]
 fn every_preview() {
     let path = scratch("every_preview.img");
     let file = path.to_str().unwrap();
-    // clearings that are refused, that free no step, and that free some
-    let (mut seen, mut others) = ([0; 3], 0);
-    for (name, steps) in [("ring", 5), ("cleared", 5), ("cabins", 6), ("thirty", 31), ("full", 2)] {
+    // how the lines begin that say who is rung first and who is not rung any more
+    const RINGING: [&str; 2] = ["first rung before: ", "no longer rung"];
+    // clearings that are refused, that free no step, and that free some; and those with such lines
+    let (mut seen, mut others) = ([0; 3], [0; 2]);
+    for (name, steps) in
+        [("ring", 5), ("cleared", 5), ("cabins", 6), ("thirty", 31), ("full", 2), ("silent", 15)]
+    {
         let bytes = image(&format!("{name}.img"));
         fs::write(&path, &bytes).unwrap();
         for (step, exit) in (0..steps).flat_map(|step| (0..5).map(move |exit| (step, exit))) {
             let words = [file, &step.to_string(), &exit.to_string()];
             let [told, made] = ["preview", "clear"].map(|verb| output(plan(&[verb]).args(words)));
             assert_eq!(fs::read(&path).unwrap(), bytes);
-            let (said, made) = (text(&told.stdout), text(&made.stderr));
+            let (said, made) = (text(&told.stdout), unplaced(&made));
             let cleared = Exit::try_from(exit)
                 .and_then(|exit| Table::load(&bytes).unwrap().clear(step, exit));
             let Ok(cleared) = cleared else {
@@ -518,7 +576,9 @@ fn every_preview() {
                 continue;
             };
             let doubtful = format!("{} would be doubtful", count(cleared.doubtful.into(), "step"));
-            let (made, rung) = made.split_once("first rung now: ").unwrap_or((&made, ""));
+            let is_other = |line: &&str| !RINGING.iter().any(|start| line.starts_with(start));
+            let cut = made.split_inclusive('\n').take_while(is_other).map(str::len).sum();
+            let (made, ringing) = made.split_at(cut);
             let start = made.lines().next().unwrap();
             let expected = match made.split_once("of these go: ") {
                 Some((_, go)) if go != "none\n" => {
@@ -526,17 +586,39 @@ fn every_preview() {
                 }
                 _ => format!("{start}; {doubtful}, none would go; "),
             };
-            let rung =
-                rung.trim_end().split_once("; before: ").map_or(String::new(), |(then, now)| {
-                    format!("first rung now: {now}; then: {then}\n")
-                });
+            for (count, start) in others.iter_mut().zip(RINGING) {
+                *count += ringing.lines().filter(|line| line.starts_with(start)).count();
+            }
+            let ringing = ringing.replace(RINGING[1], "would no longer be rung");
             seen[if cleared.freed == 0 { 1 } else { 2 }] += 1;
-            others += usize::from(!rung.is_empty());
-            assert_eq!(said, expected + "the image is not changed\n" + &rung, "{name}");
+            assert_eq!(said, expected + "the image is not changed\n" + &ringing, "{name}");
             assert_eq!((told.status.code(), told.stderr), (Some(0), vec![]), "{name}");
         }
     }
-    assert_eq!((seen, others), ([174, 41, 30], 5));
+    assert_eq!((seen, others), ([233, 45, 42], [7, 21]));
+}
+
+/// The line results of each contact that can be rung, as digits: the trial with them is spent where that contact rings.
+#[test]
+fn every_way() {
+    let mut spent = 0;
+    for name in ["ring", "flat", "silent", "thirty", "full", "contacts"] {
+        let name = format!("{name}.img");
+        let page = text(&output(&mut plan(&["rung", &name])).stdout);
+        for line in page.lines().filter(|line| line.contains(": rung ")) {
+            let (step, way) = line.trim().split_once(": rung ").unwrap();
+            let digits = way.strip_suffix(')').and_then(|way| way.rsplit_once('('));
+            let digits = digits.map_or("", |(_, digits)| digits);
+            assert_eq!(digits.is_empty(), way == "first of all", "{line}");
+            let said = text(&output(&mut plan(&["trial", &name, digits])).stdout);
+            assert!(
+                said.contains(&format!(": {step} rings, and no line result is left\n")),
+                "{said}"
+            );
+            spent += 1;
+        }
+    }
+    assert_eq!(spent, 96);
 }
 
 /// Two clearings, each a step and an exit, on two-ways.img: the name of the output, the clearings. Where one is refused, the other freed its step.
@@ -551,9 +633,9 @@ const ORDERS: [(&str, [&str; 2]); 5] = [
 /// Two mechanics make the same two clearings, each in an order of their own, and the office compares the images.
 #[test]
 fn two_mechanics() {
-    let folder = scratch_folder("two_mechanics");
-    fs::write(folder.join("two-ways.img"), image("two-ways.img")).unwrap();
     for (name, [a, b]) in ORDERS {
+        let folder = scratch_folder("two_mechanics");
+        fs::write(folder.join("two-ways.img"), image("two-ways.img")).unwrap();
         let lines = [
             format!("clear two-ways.img {a} -o one.img"),
             format!("clear one.img {b} -o one.img"),
@@ -566,8 +648,8 @@ fn two_mechanics() {
             transcript(&line, &output(plan(&words).current_dir(&folder)))
         });
         stored(&format!("{name}.txt"), &session.concat());
+        fs::remove_dir_all(&folder).unwrap();
     }
-    fs::remove_dir_all(&folder).unwrap();
 }
 
 /// Every two filled exits of stored images, cleared in both orders: the plans never differ, strengths and bits do for some.
@@ -631,7 +713,7 @@ fn stored_unheard() {
     child.stderr.take().unwrap().read_exact(&mut heard).unwrap();
     assert_eq!(&heard, b"clearing");
     assert!(child.wait().unwrap().success());
-    assert_eq!(fs::read(&path).unwrap(), written("cleared.img"));
+    assert_eq!(fs::read(&path).unwrap(), image("cleared.img"));
 }
 
 /// A slip and an image are stored both or not at all, and nothing is left beside them.
@@ -666,12 +748,15 @@ fn stored_slips() {
     assert!(is_failure(&output(&mut clear("3", &["--slip", slip]))));
     assert_eq!(fs::read(&slip_path).unwrap(), b"other");
     let given = output(&mut clear("0", &["--slip", slip, "-o", file]));
-    let rung = "first rung now: nobody; before: step 1 (contact 0, the primary)";
-    let said = format!("of these go: none\n{rung}\nstored in {file}\nslip stored in {slip}\n");
+    let first = "first rung before: step 1 (contact 0, the primary); after: nobody";
+    let silent = "contact 0 (the primary) at step 1 and contact 1 at step 2 (all still held)";
+    let rung = format!("{first}\nno longer rung, whatever the line results: {silent}");
+    let said = format!("of these go: none\n{rung}\nstored in {file}, edition 1\n");
+    let said = format!("{said}slip stored in {slip}\n");
     assert!(given.status.success() && text(&given.stderr).ends_with(&said));
     assert_eq!(fs::read(&slip_path).unwrap(), image("ring.slip"));
     assert_eq!(fs::metadata(&slip_path).unwrap().permissions().mode() & 0o777, 0o640);
-    assert_eq!(fs::read(&image_path).unwrap(), written("cleared.img"));
+    assert_eq!(fs::read(&image_path).unwrap(), image("cleared.img"));
     assert_eq!(fs::read_dir(&folder).unwrap().count(), 2, "something was left beside the files");
     fs::remove_dir_all(&folder).unwrap();
 }
@@ -683,27 +768,27 @@ fn stored_files() {
     let path = folder.join("plan.img");
     let file = path.to_str().unwrap();
     assert!(output(&mut plan(&["clear", "ring.img", "0", "0", "-o", file])).status.success());
-    assert_eq!(fs::read(&path).unwrap(), written("cleared.img"));
+    assert_eq!(fs::read(&path).unwrap(), image("cleared.img"));
     fs::write(&path, image("ring.img")).unwrap();
     fs::set_permissions(&path, fs::Permissions::from_mode(0o640)).unwrap();
     assert!(output(&mut plan(&["clear", file, "0", "0", "-o", file])).status.success());
-    assert_eq!(fs::read(&path).unwrap(), written("cleared.img"));
+    assert_eq!(fs::read(&path).unwrap(), image("cleared.img"));
     assert_eq!(fs::metadata(&path).unwrap().permissions().mode() & 0o777, 0o640);
     let refused = output(fed(&mut plan(&["key", file, "-o", file]), b"H*30001A\nH*30001A\n"));
     assert_eq!((refused.status.code(), refused.stdout), (Some(2), vec![]));
     assert!(is_failure(&output(&mut plan(&["squeeze", file, "0", "-o", file]))));
     assert!(is_failure(&output(&mut plan(&["draw", "cut.img", "-o", file]))));
-    assert_eq!(fs::read(&path).unwrap(), written("cleared.img"));
+    assert_eq!(fs::read(&path).unwrap(), image("cleared.img"));
     let nowhere = folder.join("nowhere.img");
     std::os::unix::fs::symlink("missing.img", &nowhere).unwrap();
     assert!(is_failure(&output(&mut plan(&["fresh", "4", "-o", nowhere.to_str().unwrap()]))));
     fs::remove_file(&nowhere).unwrap();
     let link = folder.join("link.img");
     std::os::unix::fs::symlink("plan.img", &link).unwrap();
-    let made = output(&mut plan(&["fresh", "128", "-o", link.to_str().unwrap()]));
+    let made = output(&mut plan(&["fresh", "128", "--force", "-o", link.to_str().unwrap()]));
     assert!(made.status.success() && link.is_symlink(), "{}", text(&made.stderr));
     assert_eq!(fs::read(&path).unwrap(), written("fresh128.img"));
-    assert!(output(&mut plan(&["draw", "ring.img", "-o", file])).status.success());
+    assert!(output(&mut plan(&["draw", "ring.img", "--force", "-o", file])).status.success());
     assert_eq!(fs::read(&path).unwrap(), output(&mut plan(&["draw", "ring.img"])).stdout);
     assert_eq!(fs::read_dir(&folder).unwrap().count(), 2, "something was left beside the file");
     fs::remove_dir_all(&folder).unwrap();
@@ -719,6 +804,9 @@ fn reading_and_writing_fail() {
         "check ring.img",
         "preview ring.img 0 0",
         "preview cabins.img 0 0",
+        "rung flat.img",
+        "rung flat-cleared.img 0",
+        "risks ring.img",
         "diff ring.img full.img",
         "line raise 3 next",
         "line next",
@@ -774,6 +862,9 @@ fn odd_words() {
             &["convert", "ring.img", word],
             &["convert", word, "2"],
             &["take-back", "cleared.img", word],
+            &["rung", word],
+            &["rung", "ring.img", word],
+            &["risks", word],
             &["preview", word, "0", "0"],
             &["preview", "ring.img", word, "0"],
             &["preview", "ring.img", "0", word],
@@ -794,7 +885,6 @@ fn odd_words() {
 #[test]
 fn named_pipes() {
     let pipe = scratch("pipe");
-    let _ = fs::remove_file(&pipe);
     assert!(Command::new("mkfifo").arg(&pipe).status().unwrap().success());
     let read = std::thread::spawn({
         let pipe = pipe.clone();
@@ -802,7 +892,7 @@ fn named_pipes() {
     });
     let given = output(&mut plan(&["clear", "ring.img", "0", "0", "-o", pipe.to_str().unwrap()]));
     assert!(given.status.success(), "{}", text(&given.stderr));
-    assert_eq!(read.join().unwrap(), written("cleared.img"));
+    assert_eq!(read.join().unwrap(), image("cleared.img"));
 }
 
 /// Files of every length near the ends, and without an end, are answered.
@@ -833,19 +923,25 @@ fn long_files() {
     assert!(is_failure(&output(&mut plan(&["show", "/dev/zero"]))));
     let line = [&vec![b'9'; 1 << 20][..], b"\nH*4A\n"].concat();
     let given = output(fed(&mut plan(&["key", "ring.img", "--skip-refused"]), &line));
-    assert_eq!((given.status.code(), text(&given.stderr).lines().count()), (Some(0), 2));
+    assert_eq!((given.status.code(), unplaced(&given).lines().count()), (Some(0), 2));
 }
 
-/// At a terminal, which the program `script` makes: it gets no image, and refused lines are passed over.
+/// The program at a terminal, which the program `script` makes: the status, and all that was said there.
+fn at_terminal(folder: &Path, line: &str, input: &[u8]) -> (Option<i32>, String) {
+    let mut command = Command::new("script");
+    let line = format!("{} {line}", env!("CARGO_BIN_EXE_plan"));
+    command.args(["-qec", &line, "/dev/null"]).current_dir(folder);
+    let given = output(fed(&mut command, input));
+    (given.status.code(), text(&given.stdout).replace('\r', ""))
+}
+
+/// A terminal gets no image, and refused lines are passed over.
 #[test]
 fn at_a_terminal() {
     let at_terminal = |line: &str, input: &[u8]| {
-        let mut command = Command::new("script");
-        let line = format!("{} {line}", env!("CARGO_BIN_EXE_plan"));
-        command.args(["-qec", &line, "/dev/null"]).current_dir(folder("images"));
-        let given = output(fed(&mut command, input));
-        assert!(given.status.success(), "{line}: {}", text(&given.stdout));
-        text(&given.stdout).replace('\r', "")
+        let (status, said) = at_terminal(&folder("images"), line, input);
+        assert_eq!(status, Some(0), "{line}: {said}");
+        said
     };
     for (line, end) in [("fresh 4", "3 free"), ("convert ring.img 2", "130 bytes")] {
         let said = at_terminal(line, b"");
@@ -853,7 +949,6 @@ fn at_a_terminal() {
         assert!(said.ends_with(&nowhere), "{said}");
     }
     let slip = scratch("at_a_terminal.slip");
-    let _ = fs::remove_file(&slip);
     let said = at_terminal(&format!("clear ring.img 0 0 --slip {}", slip.display()), b"");
     let nowhere = "not stored: -o FILE stores the new image and the slip\n";
     assert!(said.ends_with(nowhere) && !slip.exists(), "{said}");
@@ -861,8 +956,8 @@ fn at_a_terminal() {
     let line = format!("key ring.img -o {}", path.display());
     let said = at_terminal(&line, b"H*30003A\nH*30000A\n");
     assert!(said.contains("Ctrl-D ends and stores") && said.contains("refused by 6"), "{said}");
-    assert!(said.ends_with(&format!("stored in {}\n", path.display())), "{said}");
-    assert_eq!(fs::read(&path).unwrap(), written("cleared.img"));
+    assert!(said.ends_with(&format!("stored in {}, edition 1\n", path.display())), "{said}");
+    assert_eq!(fs::read(&path).unwrap(), image("cleared.img"));
     let said = at_terminal("key ring.img", b"H*30000A\n");
     assert!(said.contains("-o FILE would store") && said.contains("not stored"), "{said}");
 }

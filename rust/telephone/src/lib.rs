@@ -6,7 +6,7 @@
 //! Eight cabins share a plan: each step is charged to the cabin that added it, within the guarantees and limits of [`Quotas`].
 //!
 //! A clearing can be taken back by its slip: [`Table::clear_with_slip`], [`Table::take_back`]. [`Table::preview_clear`] tells beforehand which steps it
-//! would free.
+//! would free. [`Table::rung`] tells whom a trial can ring: a step can be in use and never entered.
 //!
 //! Images are written in edition 2 of the format and loaded in both; [`convert_up`] and [`convert_down`] turn an image of one edition into the other.
 //!
@@ -54,8 +54,10 @@ pub const LINE_CABINS: usize = 16;
 pub const IMAGE_MAX: usize = 2858;
 /// Bytes of the largest slip of a clearing.
 pub const SLIP_MAX: usize = 5638;
-/// Bytes that the buffer of a preview must have: as many as there are steps that can go.
-pub const PREVIEW_ROOM: usize = 127;
+/// Bytes that the buffer of a preview or of [`Table::rung`] must have: one for each step that can be listed, which is any but step 0.
+pub const STEPS_ROOM: usize = 127;
+/// The same number, by the name that it had when only a preview listed steps.
+pub const PREVIEW_ROOM: usize = STEPS_ROOM;
 /// Bytes of stack for any call of the library, with the caller's table.
 pub const STACK_MAX: usize = 16 * 1024;
 
@@ -325,6 +327,15 @@ pub struct Cleared {
     pub freed: u16,
 }
 
+/// How many steps some trial enters.
+#[derive(Clone, Copy, PartialEq, Eq, Debug)]
+pub struct Rung {
+    /// All such steps.
+    pub steps: u16,
+    /// Those of them that are contacts.
+    pub contacts: u16,
+}
+
 /// Bytes of the slip that a buffer begins with, as its third word says: the number of steps that changed. None where the buffer has no three words.
 pub fn slip_length(buffer: &[u8]) -> Option<usize> {
     // three words, and the old and the new record of each changed step
@@ -580,17 +591,17 @@ impl Table {
     }
 
     /// Tells what [`Table::clear`] would do: gives its counts, and writes the numbers of the steps that it would free to the start of a lent buffer,
-    /// ascending, a byte each. The same clearing, made next, frees just these and gives these counts. The buffer must have at least [`PREVIEW_ROOM`]
+    /// ascending, a byte each. The same clearing, made next, frees just these and gives these counts. The buffer must have at least [`STEPS_ROOM`]
     /// bytes, even where nothing would go; its bytes past the numbers stay.
     ///
     /// ```
-    /// use telephone::{sole_quotas, Cleared, Exit, Kind, Table, PREVIEW_ROOM};
+    /// use telephone::{sole_quotas, Cleared, Exit, Kind, Table, STEPS_ROOM};
     ///
     /// let mut table = Table::fresh(4, &sole_quotas(4))?;
     /// table.add(0, Exit::Answered, Kind::Contact(7), 0)?;
     /// table.add(1, Exit::NoReply, Kind::Wait(60), 0)?;
     /// table.link(0, Exit::Answered, 2, Exit::Answered)?; // ring again after a minute
-    /// let mut steps = [0; PREVIEW_ROOM];
+    /// let mut steps = [0; STEPS_ROOM];
     /// let cleared = table.preview_clear(0, Exit::Answered, &mut steps)?;
     /// assert_eq!(cleared, Cleared { doubtful: 2, freed: 2 });
     /// assert_eq!(steps[..2], [1, 2]);
@@ -604,6 +615,33 @@ impl Table {
         steps: &mut [u8],
     ) -> Result<Cleared, Refusal> {
         cleared(raw::preview_clear(&self.0, step, exit.number(), steps))
+    }
+
+    /// Tells whom a trial can ring: writes the numbers of the steps that some trial enters to the start of a lent buffer, ascending, a byte each, and
+    /// gives how many they are. A step is among them exactly if there are line results and a limit with which [`Table::trial`] enters it.
+    ///
+    /// A contact can go on by each of its exits, all other steps by the answered exit alone. So a step that stands only behind another exit of the alarm,
+    /// of a message or of a wait is in use, and no trial enters it. Every trial starts at step 0, and none enters it. The buffer must have at least
+    /// [`STEPS_ROOM`] bytes, even where nobody can be rung; its bytes past the numbers stay.
+    ///
+    /// ```
+    /// use telephone::{sole_quotas, Exit, Kind, Rung, Table, STEPS_ROOM};
+    ///
+    /// let mut table = Table::fresh(4, &sole_quotas(4))?;
+    /// table.add(0, Exit::Answered, Kind::Contact(42), 0)?;
+    /// table.add(1, Exit::NoReply, Kind::Contact(0), 0)?; // the primary, where nobody replies
+    /// table.link(1, Exit::NoReply, 0, Exit::Engaged)?; // the alarm never takes this exit
+    /// let mut steps = [0; STEPS_ROOM];
+    /// assert_eq!(table.rung(&mut steps)?, Rung { steps: 2, contacts: 2 });
+    /// assert_eq!(steps[..2], [1, 2]);
+    /// table.clear(1, Exit::NoReply)?;
+    /// assert_eq!(table.rung(&mut steps)?, Rung { steps: 1, contacts: 1 });
+    /// assert_eq!(steps[..1], [1]); // the primary is still in use, and is never rung
+    /// # Ok::<(), telephone::Refusal>(())
+    /// ```
+    pub fn rung(&self, steps: &mut [u8]) -> Result<Rung, Refusal> {
+        let (steps, contacts) = two(raw::rung(&self.0, steps))?;
+        Ok(Rung { steps, contacts })
     }
 
     /// Squeezes the table into that capacity, which may also be larger, and gives it these guarantees and limits. The steps in use are renumbered from

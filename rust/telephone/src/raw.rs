@@ -184,6 +184,7 @@ unsafe extern "C" {
     fn plan_take_back(t: &mut Table, slip: *const u8, length: usize) -> Reply;
     fn plan_preview_clear(t: &Table, step: u16, exit: u16, buffer: *mut u8, length: usize)
         -> Reply;
+    fn plan_rung(t: &Table, buffer: *mut u8, length: usize) -> Reply;
     fn plan_trial(
         t: &Table,
         limit: u16,
@@ -221,6 +222,12 @@ pub fn take_back(t: &mut Table, slip: &[u8]) -> Reply {
 pub fn preview_clear(t: &Table, step: u16, exit: u16, buffer: &mut [u8]) -> Reply {
     // SAFETY: as above.
     unsafe { plan_preview_clear(t, step, exit, buffer.as_mut_ptr(), buffer.len()) }
+}
+
+/// Tells whom a trial can ring: writes the numbers of the steps that some trial enters to the start of a buffer.
+pub fn rung(t: &Table, buffer: &mut [u8]) -> Reply {
+    // SAFETY: as above.
+    unsafe { plan_rung(t, buffer.as_mut_ptr(), buffer.len()) }
 }
 
 /// Goes through the plan from step 0, where each contact uses up a line result, for at most so many moves; writes the steps entered to the start of

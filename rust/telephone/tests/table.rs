@@ -3,7 +3,8 @@
 use std::fmt::Debug;
 use telephone::{
     check_edition, convert_down, convert_up, raw, sole_quotas, Cleared, Counts, Ending, Exit, Kind,
-    Link, Quota, Quotas, Refusal, Table, CABINS, IMAGE_MAX, PREVIEW_ROOM, SLIP_MAX,
+    Link, Quota, Quotas, Refusal, Rung, Table, CABINS, IMAGE_MAX, PREVIEW_ROOM, SLIP_MAX,
+    STEPS_ROOM,
 };
 
 #[test]
@@ -288,24 +289,46 @@ fn cleared(table: &Table, step: u16, exit: Exit) -> (Table, Cleared, Vec<u8>) {
     (after, counts, slip)
 }
 
-/// A preview has to give this number of doubtful steps, write these steps, which go, and leave the bytes past them and the table. The room is just
-/// enough, and then more; 126 bytes, or none, are refused. The clearing, made next, has to give the same counts and free just these steps.
+/// A call has to give this answer, write these steps and leave the bytes past them. The room is just enough, and then more.
+#[track_caller]
+fn lists_steps<T: PartialEq + Debug>(
+    call: impl Fn(&mut [u8]) -> Result<T, Refusal>,
+    answer: T,
+    steps: &[u8],
+) {
+    let answer = Ok(answer);
+    // the last room has 126 bytes in 16 bits
+    for room in [127, 128, 65_535, 65_536, 65_536 + 126] {
+        let mut buffer = vec![99; room];
+        assert_eq!(call(&mut buffer), answer);
+        let (written, past) = buffer.split_at(steps.len());
+        assert!(written == steps && past.iter().all(|&byte| byte == 99), "{written:?}");
+    }
+}
+
+/// A preview has to give this number of doubtful steps, write these steps, which go, and leave the table; 126 bytes, or none, are refused. The clearing,
+/// made next, has to give the same counts and free just these steps.
 #[track_caller]
 fn foretold(table: &Table, step: u16, exit: Exit, doubtful: u16, steps: &[u8]) {
     let counts = Cleared { doubtful, freed: steps.len() as u16 };
     let mut after = table.clone();
-    // the last room has 126 bytes in 16 bits
-    for room in [127, 128, 65_535, 65_536, 65_536 + 126] {
-        let mut buffer = vec![99; room];
-        assert_eq!(after.preview_clear(step, exit, &mut buffer), Ok(counts));
-        let (written, past) = buffer.split_at(steps.len());
-        assert!(written == steps && past.iter().all(|&byte| byte == 99), "{written:?}");
-    }
+    lists_steps(|buffer| after.preview_clear(step, exit, buffer), counts, steps);
     for room in [0, 126] {
         not_cleared(PREVIEW, table.as_raw(), (step, exit.number()), room, Refusal::TooShort);
     }
     assert_eq!(after, *table);
     assert_eq!((after.clear(step, exit), &gone(table, &after)[..]), (Ok(counts), steps));
+}
+
+/// The steps that some trial enters have to be these, so many of them contacts, and the table has to stay; 126 bytes, or none, are refused.
+#[track_caller]
+fn rung(table: &Table, contacts: u16, steps: &[u8]) {
+    let (counts, lent) = (Rung { steps: steps.len() as u16, contacts }, table.clone());
+    lists_steps(|buffer| lent.rung(buffer), counts, steps);
+    for room in [0, 126] {
+        not_cleared(RUNG, table.as_raw(), (0, 0), room, Refusal::TooShort);
+    }
+    assert_eq!(lent, *table);
 }
 
 /// The steps that are in use before and not after, ascending.
@@ -314,10 +337,11 @@ fn gone(before: &Table, after: &Table) -> Vec<u8> {
     (0..128).filter(|&step| in_use(before, step) && !in_use(after, step)).collect()
 }
 
-/// A clearing with a slip, or a preview of it.
+/// A clearing with a slip, a preview of it, or the steps that some trial enters, which no exit is named for.
 type Clearing = fn(&mut raw::Table, u16, u16, &mut [u8]) -> raw::Reply;
 const WITH_SLIP: Clearing = raw::clear_with_slip;
 const PREVIEW: Clearing = |table, step, exit, buffer| raw::preview_clear(table, step, exit, buffer);
+const RUNG: Clearing = |table, _, _, buffer| raw::rung(table, buffer);
 
 /// Such a call has to be refused so, with no other number, and change nothing.
 #[track_caller]
@@ -439,13 +463,98 @@ fn previews() {
     // a chain of all steps; then one that stays, held from its end
     let mut full = full();
     let all: Vec<u8> = (1..128).collect();
-    assert_eq!(all.len(), PREVIEW_ROOM);
+    assert_eq!((all.len(), PREVIEW_ROOM), (STEPS_ROOM, STEPS_ROOM));
     foretold(&full, 0, Exit::Answered, 127, &all);
     foretold(&full, 126, Exit::Answered, 1, &[127]);
     full.link(126, Exit::Answered, 0, Exit::Engaged).unwrap();
     foretold(&full, 0, Exit::Answered, 127, &all[..126]);
     full.link(0, Exit::Answered, 127, Exit::Engaged).unwrap();
     foretold(&full, 0, Exit::Answered, 127, &[]);
+}
+
+/// The steps of trials with all results that there are. So many results and moves are enough: a step that some trial enters is entered on a way that
+/// meets no step twice.
+fn entered(table: &Table) -> Vec<u8> {
+    let in_use = table.counts().unwrap().in_use;
+    let mut steps = std::collections::BTreeSet::new();
+    for results in 0..1u32 << (2 * (in_use - 1)) {
+        let results: Vec<u8> = (1..in_use).map(|k| (results >> (2 * (k - 1)) & 3) as u8).collect();
+        let mut trace = vec![0; usize::from(in_use)];
+        let moves = table.trial(in_use, &results, &mut trace).unwrap().moves;
+        steps.extend(&trace[..usize::from(moves)]);
+    }
+    steps.into_iter().collect()
+}
+
+/// The steps that some trial enters, by their numbers: of rings and of tables in which step 2 is a wait, all of them, and as trials enter them.
+#[test]
+fn steps_entered() {
+    rung(&fresh(4), 0, &[]);
+    let table = ring();
+    rung(&table, 3, &[1, 2, 3, 4, 5, 6]);
+    for (step, exit) in (0..7).flat_map(|step| Exit::ALL.map(|exit| (step, exit))) {
+        let mut other = table.clone();
+        if other.clear(step, exit).is_ok() {
+            let steps = entered(&other);
+            let contact =
+                |&&step: &&u8| matches!(other.read(step.into()).unwrap().kind, Kind::Contact(_));
+            rung(&other, steps.iter().filter(contact).count() as u16, &steps);
+        }
+    }
+    let mut table = Table::from_raw(different([0, 1, 0, 1])).unwrap();
+    rung(&table, 1, &[1, 2, 4]);
+    // what stood behind another exit of the wait stands behind the answered one too
+    table.clear(2, Exit::Answered).unwrap();
+    table.link(2, Exit::Engaged, 2, Exit::Answered).unwrap();
+    rung(&table, 1, &[1, 2, 6]);
+    let mut full = full();
+    let all: Vec<u8> = (1..128).collect();
+    rung(&full, 127, &all);
+    full.link(63, Exit::Answered, 0, Exit::Engaged).unwrap();
+    full.clear(63, Exit::Answered).unwrap();
+    rung(&full, 63, &all[..63]);
+}
+
+/// The caretaker's plan: a message, contact 42, and on no reply the primary and nine more. The alarm's engaged exit leads to the primary too, so that all
+/// ten stay in use where contact 42's exit for no reply is cleared, and no trial enters them. A squeeze gives the steps entered new numbers.
+#[test]
+fn the_primary_is_held_and_not_rung() {
+    let mut table = fresh(33);
+    table.add(0, Exit::Engaged, Kind::Wait(1), 0).unwrap();
+    table.add(0, Exit::Answered, Kind::Message(3), 0).unwrap();
+    table.clear(0, Exit::Engaged).unwrap();
+    table.add(2, Exit::Answered, Kind::Contact(42), 0).unwrap();
+    for step in 3..13 {
+        table.add(step, Exit::NoReply, Kind::Contact(step - 3), 0).unwrap();
+    }
+    table.link(3, Exit::NoReply, 0, Exit::Engaged).unwrap();
+    let all: Vec<u8> = (2..14).collect();
+    rung(&table, 11, &all);
+    tried(&table, 12, &[2; 10], Ending::Spent, &all);
+    let cleared = table.clear(3, Exit::NoReply).unwrap();
+    assert_eq!(cleared, Cleared { doubtful: 10, freed: 0 });
+    assert_eq!(table.read(4).unwrap().kind, Kind::Contact(0));
+    rung(&table, 1, &[2, 3]);
+    for result in 0..4 {
+        tried(&table, 12, &[result], Ending::Open, &[2, 3]);
+    }
+    table.squeeze(13, &sole_quotas(13)).unwrap();
+    rung(&table, 1, &[1, 2]);
+}
+
+/// 1 before 11, of the steps that some trial enters, and 11 whatever the table.
+#[test]
+fn steps_entered_refused() {
+    let unsound = raw::Table { last: 7, ..ring().into_raw() };
+    for room in [0, 1, STEPS_ROOM - 1, STEPS_ROOM] {
+        not_cleared(RUNG, &unsound, (0, 0), room, Refusal::NotSound);
+    }
+    for table in [fresh(1), ring(), full()] {
+        for room in [0, 1, STEPS_ROOM - 1] {
+            assert_eq!(table.rung(&mut vec![0; room]), Err(Refusal::TooShort));
+            not_cleared(RUNG, table.as_raw(), (0, 0), room, Refusal::TooShort);
+        }
+    }
 }
 
 /// 1 before 3 before 4 before 6 before 11, of a clearing with a slip and of a preview. A safe table is sound, so 1 is for the calls on any table.
@@ -457,8 +566,8 @@ fn clearings_refused() {
         (WITH_SLIP, 0),
         (WITH_SLIP, SLIP_MAX),
         (PREVIEW, 0),
-        (PREVIEW, PREVIEW_ROOM - 1),
-        (PREVIEW, PREVIEW_ROOM),
+        (PREVIEW, STEPS_ROOM - 1),
+        (PREVIEW, STEPS_ROOM),
     ] {
         for place in [(0, 0), (9, 9)] {
             not_cleared(call, &unsound, place, room, Refusal::NotSound);
@@ -476,7 +585,7 @@ fn clearings_refused() {
         }
     }
     // 126 bytes are too few for any table, and even where nothing would go
-    for room in [0, 1, PREVIEW_ROOM - 1] {
+    for room in [0, 1, STEPS_ROOM - 1] {
         for place in [(0, 0), (0, 3), (1, 2)] {
             not_cleared(PREVIEW, table.as_raw(), place, room, Refusal::TooShort);
         }
@@ -1174,6 +1283,7 @@ fn deepest_calls_in_a_small_thread() {
         }
         let mut slip = [0; SLIP_MAX];
         table.preview_clear(0, Exit::Answered, &mut slip)?;
+        table.rung(&mut slip)?;
         let (_, length) = table.clear_with_slip(0, Exit::Answered, &mut slip)?;
         table.take_back(&slip[..length])?;
         table.key_line(b"H*200000001A")?;

@@ -10,7 +10,8 @@ use Rattle.table.specs.Clear.{blanked, eachDoubtful, release}
 use Rattle.words.specs.Words.{tableOf, Becomes}
 use Rattle.words.proofs.Becomes.{becomes-none, becomes-next, becomes-then}
 use Rattle.repairing.specs.Repairing.{asMarks}
-use Rattle.repairing.proofs.Laws.{one-marked, not-marked, marks-at, eachRound, each-go, each-stay, each-done}
+use Rattle.marking.proofs.Laws.{one-marked, not-marked}
+use Rattle.repairing.proofs.Laws.{marks-at, eachRound, each-go, each-stay, each-done}
 use Rattle.repairing.proofs.Repairs.{able-most}
 use Rattle.repairing.proofs.free_steps.Statement.{statement}
 use Rattle.repairing.proofs.free_steps.Tie as tie

@@ -9,7 +9,8 @@ use Rattle.table.specs.Clear.{unlinked}
 use Rattle.words.specs.Words.{tableOf, Becomes}
 use Rattle.words.proofs.Becomes.{becomes-none, becomes-next}
 use Rattle.repairing.specs.Repairing.{asMarks, Repairable}
-use Rattle.repairing.proofs.Laws.{one-marked, not-marked, marks-at, eachRound, each-go, each-stay, each-done}
+use Rattle.marking.proofs.Laws.{one-marked, not-marked}
+use Rattle.repairing.proofs.Laws.{marks-at, eachRound, each-go, each-stay, each-done}
 use Rattle.repairing.proofs.Repairs.{able-most, able-standing, able-unlinked, able-after}
 use Rattle.repairing.proofs.unlink_steps.Statement.{statement}
 use Rattle.repairing.proofs.unlink_steps.Tie as tie

@@ -7,7 +7,8 @@ use borrow.Author.Needs.{needs}
 use Rattle.table.specs.Table.{exitsOf, linked}
 use Rattle.words.specs.Words.{tableOf}
 use Rattle.words.proofs.Formed.{target-place}
-use Rattle.repairing.specs.Repairing.{linkedWithin, Added}
+use Rattle.marking.specs.Marking.{linkedWithin}
+use Rattle.repairing.specs.Repairing.{Added}
 use Rattle.repairing.proofs.Laws.{added-start, added-exit}
 use Rattle.repairing.proofs.want_targets.Statement.{statement}
 use Rattle.repairing.proofs.want_targets.Tie as tie

@@ -1,7 +1,7 @@
 //! Prints a picture of the crates of the repository as an SVG document: a box for each crate, and arrows to those that it stands on.
 //! Takes the path of the repository, or the current directory.
 
-use plan::picture::{svg_with_groups, Arrow, Node, Shade, Style};
+use plan::picture::{svg, Arrow, Node, Shade, Style};
 use std::io::Write;
 use std::path::Path;
 use std::process::ExitCode;
@@ -54,7 +54,7 @@ fn picture(root: &Path) -> Result<String, String> {
     let groups: Vec<(Shade, &str)> =
         groups.iter().enumerate().map(|(i, group)| (shade(i), group.as_str())).collect();
     let legend = [(Style::Solid, "stands on; left out where a longer way leads there")];
-    Ok(svg_with_groups(TITLE, &legend, &groups, &nodes, &arrows))
+    Ok(svg(TITLE, &legend, &groups, &nodes, &arrows))
 }
 
 /// The crates of a list, and its groups: the comments with crates below them.

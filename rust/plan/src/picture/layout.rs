@@ -6,7 +6,7 @@ use super::*;
 /// The layer of each box. In a ring of solid arrows, the box with the least number goes first.
 pub(super) fn layers(boxes: usize, arrows: &[&Arrow]) -> Vec<usize> {
     let solid: Vec<&&Arrow> =
-        arrows.iter().filter(|a| a.style == Style::Solid && a.from != a.to).collect();
+        arrows.iter().filter(|a| a.style.is_solid() && a.from != a.to).collect();
     let mut layer = vec![0; boxes];
     let mut placed = vec![false; boxes];
     // Invariant: a placed box lies below each box that was placed before it and has a solid arrow to it.
@@ -128,7 +128,7 @@ impl Layout {
     /// Adds a hop between two places, with the reach of each end.
     fn add_hop(&mut self, gap: usize, ends: [(usize, (f64, f64)); 2], style: Style) {
         let channels = ends.iter().filter(|e| self.places[e.0].width == 0.0).count();
-        let weight = [1.0, 2.0, 8.0][channels] * if style == Style::Solid { 2.0 } else { 1.0 };
+        let weight = [1.0, 2.0, 8.0][channels] * if style.is_solid() { 2.0 } else { 1.0 };
         for (p, reach) in ends {
             let place = &mut self.places[p];
             place.ends[usize::from(place.layer < gap)].push(self.ends.len());

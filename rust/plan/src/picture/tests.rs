@@ -147,13 +147,10 @@ fn whole_documents() {
     for count in 0..4 {
         let (nodes, arrows) = picture(&[4; 3][..count], &[(0, 0, 1, true), (1, 0, 0, false)]);
         let groups = [(Shade::First, "A & B"); 3];
-        let text = svg_with_groups("<A>", &[(Style::Dashed, "weak")], &groups, &nodes, &arrows);
+        let text = svg("<A>", &[(Style::Dashed, "weak")], &groups, &nodes, &arrows);
         check_text(&text, count + 3, if count > 1 { 2 } else { 0 });
         assert!(text.starts_with("<svg ") && text.ends_with("</svg>\n"));
-        assert_eq!(
-            text,
-            svg_with_groups("<A>", &[(Style::Dashed, "weak")], &groups, &nodes, &arrows)
-        );
+        assert_eq!(text, svg("<A>", &[(Style::Dashed, "weak")], &groups, &nodes, &arrows));
     }
 }
 

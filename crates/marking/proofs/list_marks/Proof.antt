@@ -1,4 +1,4 @@
--- `repairing::list_marks` meets its contract. The loop's invariant: the numbers of the marked steps below k are written, and `at` is their count. The
+-- `marking::list_marks` meets its contract. The loop's invariant: the numbers of the marked steps below k are written, and `at` is their count. The
 -- measure is what is left of n. Assumes nothing.
 use mathlib.Core.Path.{_≡_, refl, sym, _∙_, ap, ap₂}
 use mathlib.Core.Logic.{⊎-elim}
@@ -11,25 +11,25 @@ use Rattle.finite.proofs.Below.{count-le}
 use Rattle.finite.proofs.Loops.{count-zero, count-hit, count-miss}
 use Rattle.finite.proofs.Select.{count-rises}
 use Rattle.words.specs.Marks.{isMarked}
-use Rattle.repairing.proofs.Laws.{one-marked, not-marked, size-marks, written, written-none, written-hit, written-miss}
-use Rattle.repairing.proofs.list_marks.Statement.{statement}
-use Rattle.repairing.proofs.list_marks.Tie as tie
+use Rattle.marking.proofs.Laws.{one-marked, not-marked, written, written-none, written-hit, written-miss}
+use Rattle.marking.proofs.list_marks.Statement.{statement}
+use Rattle.marking.proofs.list_marks.Tie as tie
 
 abbrev Inv-loop : tie.InvT-loop
-Inv-loop n doubt buffer₀ at₀ k₀ buffer at k =
-    (k ≤ n) × (at ≡ count k (isMarked doubt)) × (length buffer ≡ length buffer₀) × (buffer ≡ written k (isMarked doubt) buffer₀)
+Inv-loop n marks buffer₀ at₀ k₀ buffer at k =
+    (k ≤ n) × (at ≡ count k (isMarked marks)) × (length buffer ≡ length buffer₀) × (buffer ≡ written k (isMarked marks) buffer₀)
 
 abbrev μ-loop : tie.MeasureT-loop
-μ-loop n doubt buffer₀ at₀ k₀ buffer at k = n - k
+μ-loop n marks buffer₀ at₀ k₀ buffer at k = n - k
 
 -- there is room for the number of a marked step
 room : (c : tie.In-loop Inv-loop μ-loop) →
     let s = c .before .before in
     let k = c .before .loop .k in
-    getD (s .args .doubt .now) k 0 ≡ 1 → count k (isMarked (s .args .doubt .now)) < length (s .args .buffer .now)
+    getD (s .args .marks .now) k 0 ≡ 1 → count k (isMarked (s .args .marks .now)) < length (s .args .buffer .now)
 room c h =
     let s = c .before .before in
-    let d = s .args .doubt .now in
+    let d = s .args .marks .now in
     let k = c .before .loop .k in
     omega (arith, count-rises (isMarked d) k (s .args .n) (c .loop-test .taken) (one-marked d k h), s .pre .1)
 
@@ -37,7 +37,7 @@ loop-again : tie.Need-loop-again Inv-loop μ-loop
 loop-again c =
     let l = c .before .before .before .loop in
     let a = c .before .before .before .before .args in
-    let d = a .doubt .now in
+    let d = a .marks .now in
     let p = isMarked d in
     let b = a .buffer .now in
     ⊎-elim
@@ -63,9 +63,9 @@ returns : tie.Need-returns Inv-loop μ-loop
 returns c =
     let l = c .before .loop in
     let a = c .before .before .args in
-    let p = isMarked (a .doubt .now) in
+    let p = isMarked (a .marks .now) in
     let e : l .k ≡ a .n = omega arith in (
-      l .inv .1 ∙ ap (λ (k : ℕ). count k p) e ∙ sym (size-marks (a .n) (a .doubt .now)),
+      l .inv .1 ∙ ap (λ (k : ℕ). count k p) e,
       l .inv .3 ∙ ap (λ (k : ℕ). written k p (a .buffer .now)) e,
     )
 
@@ -80,10 +80,10 @@ list-marks-spec =
     (λ c. omega arith)
     (λ c. omega arith)
     (λ c. omega (arith, room (c .before .before) (c .if1 .taken)))
-    (λ c. omega (arith, count-le (c .before .before .before .loop .k) (isMarked (c .before .before .before .before .args .doubt .now))))
+    (λ c. omega (arith, count-le (c .before .before .before .loop .k) (isMarked (c .before .before .before .before .args .marks .now))))
     (λ c. omega arith)
     (λ c. omega arith)
     loop-again
-    (λ c. omega (arith, count-le (c .before .loop .k) (isMarked (c .before .before .args .doubt .now))))
+    (λ c. omega (arith, count-le (c .before .loop .k) (isMarked (c .before .before .args .marks .now))))
     (λ c. c .before .loop .inv .2)
     returns)

@@ -1,0 +1,2 @@
+-- What marks are set by.
+pub mod Marking

@@ -1,0 +1,2 @@
+-- What the search works on.
+pub mod Row
