@@ -10,7 +10,7 @@
 --   squeeze-*                 an accepted squeeze, and what its table does (W2)
 --   slip-demand take-back-demand told-demand   a clearing with a slip, its taking back, and what the plan is told of them (W7)
 --   preview-demand preview-refusals   what a clearing would free, and the clearing made next; when a preview is refused (W8)
---   rung-demand rung-refusals rung-only rung-next ..   who can be rung, and the trial made next; when the call is refused
+--   rung-* fewest-results     who can be rung, when the call is refused, and the trials made next
 --   clears-any-order two-clears second-clear   clearings of the same exits in any order, and of two (W14)
 --   line-demand-1 line-refusals line-unsound line-unknown line-nobody   calls on the dispatcher of one line, refused or not (W11)
 --   line-fresh line-raise line-withdraw line-next ..   accepted ones, what settles them, and two of one cabin
@@ -27,14 +27,14 @@ use mathlib.Core.List.{List, [], _∷_, _++_, flatten, List·Memᴰ}
 use Prim.Native.Nat.{ℕ, _≤_, _<_}
 use lib.ListN.{length, getD}
 use Rattle.table.specs.Table.{Table, places, counters, inUse, counterOf, linksTo, stepsInUse, StrongChain}
-use Rattle.table.specs.declared.Answer.the-variants.{Given}
+use Rattle.table.specs.declared.Answer.the-variants.{Refused, Given}
 use Rattle.table.specs.Answer.{WriteOutcome, first, refusalOf, firstOf}
 use Rattle.table.specs.Cabins.{soleQuotas}
 use Rattle.table.specs.Sound.{Sound, sound, Shape, contentFits}
 use Rattle.table.specs.Calls.{addRefusal, addCall, linkRefusal, linkCall, spokenCounts}
 use Rattle.table.specs.Clear.{clearRefusal, clearCall}
 use Rattle.table.specs.Preview.{previewRefusal, previewCall}
-use Rattle.table.specs.Rung.{rungRefusal, rungCall, FewestResults, listUnder}
+use Rattle.table.specs.Rung.{rungRefusal, rungCall, Entering, SomeTrial, FewestResults, listUnder}
 use Rattle.table.specs.Squeeze.{newNumber, squeezeRefusal, squeezeCall, ClearsAlike}
 use Rattle.table.specs.Plan.{planOf}
 use Rattle.table.specs.Orders.{Exit, clearAll, freedSum, SameExits, SameEnd, TwoClearsDemand, SecondDemand}
@@ -43,7 +43,7 @@ use Rattle.image.specs.Image.{Edition, edition1, edition2, image, editionIn, im
 use Rattle.image.specs.Convert.{convertRefusal, convertCall}
 use Rattle.image.specs.Slip.{clearSlipRefusal, clearSlipCall, takeBackRefusal, takeBackCall}
 use Rattle.image.proofs.Laws as Images
-use Rattle.history.specs.History.{First, Call, rung, withTold, tableAfter, heardBy, planAfter, drawnBy, firstRow, firstRefusal, firstTable, firstPlan}
+use Rattle.history.specs.History.{First, Call, rung, listed, run, withTold, tableAfter, heardBy, planAfter, drawnBy, firstRow, firstRefusal, firstTable, firstPlan}
 use Rattle.history.specs.Acts.{Act, refusedBy}
 use Rattle.history.specs.Demands.{Demand1, Lent, Demand3, GuaranteeDemand, ChargesDemand, AddDemand, LinkDemand, ClearDemand, CountDemand, SqueezeDemand, TwiceDemand, WriteDemand, EqualDemand, SortedDemand, OldDemand, ConvertDemand, RefusalDemand, BeyondOld, SameTableDemand, ToldDemand, SlipDemand, TakeBackDemand, Among, PreviewDemand, PreviewRefusalDemand, RungDemand, RungRefusalDemand}
 use Rattle.line.specs.Line.{Dispatcher, waits, LineCall, fresh, raise, withdraw, next, LineOutcome, leftBy, lineCall, dispatcherAfter, servedBy, dispatcherWords, dispatcherOf, lineWordsOf}
@@ -284,21 +284,45 @@ preview-refusals = Preview.preview-refusals
 pub rung-demand : (t : Table) (buffer : List ℕ) → rungRefusal t (length buffer) ≡ 0 → RungDemand t buffer (rungCall t buffer)
 rung-demand = Rung.rung-demand
 
--- and when any such call is refused
-pub rung-refusals : (t : Table) (buffer : List ℕ) → RungRefusalDemand t buffer (rungCall t buffer)
-rung-refusals = Rung.rung-refusals
-
--- no other numbers and bytes are as it asks
+-- what it asks settles the answer and every byte
 pub rung-only : {t : Table} {buffer : List ℕ} {o p : WriteOutcome} → RungDemand t buffer o → RungDemand t buffer p → o ≡ p
 rung-only = Rung.rung-only
 
--- a step that was listed is entered by some trial made next, with the fewest line results; limit and results fit that call
-pub rung-next : (t : Table) (buffer : List ℕ) → rungRefusal t (length buffer) ≡ 0 → (k : ℕ) →
-    Among (firstOf (rungCall t buffer .answer)) (rungCall t buffer .buffer) k → FewestResults (tableAfter t (rung buffer ∷ [])) k
-rung-next = Rung.rung-next rung-demand
+-- when such a call is refused; a sound table and 127 bytes are all that is asked, and a refused call writes nothing
+pub rung-refusals : (t : Table) (buffer : List ℕ) → RungRefusalDemand t buffer (rungCall t buffer)
+rung-refusals = Rung.rung-refusals
 
-pub fewest-fits : {t : Table} {k : ℕ} → Sound t → (x : FewestResults t k) → (x .limit < 65536) × (length (x .results) < 128)
-fewest-fits = Rung.fewest-fits
+pub rung-room : (t : Table) (buffer : List ℕ) → Sound t → 127 ≤ length buffer → RungDemand t buffer (rungCall t buffer)
+rung-room = Rung.rung-room rung-demand rung-refusals
+
+pub rung-unsound : (t : Table) (buffer : List ℕ) → (Sound t → ⊥) → rungCall t buffer ≡ record { answer = Refused 1; buffer = buffer }
+rung-unsound = Rung.rung-unsound rung-demand rung-refusals demand-1
+
+pub rung-short : (t : Table) (buffer : List ℕ) → Sound t → length buffer < 127 → rungCall t buffer ≡ record { answer = Refused 11; buffer = buffer }
+rung-short = Rung.rung-short rung-demand rung-refusals demand-1
+
+-- of a step that some trial enters there are fewest line results with which one does
+pub fewest-results : (t : Table) → Sound t → (k : ℕ) → SomeTrial t k → FewestResults t k
+fewest-results = Rung.fewest-results
+
+-- after the call: a step that was listed is entered by a trial with so many results, whatever its trace held, and by none with fewer
+pub rung-next : (t : Table) (buffer : List ℕ) → Sound t → 127 ≤ length buffer → (k : ℕ) →
+    Among (firstOf (rungCall t buffer .answer)) (rungCall t buffer .buffer) k →
+    (limit : ℕ) × (results : List ℕ) × (limit < 65536) × (length results < 128) ×
+    ((trace : List ℕ) → limit ≤ length trace → Entering (tableAfter t (rung buffer ∷ [])) limit results trace k) ×
+    ((other : ℕ) (more trace : List ℕ) → Entering (tableAfter t (rung buffer ∷ [])) other more trace k → length results ≤ length more)
+rung-next t buffer s l = Rung.rung-next rung-demand rung-refusals t buffer s l fewest-results
+
+-- and a step that was not, by no trial
+pub rung-silent : (t : Table) (buffer : List ℕ) → Sound t → 127 ≤ length buffer → (k : ℕ) →
+    (Among (firstOf (rungCall t buffer .answer)) (rungCall t buffer .buffer) k → ⊥) → (limit : ℕ) (results trace : List ℕ) →
+    Entering (tableAfter t (rung buffer ∷ [])) limit results trace k → ⊥
+rung-silent = Rung.rung-silent rung-demand rung-refusals
+
+-- what demand 3 compares of it: both counts and every byte
+pub rung-heard : (t : Table) (buffer : List ℕ) (steps contacts : ℕ) (bytes : List ℕ) → rungCall t buffer ≡ record { answer = Given steps contacts; buffer = bytes } →
+    run t (rung buffer) .heard ≡ record { refusal = 0; said = listed steps contacts bytes }
+rung-heard = Rung.rung-heard
 
 -- the plan alone decides, and after a squeeze the same steps are listed under their new numbers: as whole outcomes, refused ones too
 pub rung-by-plan : (t u : Table) → Sound t → Sound u → planOf t ≡ planOf u → (buffer : List ℕ) → rungCall t buffer ≡ rungCall u buffer
@@ -473,6 +497,10 @@ twins = Samples.twins
 pub twins-ring : (limit : ℕ) (results trace : List ℕ) →
     trialCall (tableLeft tableF4 firstStrong) limit results trace ≡ trialCall (tableLeft tableF4 secondStrong) limit results trace
 twins-ring = trials-by-plan _ _ Samples.first-strong-sound Samples.second-strong-sound (twins .plan)
+
+-- and the same steps that can be rung
+pub twins-rung : (buffer : List ℕ) → rungCall (tableLeft tableF4 firstStrong) buffer ≡ rungCall (tableLeft tableF4 secondStrong) buffer
+twins-rung = rung-by-plan _ _ Samples.first-strong-sound Samples.second-strong-sound (twins .plan)
 
 -- W14: two exits of one step, cleared in either order, and one of them again: one plan and different images
 pub orders : Twins (tableLeft crossed firstOrder) (tableLeft crossed secondOrder)

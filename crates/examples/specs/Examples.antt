@@ -1,6 +1,6 @@
--- Examples of calls: P1 to P9 of document 01 ("Edits on F4"), what they do not show, W2's, W3's, W5's and W8's, who can be rung, then each call refused for each of its
--- reasons ("Reasons for no") and the calls that P1 to P9 do not make. The entries of a run are made one after the other, each on the table that the one
--- before left. Assumes nothing.
+-- Examples of calls: P1 to P9 of document 01 ("Edits on F4"), what they do not show, W2's, W3's, W5's and W8's, who can be rung, then each call refused
+-- for each of its reasons ("Reasons for no") and the calls that P1 to P9 do not make. The entries of a run are made one after the other, each on the table
+-- that the one before left. Assumes nothing.
 --   examples, refusals   the table
 --   keyLines, Decodes  key lines byte by byte, and what they are decoded to
 --   unsound, failAsSaid   a table made unsound for each clause of soundness, and the clauses that it fails
@@ -350,6 +350,13 @@ rings =
     accepts (call (rung (replicate 128 9))) (answer is (2 ∷ 1 ∷ []) ∷ bytes is (1 ∷ 3 ∷ replicate 126 9) ∷ []) ∷
     accepts (call (link 1 1 3 3)) [] ∷
     accepts (call (rung (replicate 127 9))) (answer is (3 ∷ 2 ∷ []) ∷ bytes is (1 ∷ 2 ∷ 3 ∷ replicate 124 9) ∷ []) ∷
+    -- by engaged, and by answered
+    accepts (call (clear 3 3)) (answer is (0 ∷ 0 ∷ []) ∷ []) ∷
+    accepts (call (link 1 1 3 1)) [] ∷
+    accepts (call (rung (replicate 127 9))) (answer is (3 ∷ 2 ∷ []) ∷ bytes is (1 ∷ 2 ∷ 3 ∷ replicate 124 9) ∷ []) ∷
+    accepts (call (clear 3 1)) [] ∷
+    accepts (call (link 1 1 3 0)) [] ∷
+    accepts (call (rung (replicate 127 9))) (answer is (3 ∷ 2 ∷ []) ∷ bytes is (1 ∷ 2 ∷ 3 ∷ replicate 124 9) ∷ []) ∷
     -- a ring back to the wait changes nothing
     accepts (call (link 0 0 2 2)) [] ∷
     accepts (call (rung (replicate 127 9))) (answer is (3 ∷ 2 ∷ []) ∷ bytes is (1 ∷ 2 ∷ 3 ∷ replicate 124 9) ∷ exit 2 2 is (weakLink ∷ 1 ∷ []) ∷ []) ∷
@@ -359,6 +366,15 @@ rings =
     accepts (call (rung (replicate 127 9))) (answer is (0 ∷ 0 ∷ []) ∷ bytes is (replicate 127 9) ∷ steps is (0 ∷ 1 ∷ 2 ∷ 3 ∷ []) ∷ []) ∷
     -- 127 bytes are asked, whatever the table
     refuses (call (rung (replicate 126 9))) 11 ∷
+    -- a message and a contact behind it, and after a squeeze the same under new numbers
+    accepts (begin (fresh 4 (soleQuotas 4))) [] ∷
+    accepts (call (add 0 1 1 7 0)) (answer is (1 ∷ 0 ∷ []) ∷ []) ∷
+    accepts (call (add 0 0 2 9 0)) (answer is (2 ∷ 0 ∷ []) ∷ []) ∷
+    accepts (call (add 2 0 1 8 0)) (answer is (3 ∷ 0 ∷ []) ∷ []) ∷
+    accepts (call (clear 0 1)) (answer is (1 ∷ 1 ∷ []) ∷ []) ∷
+    accepts (call (rung (replicate 127 9))) (answer is (2 ∷ 1 ∷ []) ∷ bytes is (2 ∷ 3 ∷ replicate 125 9) ∷ []) ∷
+    accepts (call (squeeze 3 (soleQuotas 3))) [] ∷
+    accepts (call (rung (replicate 127 9))) (answer is (2 ∷ 1 ∷ []) ∷ bytes is (1 ∷ 2 ∷ replicate 125 9) ∷ []) ∷
     []
 
 -- "I took one exit off the plan. Why does the alarm no longer ring the primary call centre?" A message, the caretaker's flat (contact 42), on no reply the

@@ -7,7 +7,7 @@
 --   SqueezeDemand TwiceDemand   what an accepted squeeze does on a sound table, and a second one (W2)
 --   ToldDemand          what the plan is told of the calls (W7)
 --   SlipDemand TakeBackDemand   what a clearing with a slip does on a sound table, and its taking back (W7)
---   Among n l k, ListDemand n l l′   k is one of the first n numbers of l; n numbers are listed in the buffer l, which becomes l′
+--   Among n l k         k is one of the first n numbers of l; ListDemand n before after, n numbers are listed in a lent buffer
 --   PreviewDemand       what a preview of a clearing says, and the clearing made next (W8); PreviewRefusalDemand, when it is refused
 --   RungDemand          which steps a call that tells who can be rung lists; RungRefusalDemand, when it is refused
 --   WriteDemand SortedDemand   both ways of an image, over the calls (demand 2)
@@ -32,7 +32,7 @@ use Rattle.table.specs.Sound.{Sound}
 use Rattle.table.specs.Calls.{addCall}
 use Rattle.table.specs.Clear.{emptied, clearCall}
 use Rattle.table.specs.Trial.{isContact}
-use Rattle.table.specs.Rung.{SomeTrial, FewestResults}
+use Rattle.table.specs.Rung.{SomeTrial}
 use Rattle.table.specs.Squeeze.{newNumber, squeezeRefusal, squeezeCall, Renumbered}
 use Rattle.table.specs.Plan.{planOf, planCount, planNumber, planAdd, planLink, planClear, planSqueeze}
 use Rattle.keyline.specs.Keys.{keyCabin, keyCall}
@@ -244,14 +244,13 @@ pub record RungDemand (t : Table) (buffer : List ℕ) (o : WriteOutcome) : Type 
   pub steps : ℕ
   pub contacts : ℕ
   pub answer : o .answer ≡ Given steps contacts
-  -- a step is listed exactly if there are line results and a limit with which a trial enters it; and then, the fewest results
+  -- a step is listed exactly if there are line results and a limit with which a trial enters it
   pub just : (k : ℕ) → Among steps (o .buffer) k ↔ SomeTrial t k
-  pub fewest : (k : ℕ) → SomeTrial t k → FewestResults t k
   -- how many of those listed are contacts
   pub kinds : contacts ≡ count steps (λ m. isContact t (getD (o .buffer) m 0))
   pub list : ListDemand steps buffer (o .buffer)
 
--- and any such call
+-- and when any such call is refused: 1 for a table that is not sound, else 11 for a buffer of fewer than 127 bytes
 pub record RungRefusalDemand (t : Table) (buffer : List ℕ) (o : WriteOutcome) : Type 0 where
   pub unsound : (Sound t → ⊥) → refusalOf (o .answer) ≡ 1
   pub short : Sound t → length buffer < 127 → refusalOf (o .answer) ≡ 11

@@ -18,7 +18,7 @@ use borrow.Author.Tests.{eqb-true, eqb-false, eq-eqb, ne-eqb, lt-ltb, le-ltb, lt
 use Rattle.finite.specs.Below.{one, any, count, lowest, those}
 use Rattle.finite.specs.Reach.{Chain, start, then, marked, reaches}
 use Rattle.finite.proofs.Bools.{and-intro, and-left, and-right, or-elim, test, clash, not-true-false}
-use Rattle.finite.proofs.Below.{all-intro, any-at, any-intro, count-le, count-more, lowest-passes}
+use Rattle.finite.proofs.Below.{all-intro, any-at, any-intro, eq-or-ne, count-le, count-more, lowest-passes}
 use Rattle.finite.proofs.Reach.{within, chain-head, chain-first, reach-sound, reach-start, within-short, within-chain, reach-short, reach-complete}
 use Rattle.finite.proofs.Select.{lowest-most}
 use Rattle.table.specs.Table.{Table, places, exits, inUse, kindOf, targetOf, holds, leads, linked}
@@ -31,7 +31,7 @@ use Rattle.table.specs.Plan.{planOf, planTrialRefusal, planRungRefusal, 
 use Rattle.table.proofs.Places.{own-exit}
 use Rattle.table.proofs.Links.{sound-wired, used-below, exit-linked, linked-used, linked-below, holds-target}
 use Rattle.table.proofs.Plan.{plan-contact, plan-goes-on}
-use Rattle.table.proofs.Calls.{nonzero, first-passed, passed-next, table-fits, unsound-refused, past-sound, listing-made, listing-refused, listing-refusal, trial-made, trial-refusal}
+use Rattle.table.proofs.Calls.{nonzero, first-passed, passed-next, table-fits, unsound-refused, past-sound, listing-made, listing-refused, listing-refusal, trial-made, trial-refused, trial-refusal}
 use Rattle.table.proofs.Trials.{results-at, try-spent, try-open, try-stopped, try-move, trial-fit, trial-demand}
 
 -- what the call lists of a table
@@ -341,11 +341,19 @@ module _ {t : Table} (s : Sound t) where
       end d start = absurd (d refl)
       end {j} d (then {b = b} q l) = linked-used (sound-wired s) b j (goes-linked t b j l) .1
 
+  -- a trial that makes a move is not refused
+  made-accepted : (limit : ℕ) (results trace : List ℕ) (m : ℕ) → m < movesOf (trialCall t limit results trace .answer) → trialRefusal t limit results trace ≡ 0
+  unfolding movesOf
+  made-accepted limit results trace m l =
+      ⊎-elim (λ z. z)
+      (λ (d : trialRefusal t limit results trace ≡ 0 → ⊥). let l′ : m < 0 = rw (trial-refused t limit results trace d) at l in absurd (omega arith))
+      (eq-or-ne (trialRefusal t limit results trace) 0)
+
   -- what a trial enters, by the row that it made
   entering-paid : {limit : ℕ} {results trace : List ℕ} {k : ℕ} → Entering t limit results trace k →
       (k ≡ 0 → ⊥) × ((n : ℕ) × (r : ℕ) × (r ≤ length results) × Paid t 0 k n r)
   entering-paid {limit} {results} {trace} {k} x =
-      let z = x .accepted in
+      let z = made-accepted limit results trace (x .move) (x .made) in
       let d = trial-demand t limit results trace z in
       let fit = trial-fit t limit results trace z .0 in
       let o = trialCall t limit results trace in
@@ -379,7 +387,7 @@ module _ {t : Table} (s : Sound t) where
       let moves : movesOf (o .answer) ≡ suc n = omega (arith, y .0) in
       let end : stepAfter (o .trace) (suc n) ≡ k =
       ap (stepAfter (o .trace)) (sym moves) ∙ sym (trial-demand t (suc n) (x .results) trace z .last) ∙ y .1 in
-      record { accepted = z; move = n; made = omega arith; byte = end }
+      record { move = n; made = omega arith; byte = end }
 
   -- step 0 is no contact, so that a row from it has a move that uses up no result
   alarm-free : isContact t 0 ≡ false
@@ -411,7 +419,7 @@ module _ {t : Table} (s : Sound t) where
         most = omega (arith, y .1, c .1, p .1);
         enters = led-enters k (y .0) (fewest t k) d x;
         fewest = λ other more trace z. let q = entering-paid z .1 in let f = fewest-most s (q .3) in omega (arith, q .2);
-        each = omega (arith, c .1, p .1);
+        few = omega (arith, c .1, p .1);
       }
 
 -- The call: refused, or made with room for the list.
