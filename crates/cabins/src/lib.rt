@@ -1,4 +1,7 @@
 // Quotas and charges of the cabins that share a table (document 02, W5).
+
+#![tactic(auto)]
+
 ghost use Rattle.std.specs.Prelude.{◌≡◌, ◌+◌, ◌-◌, ◌≤◌, ◌<◌};
 ghost use Rattle.finite.specs.Below.{total};
 ghost use Rattle.table.specs.Table.{cabin_count};

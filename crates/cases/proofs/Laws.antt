@@ -36,6 +36,7 @@ done_same d r p =
 
 facts_hold_lem : (t : Table) (d : Done) (fs : List Fact) → facts_hold t d fs ≡ true → (f : Fact) → Memᴰ f fs → Holds t d f
 unfolding facts_hold
+facts_hold_lem t d [] p f m = elim m [ ]
 facts_hold_lem t d ((l is ns) ∷ fs) p f (Memᴰ.head e) =
     subst (Holds t d) (sym e) (same_true (seen t d l) ns (and_left (same (seen t d l) ns) (facts_hold t d fs) p))
 facts_hold_lem t d ((l is ns) ∷ fs) p f (Memᴰ.tail m) =
@@ -85,6 +86,7 @@ run_shown t (y ∷ before) x after p =
 
 run_at : (rs : List Run) → every_run rs ≡ true → (r : Run) → Memᴰ r rs → walk r.table r.entries ≡ true
 unfolding every_run
+run_at [] p r m = elim m [ ]
 run_at (s ∷ rs) p r (Memᴰ.head e) =
     subst (λ (q : Run). walk q.table q.entries ≡ true) (sym e)
     (and_left (walk s.table s.entries) (every_run rs) p)

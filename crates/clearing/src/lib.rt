@@ -1,4 +1,7 @@
 // Clear: an exit of a step is emptied, and the steps that no chain of links reaches any more are freed. Preview: which steps those would be.
+
+#![tactic(auto)]
+
 ghost use Rattle.std.specs.Prelude.{◌≡◌, not, ◌++◌, ◌≤◌, length, drop};
 ghost use Rattle.table.specs.Sound.{Sound};
 ghost use Rattle.table.specs.Answer.{steps_room};

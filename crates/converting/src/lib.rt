@@ -1,5 +1,8 @@
 // An image of one edition converted to the other (document 02, W6). What is said of the calls is in the crate image. An edition is a bool, `newer`:
 // true for edition 2.
+
+#![tactic(auto)]
+
 ghost use Rattle.std.specs.Prelude.{◌≡◌, true};
 ghost use Rattle.table.specs.Sound.{sound};
 ghost use Rattle.image.specs.Image.{edition1, edition2};

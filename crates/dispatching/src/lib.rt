@@ -1,5 +1,8 @@
 // The calls on a dispatcher (document 02, W11): an array of words that is lent to every call, sixteen for the cabins and one for the cabin last served.
 // Any words may stand in it.
+
+#![tactic(auto)]
+
 ghost use Rattle.std.specs.Prelude.{◌≡◌, ◌<◌, length};
 ghost use Rattle.table.specs.Answer.{first};
 ghost use Rattle.line.specs.Line.{line_cabins, dispatcher_words, around, next_cabin, fresh, raise, withdraw, next, cabin_tests, line_call, dispatcher_of, line_words_of};

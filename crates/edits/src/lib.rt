@@ -1,4 +1,7 @@
 // The calls fresh, read, add, link and counts on a lent table (document 01, "Calls", "Keys"; document 02, W5).
+
+#![tactic(auto)]
+
 ghost use Rattle.std.specs.Prelude.{◌≡◌, not, ◌≤◌, ◌<◌};
 ghost use Rattle.table.specs.Table.{places, in_use};
 ghost use Rattle.table.specs.Sound.{Sound};

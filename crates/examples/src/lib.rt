@@ -1,1 +1,3 @@
 // Examples of calls, and no code.
+
+#![tactic(auto)]

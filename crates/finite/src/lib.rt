@@ -1,1 +1,3 @@
 // Tests, counts, searches and chains over the numbers below a bound: definitions and their laws, and no code.
+
+#![tactic(auto)]

@@ -1,1 +1,3 @@
 // Histories of calls: definitions, their laws and the claims, and no code.
+
+#![tactic(auto)]

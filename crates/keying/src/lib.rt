@@ -1,4 +1,7 @@
 // Key lines: the decoder, and the call that a key line makes (document 01, "Keys").
+
+#![tactic(auto)]
+
 ghost use Rattle.std.specs.Prelude.{◌≡◌, true, ℕ, ◌+◌, ◌-◌, ◌≤◌, ◌<◌, length, get_or};
 ghost use Rattle.finite.specs.Below.{all};
 ghost use Rattle.words.specs.Words.{table_of, words_of};

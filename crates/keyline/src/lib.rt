@@ -1,5 +1,7 @@
 // What a key line is decoded to. All that is said of it is in specs/.
 
+#![tactic(auto)]
+
 // The call that a key line makes, with its arguments in the order of the keys.
 #[derive(Drop)]
 pub enum Command {

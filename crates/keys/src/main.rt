@@ -1,5 +1,8 @@
 // The program `keys`: it answers each line of its input with a line (document 01, "Keys"). What it reads and writes no contract can say; the work
 // is done by the crate `session`, whose contracts say it for each block.
+
+#![tactic(auto)]
+
 ghost use Rattle.std.specs.Prelude.{◌≡◌, ◌≤◌, length};
 ghost use Rattle.session.specs.Session.{kept_most};
 

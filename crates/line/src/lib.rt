@@ -1,1 +1,3 @@
 // Sixteen cabins on one line: definitions and their laws, and no code.
+
+#![tactic(auto)]

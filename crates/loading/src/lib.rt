@@ -1,5 +1,8 @@
 // The call load image (document 01, "Image"; document 02, W5: two editions; W9). What is said of it is in the crate image. An edition is a bool,
 // `newer`: true for edition 2; that of an image is its header's.
+
+#![tactic(auto)]
+
 ghost use Rattle.std.specs.Prelude.{◌≡◌, true, ◌&&◌, ◌≤◌, length};
 ghost use Rattle.table.specs.Table.{with_numbers};
 ghost use Rattle.table.specs.Sound.{sound};

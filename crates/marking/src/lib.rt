@@ -1,4 +1,7 @@
 // Marks of steps, one for each place: how many there are, and the numbers of the marked steps as a list of bytes.
+
+#![tactic(auto)]
+
 ghost use Rattle.std.specs.Prelude.{◌≡◌, ◌++◌, ◌≤◌, length, drop};
 ghost use Rattle.finite.specs.Below.{count, those};
 ghost use Rattle.table.specs.Table.{places};

@@ -1,5 +1,8 @@
 // The pairs of records of a slip: the old and the new record of each step that differs in two tables, written and compared (document 02, W7). What they
 // are is in the crate image. The records are of edition 2; an edition is a bool, true for edition 2.
+
+#![tactic(auto)]
+
 ghost use Rattle.std.specs.Prelude.{◌≡◌, ◌++◌, ◌*◌, ◌<◌, ◌≤◌, length, take, drop};
 ghost use Rattle.finite.specs.Below.{count, same};
 ghost use Rattle.table.specs.Table.{places};

@@ -1,6 +1,9 @@
 // What stands between a step record and a table (document 01, "Image"; document 02, W5 and W9): the record of a step, a record put in place, the counters
 // worked out from the links, and the contents of edition 1. What is said of them is in the crate image; the records are of edition 2. They serve the image
 // and the slips.
+
+#![tactic(auto)]
+
 ghost use Rattle.std.specs.Prelude.{◌≡◌, true, not, ℕ, ◌+◌, ◌*◌, ◌<◌, ◌≤◌, get_or, replicate};
 ghost use Rattle.finite.specs.Below.{one};
 ghost use Rattle.table.specs.Table.{places, counters};

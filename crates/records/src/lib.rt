@@ -1,5 +1,8 @@
 // The records of an image, in bytes: a header and step records, of either edition, put and read (document 01, "Image"; document 02, W5). An edition is
 // a bool, `newer`: true for edition 2. What is said of the functions is in specs/.
+
+#![tactic(auto)]
+
 ghost use Rattle.std.specs.Prelude.{◌≡◌, true, ◌&&◌, [], ◌∷◌, ◌++◌, ◌+◌, ◌≤◌, length, drop, eqb};
 ghost use Rattle.image.specs.Image.{edition2, record_bytes, record_size, header_kind_of, header_field_count, step_kind_of, step_field_count, image_size, word_at, capacity_in, quotas_by};
 ghost use Rattle.records.specs.Records.{edition_of, newer_in, put_words, added, record_fields, cabin_at, step_read, read_step, read_header};

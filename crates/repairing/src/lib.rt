@@ -1,4 +1,7 @@
 // Rules 3 and 4 of clearing on the lent table: doubtful steps are taken back; those still doubtful are freed. For a preview: which steps would stay.
+
+#![tactic(auto)]
+
 ghost use Rattle.std.specs.Prelude.{◌≡◌, ◌+◌, ◌<◌, length, set};
 ghost use Rattle.table.specs.Table.{Table, places, exits_of, linked};
 ghost use Rattle.table.specs.Sound.{Formed};

@@ -1,4 +1,7 @@
 // Who can be rung: the steps that some trial enters, found from step 0 outward. Each step is met once, and each of its exits is read once.
+
+#![tactic(auto)]
+
 ghost use Rattle.std.specs.Prelude.{◌≡◌, ◌&&◌, ℕ, ◌≤◌, ◌<◌, length, replicate};
 ghost use Rattle.finite.specs.Below.{count};
 ghost use Rattle.table.specs.Answer.{steps_room};

@@ -1,1 +1,3 @@
 // Examples of images and slips, byte by byte, and no code.
+
+#![tactic(auto)]

@@ -1,4 +1,7 @@
 // A session of the program `keys`: bytes go in by blocks, and a line of answer comes out for each line (document 01, "Keys").
+
+#![tactic(auto)]
+
 ghost use Rattle.std.specs.Prelude.{◌≡◌, List, [], ◌∷◌, ℕ, ◌+◌, ◌*◌, ◌≤◌, ◌<◌, length, take};
 ghost use Rattle.std.proofs.lemmas.List.Edits.{sets};
 ghost use Rattle.words.specs.Words.{table_of};

@@ -1,5 +1,8 @@
 // A clearing that writes a slip, and the slip taken back (document 02, W7). What is said of the calls is in the crate image, and of the functions
 // inside in specs/. A slip has records of edition 2; an edition is a bool, true for edition 2.
+
+#![tactic(auto)]
+
 ghost use Rattle.std.specs.Prelude.{◌≡◌, true, ◌++◌, ◌≤◌, length, drop};
 ghost use Rattle.finite.specs.Below.{count, same};
 ghost use Rattle.table.specs.Sound.{sound};

@@ -1,4 +1,7 @@
 // The soundness test: passes over whole arrays that count what does not fit, then the counters and the strong links by one search.
+
+#![tactic(auto)]
+
 ghost use Rattle.std.specs.Prelude.{◌≡◌, false, true, not, ◌&&◌, ◌*◌, ◌-◌, ◌≤◌, get_or, set, eqb};
 ghost use Rattle.finite.specs.Below.{one, total, tabulate};
 ghost use Rattle.table.specs.Table.{places, exit_places, counters, cabin_count};

@@ -1,5 +1,8 @@
 // Squeeze: a plan is moved to another capacity and other quotas, on the lent table (document 02, W2 and W5). The steps in use get the lowest numbers, in
 // their old order. The table is written in place: no step moves up, so in ascending order no step is overwritten before it has moved.
+
+#![tactic(auto)]
+
 ghost use Rattle.std.specs.Prelude.{◌≡◌, ◌<◌, get_or};
 ghost use Rattle.finite.specs.Below.{tabulate};
 ghost use Rattle.table.specs.Table.{places};

@@ -1,5 +1,8 @@
 // What the calls share below them (document 01, "Calls"; document 02, W5): a fresh table, what a refused fresh or load leaves, what is asked of a step and
 // its exit, the fields of a step, and how many steps are in use. Nothing here asks whether the table is sound.
+
+#![tactic(auto)]
+
 ghost use Rattle.std.specs.Prelude.{◌≡◌, true, ◌≤◌, ◌<◌};
 ghost use Rattle.table.specs.Table.{places, exits, in_use, holds, steps_in_use};
 ghost use Rattle.table.specs.Calls.{fresh_table, refused_table, fields_of, no_fields};

@@ -153,7 +153,7 @@ Among xs x = Memᴰ x xs × Own x
 left_all : {t u : Table} {P : Exit → Type 0} (xs : List Exit) → Left t P u → Left t (λ x. P x ⊎ Among xs x) (clear_all u xs)
 unfolding clear_all
 left_all [] l = left_iff (λ x. ((λ p. inl p), ⊎_elim (λ p. p) (λ m. absurd (Memᴰ.not-nil m.0)))) l
-left_all {t} {u} {P} (x ∷ xs) l = left_iff (λ y. (to y, from y)) (left_all xs (left_clear l x.0 x.1))
+left_all {t} {u} {P} (x ∷ xs) l = left_iff (λ y. (to y, from y)) (left_all {u = (clear_call u x.0 x.1).table} xs (left_clear l x.0 x.1))
   where
     to : (y : Exit) → (P y ⊎ ((y ≡ x) × Own y)) ⊎ Among xs y → P y ⊎ Among (x ∷ xs) y
     to y = ⊎_elim (⊎_elim (λ p. inl p) (λ q. inr (Memᴰ.head q.0, q.1))) (λ m. inr (Memᴰ.tail m.0, m.1))
@@ -222,7 +222,7 @@ freed_all : {u : Table} → Sound u → (xs : List Exit) → steps_in_use (clear
 unfolding clear_all freed_sum
 freed_all s [] = omega arith
 freed_all {u} s (x ∷ xs) =
-    let rest = freed_all (left_clear (none_cleared s) x.0 x.1).sound xs in
+    let rest = freed_all {u = (clear_call u x.0 x.1).table} (left_clear (none_cleared s) x.0 x.1).sound xs in
     let one : steps_in_use (clear_at u x).table + second_of (clear_at u x).answer ≡ steps_in_use u =
     ⊎_elim
     (λ (z : clear_refusal u x.0 x.1 ≡ 0). rw (clear_made u x.0 x.1 z) (clear_fall s x.0 x.1 (clear_fits u x.0 x.1 z)))

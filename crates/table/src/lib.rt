@@ -1,5 +1,7 @@
 // What the calls answer. The table itself stands in memory as words (crate `words`). All that is said of them is in specs/.
 
+#![tactic(auto)]
+
 // The answer of a call: the number of its refusal, or two numbers.
 #[derive(Drop)]
 pub enum Answer {

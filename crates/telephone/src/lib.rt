@@ -1,6 +1,9 @@
 // The calls of documents 01 and 02 as exported functions, for C and Rust. A table is an array of words that the caller owns and lends; a call that
 // changes it writes it in place. Any words may stand in it; so it is with a dispatcher. Each function makes one proved call and gives its answer by the
 // paper's numbers.
+
+#![tactic(auto)]
+
 ghost use Rattle.std.specs.Prelude.{◌≡◌, cond, ◌≤◌};
 ghost use Rattle.table.specs.Cabins.{sole_quotas};
 ghost use Rattle.table.specs.Sound.{sound};

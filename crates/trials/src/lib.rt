@@ -1,4 +1,7 @@
 // Trials: a plan is followed from step 0 and the steps entered are written into a lent trace (document 02, W3; document 01, "Calls").
+
+#![tactic(auto)]
+
 ghost use Rattle.std.specs.Prelude.{◌≡◌, true, ◌≤◌, length};
 ghost use Rattle.table.specs.Sound.{Sound};
 ghost use Rattle.table.specs.Answer.{moves_of};

@@ -1,5 +1,8 @@
 // The search by withdrawing, on a copy of the counters: withdrawing a step and withdrawing an exit call each other. It serves rule 2 of clearing,
 // with the first candidates of rule 3, and the soundness test.
+
+#![tactic(auto)]
+
 ghost use Rattle.std.specs.Prelude.{◌≡◌, List, ℕ, ◌*◌, ◌<◌, get_or, replicate, eqb};
 ghost use Rattle.finite.specs.Below.{one, all, tabulate};
 ghost use Rattle.finite.specs.Reach.{marked};

@@ -1,5 +1,8 @@
 // A table as an array of words that is lent to every call: which word is which field, the numbers that the documents give, and the reading and
 // writing of single fields. The one place that changes a link, with its counters, is `relink`.
+
+#![tactic(auto)]
+
 ghost use Rattle.std.specs.Prelude.{◌≡◌, ◌*◌, ◌≤◌, ◌<◌, length, get_or, set, replicate};
 ghost use Rattle.std.proofs.lemmas.List.Edits.{sets};
 ghost use Rattle.table.specs.Table.{places, exits_of, exit_places, counters, quota_numbers, exit_place, in_use, kind_of, content_of, own_bit, cabin_of, target_of, link_bit, counter_of, with_links, with_steps, with_numbers};

@@ -1,5 +1,8 @@
 // The call write image, and the length of the image by itself (document 01, "Image"; document 02, W1 and W5). What is said of them is in the crate
 // image. An edition is a bool, `newer`: true for edition 2.
+
+#![tactic(auto)]
+
 ghost use Rattle.std.specs.Prelude.{◌≡◌, true, ◌++◌, ◌≤◌, length, drop};
 ghost use Rattle.table.specs.Table.{steps_in_use};
 ghost use Rattle.table.specs.Sound.{sound};
