@@ -15,8 +15,7 @@ use Rattle.table.specs.Table.{places}
 use Rattle.table.proofs.Edits.{get_or_zeros}
 use Rattle.words.specs.Words.{table_of}
 use Rattle.withdraw.specs.Search.{still_linked}
-use Rattle.withdraw.proofs.mark_wanted.Statement.{statement}
-use Rattle.withdraw.proofs.mark_wanted.Tie as tie
+use Rattle.withdraw.proofs.mark_wanted.Goals as goal
 
 record MarkedBelow (passes : ℕ → Bool) (wanted : List ℕ) (k : ℕ) : Type 0 where
   size : length wanted ≡ places
@@ -51,42 +50,33 @@ module _ (passes : ℕ → Bool) (wanted : List ℕ) where
     marked_all : k ≡ places → wanted ≡ tabulate places (λ i. one (passes i))
     marked_all e = sym (tabulate_entries places _ wanted 0 m.size (λ i l. sym (m.below i (omega arith))))
 
-abbrev invariant-loop : tie.invariant-loop
-invariant-loop t left doubt wanted₀ k₀ wanted k = (k ≤ places) × MarkedBelow (still_linked (table_of t) left doubt) wanted k
+pub loop-k-init : goal.loop-k-init
+loop-k-init c = (omega arith, marked_none _ _ c.requires.1)
 
-abbrev decreases-loop : tie.decreases-loop
-decreases-loop t left doubt wanted₀ k₀ wanted k = places - k
+pub still_linked-requires : goal.still_linked-requires
+still_linked-requires c = (c.loop-k-test.true, c.requires.0)
 
-loop-holds : tie.Need-loop-init invariant-loop decreases-loop
-loop-holds c = (omega arith, marked_none _ _ c.requires.1)
-
-still-linked-requires : tie.Need-still-linked-requires invariant-loop decreases-loop
-still-linked-requires c κs = (c.loop-test.true, c.before.before.requires.0)
-
-loop-again : tie.Need-loop-preserved invariant-loop decreases-loop
-loop-again c =
-    let loop = c.before.before.before.loop in
-    let test = c.before.still-linked.ensures in
-    let low = c.before.before.loop-test.true in
+pub loop-k-preserved : goal.loop-k-preserved
+loop-k-preserved c =
+    let loop = c.loop-k in
+    let test = c.still_linked.ensures in
+    let low = c.loop-k-test.true in
     ⊎_elim
     (λ w. (omega arith, rw w.1 (marked_hit _ loop.wanted loop.k loop.invariant.1 low test w.0.taken)))
     (λ w. (omega arith, rw w.1 (marked_miss _ loop.wanted loop.k loop.invariant.1 test w.0.left)))
-    c.if1.branch
+    c.if-still_linked.branch
 
-returns : tie.Need-returns invariant-loop decreases-loop
-returns c = let loop = c.before.loop in marked_all _ loop.wanted loop.k loop.invariant.1 (omega arith)
+pub returns : goal.returns
+returns c = let loop = c.loop-k in marked_all _ loop.wanted loop.k loop.invariant.1 (omega arith)
 
-pub mark-wanted-spec : {M : Type 1} → statement M
-mark-wanted-spec =
-    tie.close
-    (tie.spec
-    invariant-loop
-    decreases-loop
-    loop-holds
-    still-linked-requires
-    (λ c. omega arith)
-    (λ c. omega arith)
-    (λ c. omega arith)
-    (λ c. omega arith)
-    loop-again
-    returns)
+pub offset_bounds-wanted-k : goal.offset_bounds-wanted-k
+offset_bounds-wanted-k c = omega arith
+
+pub bounds-wanted-k : goal.bounds-wanted-k
+bounds-wanted-k c = omega arith
+
+pub overflow_add-k : goal.overflow_add-k
+overflow_add-k c = omega arith
+
+pub loop-k-smaller : goal.loop-k-smaller
+loop-k-smaller c = omega arith

@@ -11,8 +11,7 @@ use lib.Dec.{eqb}
 use Rattle.table.specs.Table.{Table, counters, counter_place, own_bit}
 use Rattle.words.specs.Marks.{is_marked}
 use Rattle.withdraw.specs.Search.{other_slot, still_linked}
-use Rattle.withdraw.proofs.still_linked.Statement.{statement}
-use Rattle.withdraw.proofs.still_linked.Tie as tie
+use Rattle.withdraw.proofs.still_linked.Goals as goal
 
 module _ (t : Table) (left marks : List ℕ) (k : ℕ) where
   not_marked : (get_or marks k 0 ≡ 1 → ⊥) → false ≡ still_linked t left marks k
@@ -23,30 +22,17 @@ module _ (t : Table) (left marks : List ℕ) (k : ℕ) where
   unfolding still_linked is_marked other_slot counter_place
   other_left b m e = rw (eq-eqb _ _ m, e)
 
-sub_wide : tie.Need-overflow-sub-wide
-sub_wide c =
-    let s = c.before.before.before in
+pub overflow_sub-own_at : goal.overflow_sub-own_at
+overflow_sub-own_at c =
+    let s = c in
     let low = s.requires.1.own s.args.k in
     let own = c.own_at.ensures in
     omega arith
 
-returns-2 : tie.Need-returns-2
-returns-2 c =
-    let b = c.before.wide.ensures ∙ ap (λ (x : ℕ). 1 - x) c.before.before.own_at.ensures in
-    other_left _ _ _ _ _ c.before.before.before.if1.false b
+pub returns : goal.returns
+returns c =
+    let b = c.wide.ensures ∙ ap (λ (x : ℕ). 1 - x) c.own_at.ensures in
+    other_left _ _ _ _ _ c.if-doubt-k-ne1.false b
 
-pub still-linked-spec : {M : Type 1} → statement M
-still-linked-spec =
-    tie.close
-    (tie.spec
-    (λ c. search rules)
-    (λ c. search rules)
-    (λ c. not_marked _ _ _ _ c.if1.true)
-    (λ c. search rules)
-    (λ c κs. search rules)
-    sub_wide
-    (λ c κs. search rules)
-    (λ c. search rules)
-    (λ c. search rules)
-    (λ c. search rules)
-    returns-2)
+pub returns-then-doubt-k-ne1 : goal.returns-then-doubt-k-ne1
+returns-then-doubt-k-ne1 c = not_marked _ _ _ _ c.if-doubt-k-ne1.true

@@ -11,11 +11,8 @@ use Rattle.finite.proofs.Select.{tabulate_entries}
 use Rattle.table.specs.Table.{places, counters}
 use Rattle.words.specs.Words.{table_of}
 use Rattle.words.proofs.Laws.{shape_table}
-use Rattle.withdraw.proofs.counters_of.Statement.{statement}
-use Rattle.withdraw.proofs.counters_of.Tie as tie
-
-Copied : List ℕ → List ℕ → ℕ → Type 0
-Copied counts left q = (k : ℕ) → k < q → get_or left k 0 ≡ get_or counts k 0
+use Rattle.withdraw.proofs.counters_of.Invariants.{Copied}
+use Rattle.withdraw.proofs.counters_of.Goals as goal
 
 copied_more : (counts left : List ℕ) (q v : ℕ) → q < length left → Copied counts left q → v ≡ get_or counts q 0 → Copied counts (set left q v) (q + 1)
 unfolding Copied
@@ -30,41 +27,34 @@ copied_all counts left n q ll lc e w =
     sym (tabulate_entries n (λ k. get_or counts k 0) left 0 ll (λ k l. sym (w k (rw e l)))) ∙
     tabulate_entries n (λ k. get_or counts k 0) counts 0 lc (λ k l. refl)
 
-abbrev invariant-loop : tie.invariant-loop
-invariant-loop t left₀ q₀ left q = (q ≤ places * counters) × (length left ≡ places * counters) × Copied (table_of t).counts left q
-
-abbrev decreases-loop : tie.decreases-loop
-decreases-loop t left₀ q₀ left q = places * counters - q
-
-loop-holds : tie.Need-loop-init invariant-loop decreases-loop
+pub loop-q-init : goal.loop-q-init
 unfolding Copied
-loop-holds c = (omega arith, refl, λ k l. absurd (omega arith))
+loop-q-init c = (omega arith, refl, λ k l. absurd (omega arith))
 
-loop-again : tie.Need-loop-preserved invariant-loop decreases-loop
-loop-again c =
-    let loop = c.before.before.loop in (
+pub loop-q-preserved : goal.loop-q-preserved
+loop-q-preserved c =
+    let loop = c.loop-q in (
       omega arith,
       length-set loop.left _ _ ∙ loop.invariant.1,
-      copied_more _ _ _ _ (omega (arith, loop.invariant.1)) loop.invariant.2 c.count-in.ensures,
+      copied_more _ _ _ _ (omega (arith, loop.invariant.1)) loop.invariant.2 c.count_in.ensures,
     )
 
-returns : tie.Need-returns invariant-loop decreases-loop
+pub returns : goal.returns
 returns c =
-    let loop = c.before.loop in
-    copied_all _ _ (places * counters) _ loop.invariant.1 (shape_table _ c.before.before.sized.ensures).counts (omega arith) loop.invariant.2
+    let loop = c.loop-q in
+    copied_all _ _ (places * counters) _ loop.invariant.1 (shape_table _ c.sized.ensures).counts (omega arith) loop.invariant.2
 
-pub counters-of-spec : {M : Type 1} → statement M
-counters-of-spec =
-    tie.close
-    (tie.spec
-    invariant-loop
-    decreases-loop
-    (λ c κs. search rules)
-    loop-holds
-    (λ c κs. omega arith)
-    (λ c. omega arith)
-    (λ c. omega arith)
-    (λ c. omega arith)
-    (λ c. omega arith)
-    loop-again
-    returns)
+pub count_in-requires : goal.count_in-requires
+count_in-requires c = omega arith
+
+pub offset_bounds-left-q : goal.offset_bounds-left-q
+offset_bounds-left-q c = omega arith
+
+pub bounds-left-q : goal.bounds-left-q
+bounds-left-q c = omega arith
+
+pub overflow_add-q : goal.overflow_add-q
+overflow_add-q c = omega arith
+
+pub loop-q-smaller : goal.loop-q-smaller
+loop-q-smaller c = omega arith

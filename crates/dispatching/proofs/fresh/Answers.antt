@@ -3,12 +3,11 @@ use mathlib.Core.Path.{refl}
 use borrow.Author.Rules.{rules}
 use Rattle.table.specs.Answer.{first}
 use Rattle.line.specs.Line.{fresh_dispatcher, line_row, line_call, line_words_of}
-use Rattle.dispatching.proofs.fresh.Statement.{statement}
-use Rattle.dispatching.proofs.fresh.Tie as tie
+use Rattle.dispatching.proofs.fresh.Goals as goal
 
-returns : tie.Need-returns
+pub returns : goal.returns
 unfolding first fresh_dispatcher line_row line_call line_words_of
-returns c = (refl, refl)
-
-pub fresh-spec : {M : Type 1} → statement M
-fresh-spec = tie.close (tie.spec (λ c. search rules) returns)
+returns c = record {
+      answer = refl;
+      words = refl;
+    }

@@ -8,16 +8,12 @@ use lib.ListN.{replicate}
 use Rattle.table.specs.Table.{quota_numbers}
 use Rattle.table.specs.Cabins.{sole_quotas}
 use borrow.Author.Rules.{rules}
-use Rattle.cabins.proofs.sole_quotas.Statement.{statement}
-use Rattle.cabins.proofs.sole_quotas.Tie as tie
+use Rattle.cabins.proofs.sole_quotas.Goals as goal
 
-returns : tie.Need-returns
+pub returns : goal.returns
 unfolding sole_quotas
 returns c =
-    let capacity = c.before.args.capacity in
-    let most : c.if1.most ≡ capacity - 1 =
-    ⊎_elim (λ w. omega (arith, w.0.taken, w.1)) (λ w. w.1) c.if1.branch in
+    let capacity = c.args.capacity in
+    let most : c.if-capacity-eq0.most ≡ capacity - 1 =
+    ⊎_elim (λ w. omega (arith, w.0.taken, w.1)) (λ w. w.1) c.if-capacity-eq0.branch in
     ap (λ (n : ℕ). n ∷ n ∷ replicate (quota_numbers - 2) 0) most
-
-pub sole-quotas-spec : {M : Type 1} → statement M
-sole-quotas-spec = tie.close (tie.spec (λ c. search rules) (λ c. search rules) (λ c. search rules) returns)

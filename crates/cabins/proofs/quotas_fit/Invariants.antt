@@ -1,0 +1,21 @@
+use mathlib.Core.Path.{◌≡◌, refl, sym, ◌∙◌, ap, ap₂}
+use mathlib.Core.Bool.{true}
+use Prim.Native.Nat.{ℕ, ◌+◌, ◌*◌, ◌-◌, ◌≤◌, ◌<◌}
+use native.Mathlib.Omega.{arith}
+use lib.Dec.{leb, ltb}
+use borrow.Author.Rules.{rules}
+use borrow.Author.Tests.{leb-true, le-leb, ltb-true, lt-ltb, lt-leb}
+use Rattle.finite.specs.Below.{all, total}
+use Rattle.finite.proofs.Bools.{same_test}
+use Rattle.finite.proofs.Loops.{all_none, all_more, all_fails, all_done}
+use Rattle.finite.proofs.Totals.{total_next}
+use Rattle.table.specs.Table.{cabin_count}
+use Rattle.table.specs.Cabins.{guarantee_of, limit_of, quotas_fit}
+use Rattle.cabins.proofs.quotas_fit.Given as goal
+
+abbrev pub invariant-loop-c : goal.invariant-loop-c
+invariant-loop-c l =
+    (l.c ≤ cabin_count) × (l.sum ≤ l.c * 65535) × (l.sum ≡ total l.c (guarantee_of l.quotas)) × (all l.c (λ k. leb (guarantee_of l.quotas k) (limit_of l.quotas k)) ≡ true)
+
+abbrev pub decreases-loop-c : goal.decreases-loop-c
+decreases-loop-c l = cabin_count - l.c
