@@ -1,6 +1,6 @@
 -- `cabins::share_refusal` meets its contract. Assumes nothing.
 use mathlib.Core.Path.{◌≡◌, sym, ◌∙◌}
-use Prim.Native.Nat.{◌+◌, ◌≤◌, ◌<◌}
+use Prim.Native.Nat.{ℕ, ◌+◌, ◌≤◌, ◌<◌}
 use native.Mathlib.Omega.{arith}
 use lib.ListN.{get_or}
 use borrow.Author.Rules.{rules}
@@ -17,39 +17,30 @@ unfolding share_refusal first at_limit
 returns-then-charge-limit_in c = rw (eq-eqb _ _ (c.if-charge-limit_in.true ∙ c.limit_in.ensures))
 
 -- the cabin is not at its limit
-below : (c : goal.Else-charge-limit_in) →
-    let a = c.args in
-    get_or a.charges.now a.c 0 ≡ limit_of a.quotas.now a.c → ⊥
-below c e = c.if-charge-limit_in.false (e ∙ sym c.limit_in.ensures)
+below : {x y z : ℕ} → (x ≡ y → ⊥) → y ≡ z → x ≡ z → ⊥
+below f e h = f (h ∙ sym e)
 
 pub returns-then-charge-guarantee_in : goal.returns-then-charge-guarantee_in
 unfolding share_refusal first at_limit
 returns-then-charge-guarantee_in c =
-    let e = c in
-    let a = e.args in
-    let low : get_or a.charges.now a.c 0 < guarantee_of a.quotas.now a.c = omega (arith, c.if-charge-guarantee_in.true, c.guarantee_in.ensures) in
-    rw (ne_eqb _ _ (below e), lt-leb _ _ low)
-
--- and not below its guarantee
-beyond : (c : goal.Else-charge-guarantee_in) →
     let a = c.args in
-    guarantee_of a.quotas.now a.c ≤ get_or a.charges.now a.c 0
-beyond c = omega (arith, c.if-charge-guarantee_in.false, c.guarantee_in.ensures)
+    let low : get_or a.charges.now a.c 0 < guarantee_of a.quotas.now a.c = omega (arith, c.if-charge-guarantee_in.true, c.guarantee_in.ensures) in
+    rw (ne_eqb _ _ (below c.if-charge-limit_in.false c.limit_in.ensures), lt-leb _ _ low)
 
 pub returns-then-capacity-shared : goal.returns-then-capacity-shared
 unfolding share_refusal first at_limit
 returns-then-capacity-shared c =
-    let e = c in
-    let a = e.args in
+    let a = c.args in
     let q = a.quotas.now in
+    let beyond : guarantee_of q a.c ≤ get_or a.charges.now a.c 0 = omega (arith, c.if-charge-guarantee_in.false, c.guarantee_in.ensures) in
     let none : a.capacity ≤ total cabin_count (share q (given a.charges.now)) + 1 = omega (arith, c.if-capacity-shared.true, c.shared.ensures.sum) in
-    rw (ne_eqb _ _ (below e), le-leb _ _ (beyond e), le-leb _ _ none)
+    rw (ne_eqb _ _ (below c.if-charge-limit_in.false c.limit_in.ensures), le-leb _ _ beyond, le-leb _ _ none)
 
 pub returns : goal.returns
 unfolding share_refusal first at_limit
 returns c =
-    let e = c in
-    let a = e.args in
+    let a = c.args in
     let q = a.quotas.now in
+    let beyond : guarantee_of q a.c ≤ get_or a.charges.now a.c 0 = omega (arith, c.if-charge-guarantee_in.false, c.guarantee_in.ensures) in
     let some : total cabin_count (share q (given a.charges.now)) + 1 < a.capacity = omega (arith, c.if-capacity-shared.false, c.shared.ensures.sum) in
-    rw (ne_eqb _ _ (below e), le-leb _ _ (beyond e), lt-leb _ _ some)
+    rw (ne_eqb _ _ (below c.if-charge-limit_in.false c.limit_in.ensures), le-leb _ _ beyond, lt-leb _ _ some)

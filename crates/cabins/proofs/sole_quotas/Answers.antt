@@ -1,6 +1,5 @@
 -- `cabins::sole_quotas` meets its contract. Assumes nothing.
 use mathlib.Core.Path.{◌≡◌, ap}
-use mathlib.Core.Logic.{⊎_elim}
 use mathlib.Core.List.{◌∷◌}
 use Prim.Native.Nat.{ℕ, ◌-◌}
 use native.Mathlib.Omega.{arith}
@@ -9,11 +8,12 @@ use Rattle.table.specs.Table.{quota_numbers}
 use Rattle.table.specs.Cabins.{sole_quotas}
 use borrow.Author.Rules.{rules}
 use Rattle.cabins.proofs.sole_quotas.Goals as goal
+use Rattle.cabins.proofs.sole_quotas.Goals.{then-capacity-eq0, else-capacity-eq0}
 
 pub returns : goal.returns
 unfolding sole_quotas
 returns c =
     let capacity = c.args.capacity in
     let most : c.if-capacity-eq0.most ≡ capacity - 1 =
-    ⊎_elim (λ w. omega (arith, w.0.taken, w.1)) (λ w. w.1) c.if-capacity-eq0.branch in
+    elim c.if-capacity-eq0.branch [ then-capacity-eq0 w ↦ omega arith | else-capacity-eq0 w ↦ omega arith ] in
     ap (λ (n : ℕ). n ∷ n ∷ replicate (quota_numbers - 2) 0) most

@@ -9,6 +9,7 @@ use Rattle.finite.proofs.Loops.{count_zero, count_hit, count_miss}
 use Rattle.words.specs.Marks.{is_marked}
 use Rattle.marking.proofs.Laws.{one_marked, not_marked}
 use Rattle.marking.proofs.count_marks.Goals as goal
+use Rattle.marking.proofs.count_marks.Goals.{else-marks-k-eq1, then-marks-k-eq1}
 
 pub loop-k-init : goal.loop-k-init
 loop-k-init c = (omega arith, sym (count_zero _))
@@ -22,10 +23,10 @@ pub loop-k-preserved : goal.loop-k-preserved
 loop-k-preserved c =
     let k = c.loop-k.k in
     let d = c.args.marks.now in
-    ⊎_elim
-    (λ w. omega (arith, count_hit k (is_marked d) (one_marked d k w.0.taken)))
-    (λ w. omega (arith, count_miss k (is_marked d) (not_marked d k w.0.left)))
-    c.if-marks-k-eq1.branch
+    elim c.if-marks-k-eq1.branch [
+      | then-marks-k-eq1 w ↦ omega (arith, count_hit k (is_marked d) (one_marked d k w.if-marks-k-eq1.true))
+      | else-marks-k-eq1 w ↦ omega (arith, count_miss k (is_marked d) (not_marked d k w.if-marks-k-eq1.false))
+    ]
 
 pub returns : goal.returns
 returns c =

@@ -13,9 +13,10 @@ use Rattle.finite.proofs.Select.{count_rises}
 use Rattle.words.specs.Marks.{is_marked}
 use Rattle.marking.proofs.Laws.{one_marked, not_marked, written, written_none, written_hit, written_miss}
 use Rattle.marking.proofs.list_marks.Goals as goal
+use Rattle.marking.proofs.list_marks.Goals.{else-marks-k-eq1, then-marks-k-eq1}
 
 -- there is room for the number of a marked step
-room : (c : goal.In-loop-k invariant-loop decreases-loop) →
+room : (c : goal.In-loop-k) →
     let s = c in
     let k = c.loop-k.k in
     get_or s.args.marks.now k 0 ≡ 1 → count k (is_marked s.args.marks.now) < length s.args.buffer.now
@@ -32,24 +33,24 @@ loop-k-preserved c =
     let d = a.marks.now in
     let p = is_marked d in
     let b = a.buffer.now in
-    ⊎_elim
-    (λ w.
-    let h = w.0.taken in (
-      omega arith,
-      omega (arith, count_hit l.k p (one_marked d l.k h)),
-      rw w.1 (length-set l.buffer _ _ ∙ l.invariant.2),
-      w.1
-          ∙ ap₂ (λ (bytes : List ℕ) (i : ℕ). set bytes i l.k) l.invariant.3 l.invariant.1
-          ∙ written_hit p b l.k (one_marked d l.k h) (room c h),
-    ))
-    (λ w.
-    let h = not_marked d l.k w.0.left in (
-      omega arith,
-      omega (arith, count_miss l.k p h),
-      rw w.1 l.invariant.2,
-      rw w.1 (l.invariant.3 ∙ written_miss p b l.k h),
-    ))
-    c.if-marks-k-eq1.branch
+    elim c.if-marks-k-eq1.branch [
+      | then-marks-k-eq1 w ↦
+          let h = w.if-marks-k-eq1.true in (
+            omega arith,
+            omega (arith, count_hit l.k p (one_marked d l.k h)),
+            rw w.buffer-is (length-set l.buffer _ _ ∙ l.invariant.2),
+            w.buffer-is
+                ∙ ap₂ (λ (bytes : List ℕ) (i : ℕ). set bytes i l.k) l.invariant.3 l.invariant.1
+                ∙ written_hit p b l.k (one_marked d l.k h) (room c.before.before.before.before h),
+          )
+      | else-marks-k-eq1 w ↦
+          let h = not_marked d l.k w.if-marks-k-eq1.false in (
+            omega arith,
+            omega (arith, count_miss l.k p h),
+            rw w.buffer-is l.invariant.2,
+            rw w.buffer-is (l.invariant.3 ∙ written_miss p b l.k h),
+          )
+    ]
 
 pub returns : goal.returns
 returns c =
@@ -74,7 +75,7 @@ pub overflow_cast-buffer : goal.overflow_cast-buffer
 overflow_cast-buffer c = omega arith
 
 pub bounds-buffer-at : goal.bounds-buffer-at
-bounds-buffer-at c = omega (arith, room c c.if-marks-k-eq1.true)
+bounds-buffer-at c = omega (arith, room c.before.before.before.before c.if-marks-k-eq1.true)
 
 pub overflow_add-at : goal.overflow_add-at
 overflow_add-at c = omega (arith, count_le c.loop-k.k (is_marked c.args.marks.now))
