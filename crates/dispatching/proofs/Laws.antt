@@ -63,21 +63,23 @@ word_silent w c h z = word_test w c h ∙ ap (λ (n : ℕ). not (eqb n 0)) z
 module _ (w : List ℕ) (size : length w ≡ dispatcher_words) where
   -- a call that is refused, and one that is not: what it answers and leaves
   pub refused : (k : LineCall) {r : ℕ} → r ≡ line_refusal (dispatcher_of w) k → (r ≡ 0 → ⊥) →
-      (Refused r ≡ (line_call (dispatcher_of w) k).answer) × (w ≡ line_words_of (line_call (dispatcher_of w) k).dispatcher)
+      record { answer : Refused r ≡ (line_call (dispatcher_of w) k).answer; words : w ≡ line_words_of (line_call (dispatcher_of w) k).dispatcher }
   refused k e x =
-      let o = line_refused (dispatcher_of w) k (λ z. x (e ∙ z)) in (
-        ap Refused e ∙ sym (ap (λ (y : LineOutcome). y.answer) o),
-        sym (words_dispatcher w size) ∙ sym (ap (λ (y : LineOutcome). line_words_of y.dispatcher) o),
-      )
+      let o = line_refused (dispatcher_of w) k (λ z. x (e ∙ z)) in
+      record {
+        answer = ap Refused e ∙ sym (ap (λ (y : LineOutcome). y.answer) o);
+        words = sym (words_dispatcher w size) ∙ sym (ap (λ (y : LineOutcome). line_words_of y.dispatcher) o);
+      }
 
   pub given : (k : LineCall) (v : List ℕ) (c : ℕ) → line_refusal (dispatcher_of w) k ≡ 0 → c ≡ (line_row (dispatcher_of w) k).cabin →
       v ≡ line_words_of (line_row (dispatcher_of w) k).left →
-      (Given c 0 ≡ (line_call (dispatcher_of w) k).answer) × (v ≡ line_words_of (line_call (dispatcher_of w) k).dispatcher)
+      record { answer : Given c 0 ≡ (line_call (dispatcher_of w) k).answer; words : v ≡ line_words_of (line_call (dispatcher_of w) k).dispatcher }
   given k v c z q e =
-      let o = line_done (dispatcher_of w) k z in (
-        ap (λ (n : ℕ). Given n 0) q ∙ sym (ap (λ (y : LineOutcome). y.answer) o),
-        e ∙ sym (ap (λ (y : LineOutcome). line_words_of y.dispatcher) o),
-      )
+      let o = line_done (dispatcher_of w) k z in
+      record {
+        answer = ap (λ (n : ℕ). Given n 0) q ∙ sym (ap (λ (y : LineOutcome). y.answer) o);
+        words = e ∙ sym (ap (λ (y : LineOutcome). line_words_of y.dispatcher) o);
+      }
 
   -- what raise leaves: the word of a cabin that does not wait becomes 1
   pub raised_words : (c : ℕ) → c < line_cabins → get_or w c 0 ≡ 0 → set w c 1 ≡ line_words_of (line_row (dispatcher_of w) (raise c)).left

@@ -9,13 +9,13 @@ use mathlib.Core.Path.{◌≡◌, refl, sym, ◌∙◌, ap}
 use mathlib.Core.Bool.{Bool, true, false, ◌&&◌, not}
 use mathlib.Core.Logic.{◌⊎◌, inl, inr, ⊎_elim}
 use mathlib.Core.List.{List}
-use Prim.Native.Nat.{ℕ, zero, suc, ◌+◌, ◌*◌, ◌-◌, ◌≤◌, ◌<◌}
+use Prim.Native.Nat.{ℕ, suc, ◌+◌, ◌*◌, ◌-◌, ◌≤◌, ◌<◌}
 use native.Mathlib.Omega.{arith}
 use lib.ListN.{length, get_or, set, length-set}
 use lib.Seq.{get_or-set_same, get_or-set_other}
 use lib.Dec.{eqb}
 use borrow.Author.Tests.{eqb-true, eq-eqb, ne_eqb}
-use Rattle.finite.specs.Below.{one, all, count}
+use Rattle.finite.specs.Below.{one, count}
 use Rattle.finite.proofs.Bools.{and_intro, and_left, and_right, clash, refute, test, same_test, not_true_false}
 use Rattle.finite.proofs.Below.{eq_or_ne, count_ext, count_mono, count_change, count_split, count_pos}
 use Rattle.finite.proofs.Select.{count_grows}

@@ -1,7 +1,6 @@
 -- `dispatching::around` meets its contract. Assumes nothing.
 use Prim.Native.Nat.{◌+◌}
 use native.Mathlib.Omega.{arith}
-use borrow.Author.Rules.{rules}
 use borrow.Author.Tests.{lt-ltb, le-ltb}
 use Rattle.line.specs.Line.{line_cabins, around}
 use Rattle.dispatching.proofs.around.Goals as goal

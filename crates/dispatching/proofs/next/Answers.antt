@@ -1,23 +1,21 @@
 -- `dispatching::next` meets its contract. Assumes nothing.
 use mathlib.Core.Path.{◌≡◌, sym, ◌∙◌, ap₂}
+use mathlib.Core.List.{List}
 use Prim.Native.Nat.{ℕ, ◌<◌}
 use native.Mathlib.Omega.{arith}
-use borrow.Author.Rules.{rules}
-use Rattle.line.specs.Line.{line_cabins, next_cabin, next, with_alarm, line_row, dispatcher_of, line_words_of}
+use lib.ListN.{get_or}
+use Rattle.line.specs.Line.{line_cabins, Dispatcher, next_cabin, next, with_alarm, line_row, dispatcher_of, line_words_of}
 use Rattle.line.proofs.Laws.{next_known}
 use Rattle.dispatching.proofs.Laws.{word_waits, word_silent, alarm_words, refused, given, next_unsound, next_none, next_some}
 use Rattle.dispatching.proofs.next.Goals as goal
 
 -- past the first refusal the last served is a cabin, and so is the one found
-below : (c : goal.Else-wide-ge-LINE_CABINS) → (dispatcher_of c.args.d.now).last < line_cabins
+below : (w : List ℕ) {l : ℕ} → l ≡ get_or w line_cabins 0 → l < line_cabins → (dispatcher_of w).last < line_cabins
 unfolding dispatcher_of
-below c = omega (arith, c.if-wide-ge-LINE_CABINS.false, c.wide.ensures)
+below w e h = omega (arith, e, h)
 
-found : (c : goal.After-wide-served) → c.wide-served.result ≡ next_cabin (dispatcher_of c.args.d.now)
-found c = c.wide-served.ensures ∙ c.next_cabin-cabin.ensures
-
-known : (c : goal.After-wide-served) → c.wide-served.result < line_cabins
-known c = rw (found c) (next_known _ (below c))
+known : (d : Dispatcher) → d.last < line_cabins → {n : ℕ} → n ≡ next_cabin d → n < line_cabins
+known d h e = rw e (next_known d h)
 
 pub returns-then-wide-ge-LINE_CABINS : goal.returns-then-wide-ge-LINE_CABINS
 returns-then-wide-ge-LINE_CABINS c =
@@ -26,29 +24,30 @@ returns-then-wide-ge-LINE_CABINS c =
     (λ z. omega (arith, z))
 
 pub next_cabin-cabin-requires : goal.next_cabin-cabin-requires
-next_cabin-cabin-requires c = below c
+next_cabin-cabin-requires c = below c.args.d.now c.wide.ensures c.if-wide-ge-LINE_CABINS.false
 
 pub bounds-d-served : goal.bounds-d-served
-bounds-d-served c = omega (arith, known c)
+bounds-d-served c =
+    let w = c.args.d.now in
+    let low = below w c.wide.ensures c.if-wide-ge-LINE_CABINS.false in
+    omega (arith, known (dispatcher_of w) low c.next_cabin-cabin.ensures)
 
 pub returns-then-d-served-eq0 : goal.returns-then-d-served-eq0
 returns-then-d-served-eq0 c =
-    let at = c in
-    let one = at in
-    let w = one.args.d.now in
-    let silent = word_silent w at.wide-served.result (known at) c.if-d-served-eq0.true in
-    refused w one.sized.ensures next (sym (next_none (dispatcher_of w) (below one) (rw (sym (found at)) silent))) (λ z. omega (arith, z))
-
-pub bounds-d-served-2 : goal.bounds-d-served-2
-bounds-d-served-2 c = omega (arith, known c)
+    let w = c.args.d.now in
+    let low = below w c.wide.ensures c.if-wide-ge-LINE_CABINS.false in
+    let found = c.wide-served.ensures ∙ c.next_cabin-cabin.ensures in
+    let silent = word_silent w c.wide-served.result (known (dispatcher_of w) low found) c.if-d-served-eq0.true in
+    refused w c.sized.ensures next (sym (next_none (dispatcher_of w) low (rw (sym found) silent))) (λ z. omega (arith, z))
 
 pub returns : goal.returns
+unfolding line_row
 returns c =
-    let at = c in
-    let one = at in
-    let size = one.sized.ensures in
-    let w = one.args.d.now in
-    let waits = word_waits w at.wide-served.result (known at) c.if-d-served-eq0.false in
-    given w size next _ _ (next_some (dispatcher_of w) (below one) (rw (sym (found at)) waits)) (unfold line_row in at.next_cabin-cabin.ensures)
-    (unfold line_row in alarm_words w _ 0 _ size (known at)
-    ∙ ap₂ (λ (x y : ℕ). line_words_of (with_alarm (dispatcher_of w) x 0 y)) (found at) at.next_cabin-cabin.ensures)
+    let size = c.sized.ensures in
+    let w = c.args.d.now in
+    let low = below w c.wide.ensures c.if-wide-ge-LINE_CABINS.false in
+    let found = c.wide-served.ensures ∙ c.next_cabin-cabin.ensures in
+    let cabin = known (dispatcher_of w) low found in
+    let waits = word_waits w c.wide-served.result cabin c.if-d-served-eq0.false in
+    given w size next _ _ (next_some (dispatcher_of w) low (rw (sym found) waits)) c.next_cabin-cabin.ensures
+    (alarm_words w _ 0 _ size cabin ∙ ap₂ (λ (x y : ℕ). line_words_of (with_alarm (dispatcher_of w) x 0 y)) found c.next_cabin-cabin.ensures)

@@ -1,14 +1,9 @@
-use mathlib.Core.Path.{◌≡◌, sym, ◌∙◌, ap}
-use mathlib.Core.Bool.{false}
-use mathlib.Core.Logic.{⊎_elim}
-use Prim.Native.Nat.{ℕ, ◌<◌}
-use native.Mathlib.Omega.{arith}
-use borrow.Author.Rules.{rules}
+-- The loop's invariant: the search of the definition, from c on among the cabins left, finds the cabin that is served next.
+-- The measure is how many are left. Assumes nothing.
+use mathlib.Core.Path.{◌≡◌}
+use Prim.Native.Nat.{◌<◌}
 use Rattle.finite.specs.Below.{find}
-use Rattle.finite.proofs.Below.{find_turn, find_none, find_here}
 use Rattle.line.specs.Line.{line_cabins, waits, around, next_cabin, dispatcher_of}
-use Rattle.line.proofs.Laws.{around_cabin}
-use Rattle.dispatching.proofs.Laws.{word_test}
 use Rattle.dispatching.proofs.next_cabin.Given as goal
 
 abbrev pub invariant-loop-left : goal.invariant-loop-left

@@ -1,15 +1,6 @@
-use mathlib.Core.Path.{◌≡◌, sym, ap}
-use mathlib.Core.Bool.{Bool, not}
-use mathlib.Core.Logic.{⊎_elim}
-use mathlib.Core.List.{List}
-use Prim.Native.Nat.{ℕ, ◌*◌, ◌-◌, ◌≤◌}
-use native.Mathlib.Omega.{arith}
-use borrow.Author.Tests.{eq-eqb, ne_eqb}
-use lib.ListN.{get_or}
-use lib.Dec.{eqb}
+-- The loop's invariant: `some` of the counters below q are not 0.
+use Rattle.std.proofs.Common.{◌≡◌, Bool, not, List, ℕ, ◌*◌, ◌-◌, ◌≤◌, eqb, get_or}
 use Rattle.finite.specs.Below.{count}
-use Rattle.finite.proofs.Below.{count_le}
-use Rattle.finite.proofs.Loops.{count_zero, count_hit, count_miss, none_fail}
 use Rattle.table.specs.Table.{places, counters}
 use Rattle.withdraw.proofs.all_zero.Given as goal
 

@@ -1,18 +1,10 @@
-use mathlib.Core.Path.{◌≡◌, refl, sym, ◌∙◌}
-use mathlib.Core.List.{List}
-use Prim.Native.Nat.{ℕ, ◌+◌, ◌*◌, ◌-◌, ◌≤◌, ◌<◌}
-use native.Mathlib.Omega.{arith}
-use borrow.Author.Rules.{rules}
-use borrow.Author.Count.{below_more}
-use lib.ListN.{length, get_or, set, length-set}
-use lib.Seq.{get_or-set_same, get_or-set_other}
-use Rattle.finite.proofs.Select.{tabulate_entries}
+-- The loop's invariant: the counters below q are copied.
+use Rattle.std.proofs.Common.{◌≡◌, List, ℕ, ◌*◌, ◌-◌, ◌≤◌, ◌<◌, length, get_or}
 use Rattle.table.specs.Table.{places, counters}
 use Rattle.words.specs.Words.{table_of}
-use Rattle.words.proofs.Laws.{shape_table}
 use Rattle.withdraw.proofs.counters_of.Given as goal
 
-pub Copied : List ℕ → List ℕ → ℕ → Type 0
+abbrev pub Copied : List ℕ → List ℕ → ℕ → Type 0
 Copied counts left q = (k : ℕ) → k < q → get_or left k 0 ≡ get_or counts k 0
 
 abbrev pub invariant-loop-q : goal.invariant-loop-q

@@ -1,19 +1,15 @@
-use mathlib.Core.Path.{◌≡◌, sym, ◌∙◌, ap}
-use mathlib.Core.Bool.{Bool, true, false}
-use mathlib.Core.Logic.{⊎_elim}
-use mathlib.Core.List.{List}
-use Prim.Native.Nat.{ℕ, ◌+◌, ◌-◌, ◌≤◌, ◌<◌}
-use native.Mathlib.Omega.{arith}
-use borrow.Author.Count.{below_more}
-use lib.ListN.{length, get_or, set, replicate, length-set}
-use lib.Seq.{get_or-set_same, get_or-set_other}
-use Rattle.finite.specs.Below.{one, tabulate}
-use Rattle.finite.proofs.Select.{tabulate_entries}
+-- The loop's invariant: the steps below k have their marks, and no other step has one.
+use Rattle.std.proofs.Common.{◌≡◌, Bool, List, ℕ, ◌-◌, ◌≤◌, ◌<◌, length, get_or}
+use Rattle.finite.specs.Below.{one}
 use Rattle.table.specs.Table.{places}
-use Rattle.table.proofs.Edits.{get_or_zeros}
 use Rattle.words.specs.Words.{table_of}
 use Rattle.withdraw.specs.Search.{still_linked}
 use Rattle.withdraw.proofs.mark_wanted.Given as goal
+
+pub record MarkedBelow (passes : ℕ → Bool) (wanted : List ℕ) (k : ℕ) : Type 0 where
+  pub size : length wanted ≡ places
+  pub below : (i : ℕ) → i < k → get_or wanted i 0 ≡ one (passes i)
+  pub above : (i : ℕ) → k ≤ i → get_or wanted i 0 ≡ 0
 
 abbrev pub invariant-loop-k : goal.invariant-loop-k
 invariant-loop-k l = (l.k ≤ places) × MarkedBelow (still_linked (table_of l.t) l.left l.doubt) l.wanted l.k
