@@ -1,5 +1,5 @@
 -- Laws of what the calls ask of a step and its exit. Assumes nothing.
---   said_true said_false   a Bool that code found, and tested by `!`
+--   said_true said_false   a Bool that code found, and tested
 --   unused_above    no step past the places is in use
 --   exit_passed exit_stopped   what a refusal of a step and its exit that is 0, or is not, says of the conditions
 use mathlib.Core.Path.{◌≡◌, refl, sym, ◌∙◌}
@@ -9,7 +9,7 @@ use mathlib.Core.List.{List, [], ◌∷◌}
 use Prim.Native.Nat.{ℕ, ◌≤◌, ◌<◌}
 use native.Mathlib.Omega.{arith}
 use lib.Dec.{leb}
-use Rattle.finite.proofs.Bools.{test, refute, not_true_false, not_false_true}
+use Rattle.finite.proofs.Bools.{test, refute}
 use Rattle.table.specs.Table.{Table, places, exits, in_use}
 use Rattle.table.specs.Sound.{Shape}
 use Rattle.table.specs.Answer.{not_in_use, bad_exit, first}
@@ -17,12 +17,12 @@ use Rattle.table.proofs.Links.{used_place}
 use Rattle.table.proofs.Calls.{nonzero, first_passed, exit_fits_lem}
 use Rattle.steps.specs.Refusals.{exit_refusal}
 
--- a Bool that code found, and tested by `!`
-pub said_true : {r b : Bool} → r ≡ b → not r ≡ false → b ≡ true
-said_true {r} e h = sym e ∙ not_false_true r h
+-- a Bool that code found, and tested
+pub said_true : {r b : Bool} → r ≡ b → r ≡ true → b ≡ true
+said_true e h = sym e ∙ h
 
-pub said_false : {r b : Bool} → r ≡ b → not r ≡ true → b ≡ false
-said_false {r} e h = sym e ∙ not_true_false r h
+pub said_false : {r b : Bool} → r ≡ b → r ≡ false → b ≡ false
+said_false e h = sym e ∙ h
 
 -- no step past the places is in use
 pub unused_above : {t : Table} → Shape t → (i : ℕ) → places ≤ i → in_use t i ≡ false

@@ -8,8 +8,7 @@ use Rattle.table.specs.Calls.{fresh_table}
 use Rattle.words.specs.Words.{words_of, blank_table}
 use Rattle.words.proofs.Laws.{became, erased_table, erased_size}
 use borrow.Author.Rules.{rules}
-use Rattle.steps.proofs.fresh_table.Statement.{statement}
-use Rattle.steps.proofs.fresh_table.Tie as tie
+use Rattle.steps.proofs.fresh_table.Goals as goal
 
 -- the quotas are set, and step 0 is put into use
 listed : List ℕ → Table → Table
@@ -22,16 +21,13 @@ begun_fresh : (n : ℕ) (q : List ℕ) → begun (listed q (blank_table n 0)) �
 unfolding begun listed blank_table with_steps with_numbers fresh_table
 begun_fresh n q = refl
 
-returns : tie.Need-returns
+pub returns : goal.returns
 unfolding begun listed
 returns c =
-    let s = c.before.before.before.before.before.before in
+    let s = c in
     let n = s.args.capacity in
     let q = s.args.quotas.now in
-    let e = c.before.before.before.before.erase.ensures in
-    let listing = c.before.before.put-quotas.ensures in
+    let e = c.erase.ensures in
+    let listing = c.put_quotas.ensures in
     became _ _ _ c.put_step.ensures (listing.size ∙ erased_size _ n 0 e)
     ∙ ap words_of (ap begun (listing.table ∙ ap (listed q) (erased_table _ n 0 e)) ∙ begun_fresh n q)
-
-pub fresh-table-spec : {M : Type 1} → statement M
-fresh-table-spec = tie.close (tie.spec (λ c κs. search rules) (λ c κs. search rules) (λ c κs. search rules) returns)

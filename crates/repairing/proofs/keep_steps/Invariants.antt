@@ -1,0 +1,16 @@
+use Prim.Native.Nat.{◌+◌, ◌*◌, ◌-◌, ◌≤◌}
+use native.Mathlib.Omega.{arith}
+use Rattle.finite.specs.Below.{count}
+use Rattle.table.specs.Table.{Table, places}
+use Rattle.words.specs.Words.{table_of}
+use Rattle.words.specs.Marks.{is_marked}
+use Rattle.repairing.specs.Repairing.{Settling}
+use Rattle.repairing.proofs.Repairs.{Followed, able_most, candidate_doubtful, marks_fall, followed_begins, followed_skip, followed_turn, followed_done}
+use Rattle.repairing.proofs.keep_steps.Given as goal
+
+abbrev pub invariant-loop-next : goal.invariant-loop-next
+invariant-loop-next l =
+    (l.next ≤ l.n) × ((u : Table) → Settling (table_of l.t) u l.n l.initial.doubt l.initial.wanted → Followed l.n (table_of l.t) u l.initial.doubt l.doubt l.wanted l.next)
+
+abbrev pub decreases-loop-next : goal.decreases-loop-next
+decreases-loop-next l = 129 * count l.n (is_marked l.doubt) + (l.n - l.next)
