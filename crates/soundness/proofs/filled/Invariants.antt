@@ -1,0 +1,16 @@
+use mathlib.Core.Path.{◌≡◌, sym, ◌∙◌}
+use mathlib.Core.Logic.{⊎_elim}
+use Prim.Native.Nat.{◌+◌, ◌-◌, ◌≤◌}
+use native.Mathlib.Omega.{arith}
+use borrow.Author.Tests.{eq-eqb, ne_eqb}
+use Rattle.table.specs.Table.{places, exit_places}
+use Rattle.words.specs.Words.{table_of}
+use Rattle.soundness.specs.Tests.{empty_at, faults}
+use Rattle.soundness.proofs.Totals.{faults_none, faults_le, faults_pass, faults_fail}
+use Rattle.soundness.proofs.filled.Given as goal
+
+abbrev pub invariant-loop-p : goal.invariant-loop-p
+invariant-loop-p l = (l.p ≤ exit_places places) × (l.n ≡ faults l.p (empty_at (table_of l.t)))
+
+abbrev pub decreases-loop-p : goal.decreases-loop-p
+decreases-loop-p l = exit_places places - l.p
