@@ -6,29 +6,25 @@ use lib.ListN.{get_or, replicate}
 use borrow.Author.Rules.{rules}
 use Rattle.table.specs.Table.{Table, places, counters, counts_at, links_to, with_links}
 use Rattle.image.specs.Image.{counted}
-use Rattle.recording.proofs.recount.Statement.{statement}
-use Rattle.recording.proofs.recount.Tie as tie
+use Rattle.recording.proofs.recount.Goals as goal
 
 -- counters go by capacity, targets and bits
 counted_again : (t : Table) (l : List ℕ) → counted (with_links t t.targets t.bits l) ≡ counted t
 unfolding counted with_links links_to counts_at
 counted_again t l = refl
 
-count-links-requires : tie.Need-count-links-requires
+pub count_links-requires : goal.count_links-requires
 unfolding with_links
-count-links-requires c κs =
-    let e = c.before.zero-counts.ensures.table in
-    let p = c.before.before.before.requires in
+count_links-requires c =
+    let e = c.zero_counts.ensures.table in
+    let p = c.requires in
     subst (λ (t : Table). (t.capacity ≤ places) × ((p : ℕ) → get_or t.bits p 0 < counters) × (t.counts ≡ replicate (places * counters) 0)) (sym e)
     (p.0, p.1, refl)
 
-returns : tie.Need-returns
+pub returns : goal.returns
 returns c =
-    let z = c.before.before.zero-counts.ensures in
+    let z = c.zero_counts.ensures in
     record {
-      table = c.count-links.ensures.table ∙ ap counted z.table ∙ counted_again _ _;
-      size = c.count-links.ensures.size ∙ z.size;
+      table = c.count_links.ensures.table ∙ ap counted z.table ∙ counted_again _ _;
+      size = c.count_links.ensures.size ∙ z.size;
     }
-
-pub recount-spec : {M : Type 1} → statement M
-recount-spec = tie.close (tie.spec (λ c κs. search rules) count-links-requires returns)

@@ -7,28 +7,24 @@ use borrow.Author.Rules.{rules}
 use Rattle.table.specs.Table.{Table, exit_places, with_links, with_steps}
 use Rattle.image.specs.Image.{with_record}
 use Rattle.records.specs.Records.{added, record_fields}
-use Rattle.recording.proofs.put_record.Statement.{statement}
-use Rattle.recording.proofs.put_record.Tie as tie
+use Rattle.recording.proofs.put_record.Goals as goal
 
-returns : tie.Need-returns
+pub returns : goal.returns
 unfolding with_links with_steps with_record record_fields added
 returns c =
-    let step = c.before.before in
-    let wide = step.before.before in
-    let r = wide.before.args.r in
-    let p = exit_places wide.wide.result in
+    let step = c in
+    let wide = step in
+    let r = wide.args.r in
+    let p = exit_places wide.wide-i.result in
     let s = r.bits in
     record {
       table =
-          c.put-links.ensures.table ∙
+          c.put_links.ensures.table ∙
           ap
           (λ (t : Table).
           with_links t (sets t.targets p (r.first ∷ r.second ∷ r.third ∷ r.fourth ∷ []))
           (sets t.bits p (s % 2 ∷ s / 2 % 2 ∷ s / 4 % 2 ∷ s / 8 % 2 ∷ [])) t.counts)
           step.put_step.ensures.table ∙
-          rw wide.wide.ensures;
-      size = c.put-links.ensures.size ∙ step.put_step.ensures.size;
+          rw wide.wide-i.ensures;
+      size = c.put_links.ensures.size ∙ step.put_step.ensures.size;
     }
-
-pub put-record-spec : {M : Type 1} → statement M
-put-record-spec = tie.close (tie.spec (λ c κs. search rules) (λ c κs. search rules) (λ c κs. search rules) returns)

@@ -1,0 +1,16 @@
+use mathlib.Core.Path.{◌≡◌, refl, ◌∙◌, ap}
+use mathlib.Core.Logic.{⊎_elim}
+use Prim.Native.Nat.{ℕ, ◌-◌, ◌≤◌, ◌<◌}
+use native.Mathlib.Omega.{arith}
+use lib.ListN.{get_or}
+use borrow.Author.Rules.{rules}
+use Rattle.table.specs.Table.{Table, places, exit_places}
+use Rattle.words.specs.Words.{table_of, Becomes}
+use Rattle.recording.proofs.Counting.{counted_to, counted_none, counted_hit, counted_miss, counted_le, counted_bit, counted_all}
+use Rattle.recording.proofs.count_links.Given as goal
+
+abbrev pub invariant-loop-p : goal.invariant-loop-p
+invariant-loop-p l = (l.p ≤ l.n) × (l.n ≡ exit_places (table_of l.initial.t).capacity) × Becomes l.initial.t l.t (counted_to (table_of l.initial.t) l.p)
+
+abbrev pub decreases-loop-p : goal.decreases-loop-p
+decreases-loop-p l = l.n - l.p
