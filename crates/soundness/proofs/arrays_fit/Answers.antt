@@ -5,7 +5,6 @@ use Prim.Native.Nat.{ℕ}
 use native.Mathlib.Omega.{arith}
 use lib.Dec.{eqb}
 use borrow.Author.Tests.{eq-eqb, ne_eqb}
-use borrow.Author.Rules.{rules}
 use Rattle.finite.specs.Below.{all}
 use Rattle.table.specs.Table.{Table, places, exit_places}
 use Rattle.words.specs.Words.{table_of}

@@ -1,6 +1,5 @@
 -- `soundness::charges_of` meets its contract: one less for cabin 0. Assumes nothing.
 use mathlib.Core.Path.{refl}
-use borrow.Author.Rules.{rules}
 use Rattle.soundness.proofs.charges_of.Goals as goal
 
 pub returns : goal.returns

@@ -1,9 +1,7 @@
 -- `count_faults` counts the free steps with a counter that is not zero. Assumes nothing.
 use mathlib.Core.Path.{◌≡◌, sym, ◌∙◌}
-use mathlib.Core.Logic.{⊎_elim}
-use Prim.Native.Nat.{◌+◌, ◌-◌, ◌≤◌}
+use Prim.Native.Nat.{◌+◌, ◌≤◌}
 use native.Mathlib.Omega.{arith}
-use borrow.Author.Rules.{rules}
 use Rattle.table.specs.Table.{places}
 use Rattle.words.specs.Words.{table_of}
 use Rattle.soundness.specs.Tests.{counters_fit, faults}
@@ -30,8 +28,8 @@ next : (c : Joined-counts_fit) →
 next c =
     let l = c in
     elim c.if-counts_fit.branch [
-      then-counts_fit w ↦ faults_pass l.loop-i.i _ l.loop-i.n _ l.loop-i.invariant.1 (sym (fits c.before) ∙ w.if-counts_fit.true) w.n-is
-    | else-counts_fit w ↦ faults_fail l.loop-i.i _ l.loop-i.n _ l.loop-i.invariant.1 (sym (fits c.before) ∙ w.if-counts_fit.false) w.n-is
+      | then-counts_fit w ↦ faults_pass l.loop-i.i _ l.loop-i.n _ l.loop-i.invariant.1 (sym (fits c.before) ∙ w.if-counts_fit.true) w.n-is
+      | else-counts_fit w ↦ faults_fail l.loop-i.i _ l.loop-i.n _ l.loop-i.invariant.1 (sym (fits c.before) ∙ w.if-counts_fit.false) w.n-is
     ]
 
 pub overflow_add-n : goal.overflow_add-n

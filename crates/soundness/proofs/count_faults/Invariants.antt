@@ -1,12 +1,8 @@
-use mathlib.Core.Path.{◌≡◌, sym, ◌∙◌}
-use mathlib.Core.Logic.{⊎_elim}
-use Prim.Native.Nat.{◌+◌, ◌-◌, ◌≤◌}
-use native.Mathlib.Omega.{arith}
-use borrow.Author.Rules.{rules}
+use mathlib.Core.Path.{◌≡◌}
+use Prim.Native.Nat.{◌-◌, ◌≤◌}
 use Rattle.table.specs.Table.{places}
 use Rattle.words.specs.Words.{table_of}
 use Rattle.soundness.specs.Tests.{counters_fit, faults}
-use Rattle.soundness.proofs.Totals.{faults_none, faults_le, faults_pass, faults_fail}
 use Rattle.soundness.proofs.count_faults.Given as goal
 
 abbrev pub invariant-loop-i : goal.invariant-loop-i

@@ -1,11 +1,9 @@
-use mathlib.Core.Path.{◌≡◌, refl, sym, ◌∙◌, ap}
-use Prim.Native.Nat.{ℕ, ◌+◌, ◌*◌, ◌-◌, ◌≤◌}
-use native.Mathlib.Omega.{arith}
+use mathlib.Core.Path.{◌≡◌}
+use Prim.Native.Nat.{◌*◌, ◌-◌, ◌≤◌}
 use lib.ListN.{get_or}
 use Rattle.table.specs.Table.{places, counters}
 use Rattle.words.specs.Words.{table_of}
 use Rattle.finite.specs.Below.{total}
-use Rattle.finite.proofs.Totals.{total_next}
 use Rattle.soundness.proofs.counted.Given as goal
 
 abbrev pub invariant-loop-q : goal.invariant-loop-q

@@ -1,7 +1,6 @@
 -- `filled` counts the exits that hold a link. Assumes nothing.
 use mathlib.Core.Path.{◌≡◌, sym, ◌∙◌}
-use mathlib.Core.Logic.{⊎_elim}
-use Prim.Native.Nat.{◌+◌, ◌-◌, ◌≤◌}
+use Prim.Native.Nat.{◌+◌, ◌≤◌}
 use native.Mathlib.Omega.{arith}
 use borrow.Author.Tests.{eq-eqb, ne_eqb}
 use Rattle.table.specs.Table.{places, exit_places}
@@ -23,8 +22,8 @@ next c =
     let l = c in
     let e = c.target_in.ensures in
     elim c.if-target_in-eq0.branch [
-      then-target_in-eq0 w ↦ faults_pass l.loop-p.p _ l.loop-p.n _ l.loop-p.invariant.1 (eq-eqb _ 0 (sym e ∙ w.if-target_in-eq0.true)) w.n-is
-    | else-target_in-eq0 w ↦ faults_fail l.loop-p.p _ l.loop-p.n _ l.loop-p.invariant.1 (ne_eqb _ 0 (λ z. w.if-target_in-eq0.false (e ∙ z))) w.n-is
+      | then-target_in-eq0 w ↦ faults_pass l.loop-p.p _ l.loop-p.n _ l.loop-p.invariant.1 (eq-eqb _ 0 (sym e ∙ w.if-target_in-eq0.true)) w.n-is
+      | else-target_in-eq0 w ↦ faults_fail l.loop-p.p _ l.loop-p.n _ l.loop-p.invariant.1 (ne_eqb _ 0 (λ z. w.if-target_in-eq0.false (e ∙ z))) w.n-is
     ]
 
 pub overflow_add-n : goal.overflow_add-n

@@ -1,12 +1,8 @@
-use mathlib.Core.Path.{◌≡◌, sym, ◌∙◌}
-use mathlib.Core.Logic.{⊎_elim}
-use Prim.Native.Nat.{◌+◌, ◌-◌, ◌≤◌}
-use native.Mathlib.Omega.{arith}
-use borrow.Author.Tests.{eq-eqb, ne_eqb}
+use mathlib.Core.Path.{◌≡◌}
+use Prim.Native.Nat.{◌-◌, ◌≤◌}
 use Rattle.table.specs.Table.{places, exit_places}
 use Rattle.words.specs.Words.{table_of}
 use Rattle.soundness.specs.Tests.{empty_at, faults}
-use Rattle.soundness.proofs.Totals.{faults_none, faults_le, faults_pass, faults_fail}
 use Rattle.soundness.proofs.filled.Given as goal
 
 abbrev pub invariant-loop-p : goal.invariant-loop-p

@@ -1,9 +1,7 @@
 -- `link_faults` counts the exits that do not fit. Assumes nothing.
 use mathlib.Core.Path.{◌≡◌, sym, ◌∙◌}
-use mathlib.Core.Logic.{⊎_elim}
-use Prim.Native.Nat.{◌+◌, ◌-◌, ◌≤◌}
+use Prim.Native.Nat.{◌+◌, ◌≤◌}
 use native.Mathlib.Omega.{arith}
-use borrow.Author.Rules.{rules}
 use Rattle.table.specs.Table.{places, exit_places}
 use Rattle.words.specs.Words.{table_of}
 use Rattle.soundness.specs.Tests.{exit_fits, faults}
@@ -27,8 +25,8 @@ next : (c : Joined-link_fits) →
 next c =
     let l = c in
     elim c.if-link_fits.branch [
-      then-link_fits w ↦ faults_pass l.loop-p.p _ l.loop-p.n _ l.loop-p.invariant.1 (sym (fits c.before) ∙ w.if-link_fits.true) w.n-is
-    | else-link_fits w ↦ faults_fail l.loop-p.p _ l.loop-p.n _ l.loop-p.invariant.1 (sym (fits c.before) ∙ w.if-link_fits.false) w.n-is
+      | then-link_fits w ↦ faults_pass l.loop-p.p _ l.loop-p.n _ l.loop-p.invariant.1 (sym (fits c.before) ∙ w.if-link_fits.true) w.n-is
+      | else-link_fits w ↦ faults_fail l.loop-p.p _ l.loop-p.n _ l.loop-p.invariant.1 (sym (fits c.before) ∙ w.if-link_fits.false) w.n-is
     ]
 
 pub overflow_add-n : goal.overflow_add-n

@@ -1,6 +1,5 @@
 -- `numbers_fit` tests the capacity and the last number given. Assumes nothing.
 use mathlib.Core.Path.{sym, ◌∙◌}
-use borrow.Author.Rules.{rules}
 use Rattle.soundness.specs.Tests.{numbers_fit}
 use Rattle.soundness.proofs.numbers_fit.Goals as goal
 

@@ -3,7 +3,6 @@ use mathlib.Core.Path.{sym, ◌∙◌, ap₂}
 use mathlib.Core.List.{List}
 use Prim.Native.Nat.{ℕ}
 use native.Mathlib.Omega.{arith}
-use borrow.Author.Rules.{rules}
 use Rattle.table.specs.Cabins.{quotas_fit, charge}
 use Rattle.words.specs.Words.{table_of}
 use Rattle.cabins.specs.Shares.{given, shares_fit}
@@ -14,15 +13,14 @@ use Rattle.soundness.proofs.quotas_hold.Goals as goal
 pub returns-then-quotas_fit : goal.returns-then-quotas_fit
 unfolding quotas_hold
 returns-then-quotas_fit c =
-    let s = c in
-    let t = table_of s.args.t.now in
+    let t = table_of c.args.t.now in
     let capacity = c.capacity-capacity.ensures in
     let quotas = c.quotas_of-quotas.ensures in
     let list = ap₂ quotas_fit capacity quotas in
     rw (sym list ∙ sym c.quotas_fit.ensures ∙ c.if-quotas_fit.true)
     (c.shares_fit.ensures
-    ∙ ap₂ (λ (n : ℕ) (q : List ℕ). shares_fit n q (given s.args.charges.now)) capacity quotas
-    ∙ shares_agree t.capacity-capacity t.quotas (given s.args.charges.now) (charge t) (tabulated _ (charge t) s.requires.1))
+    ∙ ap₂ (λ (n : ℕ) (q : List ℕ). shares_fit n q (given c.args.charges.now)) capacity quotas
+    ∙ shares_agree t.capacity t.quotas (given c.args.charges.now) (charge t) (tabulated _ (charge t) c.requires.1))
 
 pub returns-else-quotas_fit : goal.returns-else-quotas_fit
 unfolding quotas_hold

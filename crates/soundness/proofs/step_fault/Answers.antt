@@ -1,6 +1,5 @@
 -- `step_fault` is 1 for a step that does not fit. Assumes nothing.
 use mathlib.Core.Path.{sym, ◌∙◌}
-use borrow.Author.Rules.{rules}
 use Rattle.soundness.proofs.step_fault.Goals as goal
 
 pub returns-then-fields_fit : goal.returns-then-fields_fit

@@ -1,18 +1,10 @@
-use mathlib.Core.Path.{◌≡◌, sym, ◌∙◌, ap, ap₂}
-use mathlib.Core.Bool.{◌&&◌, not}
-use mathlib.Core.List.{[], ◌∷◌}
-use Prim.Native.Nat.{ℕ, ◌+◌, ◌-◌, ◌≤◌}
-use native.Mathlib.Omega.{arith}
-use lib.ListN.{get_or}
-use lib.Dec.{eqb}
-use borrow.Author.Rules.{rules}
-use Rattle.finite.specs.Below.{one, count, tabulate, tabulate_from}
-use Rattle.finite.proofs.Below.{count_le}
-use Rattle.finite.proofs.Loops.{count_zero, count_next}
-use Rattle.table.specs.Table.{Table, places, in_use, kind_of, content_of, own_bit, cabin_of}
+-- The invariant of `step_pass`'s loop: the counts of the steps below i; the measure is what is left of the places. Assumes nothing.
+use mathlib.Core.Path.{◌≡◌}
+use Prim.Native.Nat.{ℕ, ◌-◌, ◌≤◌}
+use Rattle.finite.specs.Below.{count}
+use Rattle.table.specs.Table.{Table, places}
 use Rattle.words.specs.Words.{table_of}
-use Rattle.soundness.specs.Tests.{fields_fit, fields_at, faults, has_cabin, cabin_steps}
-use Rattle.soundness.proofs.Totals.{faults_none, faults_le}
+use Rattle.soundness.specs.Tests.{fields_at, faults, has_cabin}
 use Rattle.soundness.proofs.step_pass.Given as goal
 
 -- n steps below i are those of cabin c

@@ -1,6 +1,5 @@
 -- `table_refusal` is the refusal of a table that is not sound. Assumes nothing.
 use mathlib.Core.Path.{sym, ◌∙◌}
-use borrow.Author.Rules.{rules}
 use Rattle.table.specs.Answer.{first}
 use Rattle.soundness.proofs.table_refusal.Goals as goal
 

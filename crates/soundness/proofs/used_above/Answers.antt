@@ -1,7 +1,6 @@
 -- `used_above` counts the steps in use from the capacity on. Assumes nothing.
 use mathlib.Core.Path.{◌≡◌, sym, ◌∙◌}
-use mathlib.Core.Logic.{⊎_elim}
-use Prim.Native.Nat.{◌+◌, ◌-◌, ◌≤◌}
+use Prim.Native.Nat.{◌+◌, ◌≤◌}
 use native.Mathlib.Omega.{arith}
 use borrow.Author.Tests.{eq-eqb, ne_eqb, lt-ltb, le-ltb}
 use Rattle.finite.proofs.Bools.{or_left}
@@ -26,8 +25,8 @@ next c =
     let o = le-ltb l.loop-i.i l.args.capacity l.loop-i.invariant.0 in
     let e = c.used_at.ensures in
     elim c.if-used_at-eq0.branch [
-      then-used_at-eq0 w ↦ faults_pass l.loop-i.i _ l.loop-i.n _ l.loop-i.invariant.2 (rw o (eq-eqb _ 0 (sym e ∙ w.if-used_at-eq0.true))) w.n-is
-    | else-used_at-eq0 w ↦ faults_fail l.loop-i.i _ l.loop-i.n _ l.loop-i.invariant.2 (let d = w.if-used_at-eq0.false in rw o (ne_eqb _ 0 (λ z. d (e ∙ z)))) w.n-is
+      | then-used_at-eq0 w ↦ faults_pass l.loop-i.i _ l.loop-i.n _ l.loop-i.invariant.2 (rw o (eq-eqb _ 0 (sym e ∙ w.if-used_at-eq0.true))) w.n-is
+      | else-used_at-eq0 w ↦ faults_fail l.loop-i.i _ l.loop-i.n _ l.loop-i.invariant.2 (let d = w.if-used_at-eq0.false in rw o (ne_eqb _ 0 (λ z. d (e ∙ z)))) w.n-is
     ]
 
 pub overflow_add-n : goal.overflow_add-n
