@@ -1,0 +1,28 @@
+-- `loading::acceptable` meets its contract: a table that is not sound, any contents in edition 2, those of an old telephone in edition 1. Assumes nothing.
+use mathlib.Core.Path.{◌≡◌, sym, ◌∙◌}
+use mathlib.Core.Bool.{true}
+use borrow.Author.Rules.{rules}
+use Rattle.finite.proofs.Bools.{not_true_false, not_false_true}
+use Rattle.table.specs.Sound.{sound}
+use Rattle.table.proofs.Sound.{test_sound}
+use Rattle.image.specs.Image.{contents_sayable}
+use Rattle.words.specs.Words.{table_of}
+use Rattle.loading.proofs.acceptable.Goals as goal
+use Rattle.loading.proofs.acceptable.Goals.{Else-not-is_sound}
+
+pub returns-then-not-is_sound : goal.returns-then-not-is_sound
+returns-then-not-is_sound c = rw (sym c.is_sound.ensures ∙ c.if-not-is_sound.true)
+
+-- past the test of soundness
+sure : (c : Else-not-is_sound) → sound (table_of c.args.t.now) ≡ true
+sure c = sym c.is_sound.ensures ∙ c.if-not-is_sound.false
+
+pub has_old_contents-requires : goal.has_old_contents-requires
+has_old_contents-requires c = (test_sound _ (sure c.before)).formed.most
+
+pub returns-then-newer : goal.returns-then-newer
+unfolding contents_sayable
+returns-then-newer c = rw (sure c.before, c.if-newer.true)
+
+pub returns-else-newer : goal.returns-else-newer
+returns-else-newer c = rw (sure c.before.before, c.if-newer.false) c.has_old_contents.ensures

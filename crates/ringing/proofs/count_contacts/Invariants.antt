@@ -1,0 +1,26 @@
+use mathlib.Core.Path.{◌≡◌, sym, ◌∙◌, ap}
+use mathlib.Core.Bool.{Bool, true, false, ◌&&◌}
+use mathlib.Core.List.{List}
+use mathlib.Core.Logic.{⊎_elim}
+use Prim.Native.Nat.{ℕ, ◌-◌, ◌≤◌}
+use native.Mathlib.Omega.{arith}
+use Rattle.finite.specs.Below.{count}
+use Rattle.finite.proofs.Below.{count_le}
+use Rattle.finite.proofs.Loops.{count_zero, count_hit, count_miss}
+use Rattle.table.specs.Table.{Table}
+use Rattle.table.specs.Trial.{is_contact}
+use Rattle.words.specs.Words.{table_of}
+use Rattle.words.specs.Marks.{is_marked}
+use Rattle.marking.proofs.Laws.{one_marked, not_marked}
+use Rattle.ringing.proofs.Laws.{is_contact_lem, not_contact}
+use Rattle.ringing.proofs.count_contacts.Given as goal
+
+-- a marked contact
+abbrev pub both : Table → List ℕ → ℕ → Bool
+both t seen k = is_marked seen k && is_contact t k
+
+abbrev pub invariant-loop-k : goal.invariant-loop-k
+invariant-loop-k l = (l.k ≤ l.n) × (l.contacts ≡ count l.k (both (table_of l.t) l.seen))
+
+abbrev pub decreases-loop-k : goal.decreases-loop-k
+decreases-loop-k l = l.n - l.k

@@ -1,0 +1,18 @@
+use mathlib.Core.Path.{◌≡◌, ◌∙◌, subst}
+use Prim.Native.Nat.{ℕ, ◌-◌, ◌≤◌, ◌<◌}
+use native.Mathlib.Omega.{arith}
+use borrow.Author.Rules.{rules}
+use Rattle.table.specs.Table.{exits}
+use Rattle.table.proofs.Places.{own_exit}
+use Rattle.words.specs.Words.{table_of}
+use Rattle.words.proofs.Formed.{target_place}
+use Rattle.marking.specs.Marking.{linked_within}
+use Rattle.ringing.specs.Row.{Grown}
+use Rattle.ringing.proofs.Laws.{grown_start, grown_exit}
+use Rattle.ringing.proofs.enter_targets.Given as goal
+
+abbrev pub invariant-loop-e : goal.invariant-loop-e
+invariant-loop-e l = (l.e ≤ l.m) × Grown (linked_within l.e (table_of l.t) l.i) l.initial.seen l.initial.row l.end l.seen l.row l.last
+
+abbrev pub decreases-loop-e : goal.decreases-loop-e
+decreases-loop-e l = l.m - l.e
