@@ -1,7 +1,5 @@
 -- The table that P5 leaves as an image of each edition, byte by byte, record by record (document 01, "Image"; document 02, W5). Assumes nothing.
-use Rattle.std.specs.Prelude.{List, [], ◌∷◌, ◌++◌, ℕ, ◌+◌, replicate}
-use Rattle.finite.specs.Below.{same}
-use Rattle.image.specs.Image.{image}
+use Rattle.std.specs.Prelude.{List, [], ◌∷◌, ◌++◌, ℕ, replicate}
 
 -- the table that P5 leaves, as an image of edition 2. Header: length 42, kind 3, capacity 4, last number 2, 3 steps, then the guarantee and the limit of
 -- each cabin, 3 and 3 for cabin 0; then the records of steps 0, 1, 2: length 22, kind 4, number, kind, content, bits, four targets, cabin. The bits are 2

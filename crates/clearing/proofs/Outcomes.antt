@@ -20,7 +20,7 @@ use Rattle.table.specs.declared.Answer.{Answer}
 use Rattle.table.specs.declared.Answer.TheVariants.{Refused, Given}
 use Rattle.table.specs.Table.{Table, places, counter_place, in_use, own_bit, target_of, link_bit, counter_of, strong, linked, strongly_linked, with_links}
 use Rattle.table.specs.Sound.{Formed, Sound}
-use Rattle.table.specs.Answer.{WriteOutcome, too_short, first, steps_room}
+use Rattle.table.specs.Answer.{WriteOutcome, too_short, steps_room}
 use Rattle.table.specs.Calls.{HoldFits, lowered, raised, relink}
 use Rattle.table.specs.Clear.{Repair, emptied, held_strongly, stops, doubtful, repair, repair_of, unlinked, blanked, each_doubtful, release, size, repaired, cleared, clear_refusal}
 use Rattle.table.specs.Clear
@@ -187,29 +187,34 @@ module _ (t : Table) (s : Sound t) (i e : ℕ) (g : HoldFits t i e) where
           (le_or_lt 2 n)
 
 -- what its answer says
-pub goes_losing : {t : Table} {i e : ℕ} {b : Bool} → Sound t → HoldFits t i e → b ≡ not (stops t i e) → not b ≡ false → Losing t i e
-goes_losing {b = b} s g q h = record { sound = s; fits = g; goes = not_true_false _ (sym q ∙ not_false_true b h) }
+pub goes_losing : {t : Table} {i e : ℕ} {b : Bool} → Sound t → HoldFits t i e → b ≡ not (stops t i e) → b ≡ true → Losing t i e
+goes_losing s g q h = record { sound = s; fits = g; goes = not_true_false _ (sym q ∙ h) }
 
-pub goes_not : {answer stop : Bool} → answer ≡ not stop → not answer ≡ true → stop ≡ true
-goes_not {answer} q h = not_false_true _ (sym q ∙ not_true_false answer h)
+pub goes_not : {answer stop : Bool} → answer ≡ not stop → answer ≡ false → stop ≡ true
+goes_not q h = not_false_true _ (sym q ∙ h)
 
 -- what a clearing comes to where rule 1 stops
 pub stopped : {w v : List ℕ} (t : Table) (i e : ℕ) → stops t i e ≡ true → Becomes w v (relink t i e 0 0) →
-    (Given 0 0 ≡ (cleared t i e).answer) × Becomes w v (cleared t i e).table
+    record { answer : Given 0 0 ≡ (cleared t i e).answer; table : Becomes w v (cleared t i e).table }
 unfolding emptied
-stopped t i e h b = rw h (refl, b)
+stopped t i e h b = record { answer = rw h refl; table = rw h b }
 
 -- and where it goes on
 pub went_on : {u : Table} (t : Table) (i e : ℕ) → u ≡ relink t i e 0 0 → stops t i e ≡ false → repaired u ≡ cleared t i e
 unfolding emptied
 went_on t i e q h = rw h (ap repaired q)
 
--- what is found before the exit is emptied: u is the table then
+-- what is found before the exit is emptied
+pub searched_before : {t : Table} {i e : ℕ} {doubt wanted : List ℕ} → Losing t i e → doubt ≡ found (emptied t i e) →
+    wanted ≡ tabulate places (λ k. one (candidate (emptied t i e) k)) → Searched (emptied t i e) doubt wanted
+searched_before {t} {i} {e} o d w = record { formed = losing_formed t i e o; doubts = d; first = w }
+
+-- and u is the table then
 pub searched : {u : Table} {t : Table} {i e : ℕ} {doubt wanted : List ℕ} → Losing t i e → u ≡ relink t i e 0 0 →
     doubt ≡ found (emptied t i e) → wanted ≡ tabulate places (λ k. one (candidate (emptied t i e) k)) → Searched u doubt wanted
 unfolding emptied
 searched {u} {t} {i} {e} {doubt} {wanted} o q d w =
-    subst (λ (v : Table). Searched v doubt wanted) (sym q) (record { formed = unfold emptied in losing_formed t i e o; doubts = d; first = w })
+    subst (λ (v : Table). Searched v doubt wanted) (sym q) (searched_before o d w)
 
 -- A preview: the repair can be followed on the table as it is.
 pub settles : {t : Table} {i e n : ℕ} {doubt wanted : List ℕ} → Losing t i e → Searched (emptied t i e) doubt wanted → n ≡ t.capacity →
@@ -227,6 +232,11 @@ pub record Foreseen (t : Table) (i e n : ℕ) (doubt wanted doubt' : List ℕ) :
   pub searched : Searched (emptied t i e) doubt wanted
   pub size : n ≡ t.capacity
   pub left : as_marks n doubt' ≡ (repair n (under_repair (emptied t i e) doubt)).doubt
+
+-- from what each function says
+pub foreseen : {t : Table} {i e n : ℕ} {doubt wanted doubt' : List ℕ} → Losing t i e → Searched (emptied t i e) doubt wanted → n ≡ t.capacity →
+    ((u : Table) → Settling t u n doubt wanted → as_marks n doubt' ≡ (repair n (under_repair u doubt)).doubt) → Foreseen t i e n doubt wanted doubt'
+foreseen o x q kept = record { losing = o; searched = x; size = q; left = kept _ (settles o x q) }
 
 module _ {t : Table} {i e n : ℕ} {doubt wanted doubt' : List ℕ} (f : Foreseen t i e n doubt wanted doubt') where
   abbrev after : Table
@@ -275,26 +285,29 @@ module _ {t : Table} {i e n : ℕ} {doubt wanted doubt' : List ℕ} (f : Foresee
 
 -- where rule 1 stops, nothing would go
 pub foreseen_none : (t : Table) (i e : ℕ) → Sound t → HoldFits t i e → stops t i e ≡ true → (buffer : List ℕ) →
-    (Given 0 0 ≡ (cleared t i e).answer) × (buffer ≡ would_go t i e ++ drop (length (would_go t i e)) buffer)
+    record { answer : Given 0 0 ≡ (cleared t i e).answer; written : buffer ≡ would_go t i e ++ drop (length (would_go t i e)) buffer }
 foreseen_none t i e s g h buffer =
-    (rw h, ap (λ (ms : List ℕ). ms ++ drop (length ms) buffer) (sym (go_none t i e s g h)))
+    record { answer = rw h refl; written = ap (λ (ms : List ℕ). ms ++ drop (length ms) buffer) (sym (go_none t i e s g h)) }
 
 -- The call that previews: refused as the clearing is, refused for the room, or made.
 module _ (t : Table) (i e : ℕ) (buffer : List ℕ) where
+  abbrev Previewed : Answer → List ℕ → Type 0
+  Previewed answer out = record { answer : answer ≡ (preview_call t i e buffer).answer; written : out ≡ (preview_call t i e buffer).buffer }
+
   refused : (n : ℕ) → (n ≡ 0 → ⊥) → preview_refusal t i e (length buffer) ≡ n →
-      (Refused n ≡ (preview_call t i e buffer).answer) × (buffer ≡ (preview_call t i e buffer).buffer)
+      Previewed (Refused n) buffer
   refused n d q =
       let r = preview_refused_as t i e buffer (λ z. d (sym q ∙ z)) in
-      (ap Refused (sym q) ∙ sym (ap (λ (o : WriteOutcome). o.answer) r), sym (ap (λ (o : WriteOutcome). o.buffer) r))
+      record { answer = ap Refused (sym q) ∙ sym (ap (λ (o : WriteOutcome). o.answer) r); written = sym (ap (λ (o : WriteOutcome). o.buffer) r) }
 
-  pub not_previewed : (n : ℕ) → n ≡ clear_refusal t i e → (n ≡ 0 → ⊥) → (Refused n ≡ (preview_call t i e buffer).answer) × (buffer ≡ (preview_call t i e buffer).buffer)
+  pub not_previewed : (n : ℕ) → n ≡ clear_refusal t i e → (n ≡ 0 → ⊥) → Previewed (Refused n) buffer
   not_previewed n q d = refused n d (preview_order t i e buffer ∙ rw (sym q, ne_eqb n 0 d))
 
-  pub no_room : clear_refusal t i e ≡ 0 → length buffer < steps_room → (Refused too_short ≡ (preview_call t i e buffer).answer) × (buffer ≡ (preview_call t i e buffer).buffer)
+  pub no_room : clear_refusal t i e ≡ 0 → length buffer < steps_room → Previewed (Refused too_short) buffer
   no_room z l = refused too_short (λ q. omega arith) (preview_order t i e buffer ∙ rw (eq-eqb (clear_refusal t i e) 0 z, lt-ltb (length buffer) steps_room l))
 
   pub previewed : clear_refusal t i e ≡ 0 → steps_room ≤ length buffer → {answer : Answer} {out : List ℕ} → answer ≡ (cleared t i e).answer →
-      out ≡ would_go t i e ++ drop (length (would_go t i e)) buffer → (answer ≡ (preview_call t i e buffer).answer) × (out ≡ (preview_call t i e buffer).buffer)
+      out ≡ would_go t i e ++ drop (length (would_go t i e)) buffer → Previewed answer out
   previewed z l a b =
       let m = preview_made t i e buffer (preview_order t i e buffer ∙ rw (eq-eqb (clear_refusal t i e) 0 z, le-ltb (length buffer) steps_room l)) in
-      (a ∙ sym (ap (λ (o : WriteOutcome). o.answer) m), b ∙ sym (ap (λ (o : WriteOutcome). o.buffer) m))
+      record { answer = a ∙ sym (ap (λ (o : WriteOutcome). o.answer) m); written = b ∙ sym (ap (λ (o : WriteOutcome). o.buffer) m) }

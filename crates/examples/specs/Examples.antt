@@ -4,7 +4,7 @@
 --   examples, refusals   the table
 --   key_lines, Decodes  key lines byte by byte, and what they are decoded to
 --   unsound, fail_as_said   a table made unsound for each clause of soundness, and the clauses that it fails
-use Rattle.std.specs.Prelude.{◌≡◌, Bool, true, false, ◌&&◌, List, [], ◌∷◌, ◌++◌, ℕ, suc, ◌+◌, set, take, replicate}
+use Rattle.std.specs.Prelude.{◌≡◌, Bool, true, false, ◌&&◌, List, [], ◌∷◌, ◌++◌, ℕ, suc, set, take, replicate}
 use Rattle.finite.specs.Below.{same}
 use Rattle.table.specs.Table.{Table, with_numbers, with_links, with_steps}
 use Rattle.table.specs.Cabins.{sole_quotas}

@@ -4,7 +4,7 @@
 --   samples            the table
 --   Twins              two tables with one plan and different images
 --   crossed chained    the tables that are cleared in two orders; CrossedEnd, what both orders leave of the first
-use Rattle.std.specs.Prelude.{◌≡◌, true, List, [], ◌∷◌, ◌++◌, ℕ, ◌+◌, set, take, replicate}
+use Rattle.std.specs.Prelude.{◌≡◌, true, List, [], ◌∷◌, ◌++◌, ℕ, set, take, replicate}
 use Rattle.table.specs.Table.{Table, in_use, kind_of, content_of, cabin_of, target_of}
 use Rattle.table.specs.declared.Ending.TheVariants.{Spent}
 use Rattle.table.specs.Answer.{refusal_of}

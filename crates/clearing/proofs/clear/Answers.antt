@@ -1,29 +1,9 @@
 -- `clearing::clear` meets its contract: the refusals, then the clearing. Assumes nothing.
-use mathlib.Core.Path.{◌≡◌, refl, sym, ◌∙◌}
-use Prim.Native.Nat.{ℕ}
-use borrow.Author.Rules.{rules}
-use Rattle.table.specs.Table.{Table}
-use Rattle.table.specs.Sound.{Sound}
-use Rattle.table.specs.Clear.{clear_refusal, clear_call}
-use Rattle.table.proofs.Calls.{clear_fits}
-use Rattle.words.specs.Words.{table_of}
-use Rattle.words.proofs.Refusals.{accepted_sound, refused_answer, refused_words, given_answer, given_words}
+use mathlib.Core.Path.{refl, sym, ◌∙◌}
+use Rattle.table.specs.Clear.{clear_call}
+use Rattle.table.proofs.Calls.{clear_sound, clear_fits}
+use Rattle.words.proofs.Refusals.{refused_answer, refused_words, given_answer, given_words}
 use Rattle.clearing.proofs.clear.Goals as goal
-use Rattle.clearing.proofs.clear.Goals.{Else-refusal-ne0, Start}
-
--- past the refusals, at the call
-abbrev start_of : Else-refusal-ne0 → Start
-start_of c = c.before.before.before
-
-abbrev given : Start → Table
-given s = table_of s.args.t.now
-
-taken : (c : Else-refusal-ne0) → let s = start_of c in clear_refusal (given s) s.args.step s.args.exit ≡ 0
-taken c = sym c.clear_refusal-refusal.ensures ∙ c.if-refusal-ne0.false
-
-is_sound : (t : Table) (i e : ℕ) → clear_refusal t i e ≡ 0 → Sound t
-unfolding clear_refusal
-is_sound t i e z = accepted_sound t _ z
 
 pub returns-then-refusal-ne0 : goal.returns-then-refusal-ne0
 unfolding clear_call
@@ -36,19 +16,17 @@ returns-then-refusal-ne0 c =
 
 pub clear_exit-requires : goal.clear_exit-requires
 clear_exit-requires c =
-    let x = c in
-    let s = start_of x.before.before.before in
-    (is_sound (given s) _ _ (taken x.before.before.before), rw (c.wide.ensures, c.wide-2.ensures) (clear_fits (given s) s.args.step s.args.exit (taken x.before.before.before)))
+    let taken = sym c.clear_refusal-refusal.ensures ∙ c.if-refusal-ne0.false in
+    (clear_sound _ _ _ taken, rw (c.wide.ensures, c.wide-2.ensures) (clear_fits _ _ _ taken))
 
 pub returns : goal.returns
 unfolding clear_call
 returns c =
-    let x = c in
     let b = c.clear_exit.ensures in
     let i = c.wide.ensures in
     let e = c.wide-2.ensures in
-    let q = sym (taken x.before.before.before.before) in
+    let q = sym (sym c.clear_refusal-refusal.ensures ∙ c.if-refusal-ne0.false) in
     record {
       answer = given_answer q _ _ _ refl (rw (i, e) at b.answer);
-      table = given_words q _ _ _ x.sized.ensures refl (rw (i, e) at b.table);
+      table = given_words q _ _ _ c.sized.ensures refl (rw (i, e) at b.table);
     }

@@ -1,6 +1,5 @@
 -- `clearing::clear_refusal` meets its contract: the refusal of the table, then that of the exit. Assumes nothing.
 use mathlib.Core.Path.{sym, ◌∙◌}
-use borrow.Author.Rules.{rules}
 use Rattle.table.specs.Clear.{clear_refusal}
 use Rattle.words.proofs.Refusals.{past_table, table_stopped}
 use Rattle.steps.specs.Refusals.{hold_refusal}
@@ -15,5 +14,4 @@ returns-then-unsound-ne0 c =
 pub returns : goal.returns
 unfolding clear_refusal hold_refusal
 returns c =
-    let x = c in
-    c.hold_refusal.ensures ∙ sym (past_table _ _ (sym x.table_refusal-unsound.ensures ∙ x.if-unsound-ne0.false))
+    c.hold_refusal.ensures ∙ sym (past_table _ _ (sym c.table_refusal-unsound.ensures ∙ c.if-unsound-ne0.false))

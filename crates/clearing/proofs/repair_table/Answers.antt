@@ -1,77 +1,40 @@
 -- `clearing::repair_table` meets its contract, from what each function says of the table. Assumes nothing.
-use mathlib.Core.Path.{◌≡◌, sym, ◌∙◌}
-use Prim.Native.Nat.{◌≤◌}
-use native.Mathlib.Omega.{arith}
-use borrow.Author.Rules.{rules}
-use Rattle.table.specs.Table.{places}
+use mathlib.Core.Path.{sym, ◌∙◌}
 use Rattle.words.specs.Words.{table_of}
 use Rattle.clearing.proofs.Outcomes.{found_able, found_candidates, Mended, repaired_answer, repaired_table, repaired_whole}
 use Rattle.clearing.proofs.repair_table.Goals as goal
-use Rattle.clearing.proofs.repair_table.Goals.{After-count_marks-doubts, After-count_marks-freed, After-repair_steps, After-wide-n, Start}
-
--- The places that an answer looks back to.
-abbrev begun : After-wide-n → Start
-begun c = c.before.before
-
-abbrev sized : After-count_marks-doubts → After-wide-n
-sized c = c.before
-
-abbrev counted : After-repair_steps → After-count_marks-doubts
-counted c = c.before.before.before.before
-
-abbrev mended : After-count_marks-freed → After-repair_steps
-mended c = c
-
-size : (c : After-wide-n) → c.wide-n.result ≡ (table_of (begun c).args.t.now).capacity
-size c = c.wide-n.ensures ∙ c.capacity.ensures
-
-below : (c : After-wide-n) → c.wide-n.result ≤ places
-below c = omega (arith, size c, (begun c).requires.formed.most)
+use Rattle.clearing.proofs.repair_table.Goals.{After-repair_steps}
 
 -- what was found and mended
 facts : (c : After-repair_steps) →
-    let w = sized (counted c) in
-    let a = (begun w).args in
+    let a = c.args in
     let l = c.repair_steps.new in
-    Mended (table_of a.t.now) (table_of l.0) w.wide-n.result a.doubt.now a.wanted.now l.1.1.0
+    Mended (table_of a.t.now) (table_of l.t) c.wide-n.result a.doubt.now a.wanted.now l.doubt
 facts c =
-    let w = sized (counted c) in
     record {
-      searched = (begun w).pre;
-      size = size w;
+      searched = c.requires;
+      size = c.wide-n.ensures ∙ c.capacity.ensures;
       same = c.repair_steps.ensures.repaired;
-      capacity = c.repair_steps.ensures.able.0.capacity;
+      capacity = c.repair_steps.ensures.able.capacity;
     }
 
 pub repair_steps-requires : goal.repair_steps-requires
 repair_steps-requires c =
-    let w = sized c in
-    let s = begun w in
-    let t = table_of s.args.t.now in
-    (found_able t _ _ (size w) s.pre.doubts s.pre.formed, found_candidates t s.pre _ (size w))
+    let t = table_of c.args.t.now in
+    let size = c.wide-n.ensures ∙ c.capacity.ensures in
+    (found_able t _ _ size c.requires.doubts c.requires.formed, found_candidates t c.requires _ size)
 
 pub returns-then-freed-ne0 : goal.returns-then-freed-ne0
 returns-then-freed-ne0 c =
-    let l = c in
-    let r = mended l in
+    let m = facts c.before.before.before.before in
     let b = c.free_steps.ensures in record {
-      answer = repaired_answer (facts r) _ _ (counted r).count_marks-doubts.ensures l.count_marks-freed.ensures;
-      table = record { table = b.table ∙ repaired_table (facts r); size = b.size ∙ r.repair_steps.ensures.able.1 };
+      answer = repaired_answer m _ _ c.count_marks-doubts.ensures c.count_marks-freed.ensures;
+      table = record { table = b.table ∙ repaired_table m; size = b.size ∙ c.repair_steps.ensures.size };
     }
 
 pub returns-else-freed-ne0 : goal.returns-else-freed-ne0
 returns-else-freed-ne0 c =
-    let l = c in
-    let r = mended l in record {
-      answer = repaired_answer (facts r) _ _ (counted r).count_marks-doubts.ensures l.count_marks-freed.ensures;
-      table = record { table = repaired_whole (facts r) (sym l.count_marks-freed.ensures ∙ c.if-freed-ne0.false); size = r.repair_steps.ensures.able.1 };
+    let m = facts c.before.before in record {
+      answer = repaired_answer m _ _ c.count_marks-doubts.ensures c.count_marks-freed.ensures;
+      table = record { table = repaired_whole m (sym c.count_marks-freed.ensures ∙ c.if-freed-ne0.false); size = c.repair_steps.ensures.size };
     }
-
-pub count_marks-doubts-requires : goal.count_marks-doubts-requires
-count_marks-doubts-requires c = below c
-
-pub count_marks-freed-requires : goal.count_marks-freed-requires
-count_marks-freed-requires c = below (sized (counted c))
-
-pub free_steps-requires : goal.free_steps-requires
-free_steps-requires c = (mended c).repair_steps.ensures.able.0

@@ -2,15 +2,13 @@
 -- what is left of the places. Assumes nothing.
 use mathlib.Core.Path.{◌≡◌, sym, ◌∙◌}
 use mathlib.Core.Logic.{⊎_elim}
-use Prim.Native.Nat.{ℕ, ◌-◌, ◌≤◌, ◌<◌}
 use native.Mathlib.Omega.{arith}
-use lib.ListN.{length, get_or, length-set}
+use lib.ListN.{length-set}
 use lib.Seq.{get_or-set_same, get_or-set_other}
 use borrow.Author.Rules.{rules}
 use Rattle.finite.proofs.Below.{eq_or_ne}
 use Rattle.finite.proofs.Select.{tabulate_entries}
 use Rattle.table.specs.Table.{places}
-use Rattle.table.specs.Squeeze.{new_number}
 use Rattle.table.proofs.Renumber.{new_zero, new_used, new_free, new_most}
 use Rattle.words.specs.Words.{table_of}
 use Rattle.squeezing.proofs.new_numbers.Goals as goal
@@ -21,31 +19,28 @@ loop-i-init c = (omega arith, search rules, sym (new_zero _), λ k l. absurd (om
 
 pub overflow_add-next : goal.overflow_add-next
 overflow_add-next c =
-    let l = c in
-    omega (arith, new_most (table_of l.args.t.now) l.loop-i.i, l.loop-i.invariant.2)
+    omega (arith, new_most (table_of c.args.t.now) c.loop-i.i, c.loop-i.invariant.2)
 
 pub loop-i-preserved : goal.loop-i-preserved
 loop-i-preserved c =
-    let l = c in
-    let t = table_of l.args.t.now in
-    let i = l.loop-i.i in
-    let inv = l.loop-i.invariant in
+    let t = table_of c.args.t.now in
+    let i = c.loop-i.i in
+    let inv = c.loop-i.invariant in
     let e = c.in_use.ensures in (
       omega arith,
-      length-set l.loop-i.numbers i l.loop-i.next ∙ inv.1,
+      length-set c.loop-i.numbers i c.loop-i.next ∙ inv.1,
       elim c.if-in_use.branch [
-      then-in_use w ↦ omega (arith, new_used t i (sym e ∙ w.if-in_use.true), inv.2)
-    | else-in_use w ↦ omega (arith, new_free t i (sym e ∙ w.if-in_use.false), inv.2)
-    ],
+        | then-in_use w ↦ omega (arith, new_used t i (sym e ∙ w.if-in_use.true), inv.2)
+        | else-in_use w ↦ omega (arith, new_free t i (sym e ∙ w.if-in_use.false), inv.2)
+      ],
       λ k h.
           ⊎_elim
-          (λ (s : k ≡ i). rw s (get_or-set_same l.loop-i.numbers i l.loop-i.next 0 (omega arith) ∙ inv.2))
-          (λ (d : k ≡ i → ⊥). get_or-set_other l.loop-i.numbers i k l.loop-i.next 0 d ∙ inv.3 k (omega arith))
+          (λ (s : k ≡ i). rw s (get_or-set_same c.loop-i.numbers i c.loop-i.next 0 (omega arith) ∙ inv.2))
+          (λ (d : k ≡ i → ⊥). get_or-set_other c.loop-i.numbers i k c.loop-i.next 0 d ∙ inv.3 k (omega arith))
           (eq_or_ne k i),
     )
 
 pub returns : goal.returns
 returns c =
-    let l = c in
-    let inv = l.loop-i.invariant in
-    sym (tabulate_entries places _ l.loop-i.numbers 0 inv.1 (λ k h. sym (inv.3 k (omega arith))))
+    let inv = c.loop-i.invariant in
+    sym (tabulate_entries places _ c.loop-i.numbers 0 inv.1 (λ k h. sym (inv.3 k (omega arith))))

@@ -1,15 +1,9 @@
-use mathlib.Core.Path.{◌≡◌, sym, ◌∙◌}
-use mathlib.Core.Logic.{⊎_elim}
+-- The loop of `squeezing::new_numbers`: the numbers below i are the new ones, and `next` is that of i. Assumes nothing.
+use mathlib.Core.Path.{◌≡◌}
 use Prim.Native.Nat.{ℕ, ◌-◌, ◌≤◌, ◌<◌}
-use native.Mathlib.Omega.{arith}
-use lib.ListN.{length, get_or, length-set}
-use lib.Seq.{get_or-set_same, get_or-set_other}
-use borrow.Author.Rules.{rules}
-use Rattle.finite.proofs.Below.{eq_or_ne}
-use Rattle.finite.proofs.Select.{tabulate_entries}
+use lib.ListN.{length, get_or}
 use Rattle.table.specs.Table.{places}
 use Rattle.table.specs.Squeeze.{new_number}
-use Rattle.table.proofs.Renumber.{new_zero, new_used, new_free, new_most}
 use Rattle.words.specs.Words.{table_of}
 use Rattle.squeezing.proofs.new_numbers.Given as goal
 
