@@ -324,12 +324,15 @@ module _ {t : Table} (s : Sound t) (seen : List ℕ) (n : ℕ) (q : n ≡ t.capa
 -- The call: refused for the table, for the room, or made.
 module _ (t : Table) (buffer : List ℕ) where
   abbrev Said : Answer → List ℕ → Type 0
-  Said answer out = (answer ≡ (rung_call t buffer).answer) × (out ≡ (rung_call t buffer).buffer)
+  Said told out = record { answer : told ≡ (rung_call t buffer).answer; written : out ≡ (rung_call t buffer).buffer }
 
   refused : (n : ℕ) → (n ≡ 0 → ⊥) → rung_refusal t (length buffer) ≡ n → Said (Refused n) buffer
   refused n d q =
       let r = rung_refused_as t buffer (λ z. d (sym q ∙ z)) in
-      (ap Refused (sym q) ∙ sym (ap (λ (o : WriteOutcome). o.answer) r), sym (ap (λ (o : WriteOutcome). o.buffer) r))
+      record {
+        answer = ap Refused (sym q) ∙ sym (ap (λ (o : WriteOutcome). o.answer) r);
+        written = sym (ap (λ (o : WriteOutcome). o.buffer) r);
+      }
 
   pub not_listed : (n : ℕ) → n ≡ first (table_tests t) → (n ≡ 0 → ⊥) → Said (Refused n) buffer
   not_listed n q d = refused n d (unfold rung_refusal in sym (table_stopped t _ (λ z. d (q ∙ z))) ∙ sym q)
@@ -343,4 +346,4 @@ module _ (t : Table) (buffer : List ℕ) where
     unfolding plan_rung_refusal first rung_call
     given l a b =
         let z : rung_refusal t (length buffer) ≡ 0 = rung_refusal_lem s buffer ∙ rw (le-ltb (length buffer) steps_room l) in
-        rw z (a, b)
+        rw z record { answer = a; written = b }

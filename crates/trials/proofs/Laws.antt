@@ -107,34 +107,43 @@ module _ {t : Table} {limit : ℕ} {results trace₀ trace : List ℕ} {step mov
           }
 
 -- the refusals in their order, and the trial that none of them meets
-module _ (t : Table) (limit : ℕ) (results trace : List ℕ) where
+module _ (t : Table) (limit : ℕ) (results lent : List ℕ) where
   -- a refused trial leaves the trace as it was lent
   abbrev refused : ℕ → TrialOutcome
-  refused n = record { answer = Refused n; trace = trace }
+  refused n = record { answer = Refused n; trace = lent }
 
-  pub trial_stopped : (first (table_tests t) ≡ 0 → ⊥) → trial_call t limit results trace ≡ refused (first (table_tests t))
+  pub trial_stopped : (first (table_tests t) ≡ 0 → ⊥) → trial_call t limit results lent ≡ refused (first (table_tests t))
   unfolding trial_call
   trial_stopped d =
-      let q : trial_refusal t limit results trace ≡ first (table_tests t) = unfold trial_refusal in (sym (table_stopped t _ d)) in
+      let q : trial_refusal t limit results lent ≡ first (table_tests t) = unfold trial_refusal in (sym (table_stopped t _ d)) in
       rw (q, ne_eqb (first (table_tests t)) 0 d)
 
   module _ (s : Sound t) where
-    pub trial_unfit : results_fit results ≡ false → trial_call t limit results trace ≡ refused bad_result
+    pub trial_unfit : results_fit results ≡ false → trial_call t limit results lent ≡ refused bad_result
     unfolding trial_call trial_refusal first
     trial_unfit f = rw (sound_test t s, f)
 
-    pub trial_short : results_fit results ≡ true → length trace < limit → trial_call t limit results trace ≡ refused too_short
+    pub trial_short : results_fit results ≡ true → length lent < limit → trial_call t limit results lent ≡ refused too_short
     unfolding trial_call trial_refusal first
-    trial_short f l = rw (sound_test t s, f, lt-ltb (length trace) limit l)
+    trial_short f l = rw (sound_test t s, f, lt-ltb (length lent) limit l)
 
-    pub trial_followed : results_fit results ≡ true → limit ≤ length trace → trial_call t limit results trace ≡ try_from t 0 0 limit trace results
+    pub trial_followed : results_fit results ≡ true → limit ≤ length lent → trial_call t limit results lent ≡ try_from t 0 0 limit lent results
     unfolding trial_call trial_refusal first
-    trial_followed f l = rw (sound_test t s, f, le-ltb (length trace) limit l)
+    trial_followed f l = rw (sound_test t s, f, le-ltb (length lent) limit l)
 
   -- the outcome by its parts, and its moves
-  pub outcome_parts : {r : Tried} {l : List ℕ} → trial_call t limit results trace ≡ record { answer = r; trace = l } →
-      (r ≡ (trial_call t limit results trace).answer) ×
-      ((l ≡ (trial_call t limit results trace).trace) × ((moves_of r ≡ moves_of (trial_call t limit results trace).answer) × (moves_of r ≤ limit)))
+  pub outcome_parts : {r : Tried} {l : List ℕ} → trial_call t limit results lent ≡ record { answer = r; trace = l } →
+      record {
+        answer : r ≡ (trial_call t limit results lent).answer;
+        trace : l ≡ (trial_call t limit results lent).trace;
+        moves : moves_of r ≡ moves_of (trial_call t limit results lent).answer;
+        most : moves_of r ≤ limit;
+      }
   outcome_parts q =
       let a = sym (ap (λ (o : TrialOutcome). o.answer) q) in
-      (a, (sym (ap (λ (o : TrialOutcome). o.trace) q), (ap moves_of a, rw a (trial_most t limit results trace))))
+      record {
+        answer = a;
+        trace = sym (ap (λ (o : TrialOutcome). o.trace) q);
+        moves = ap moves_of a;
+        most = rw a (trial_most t limit results lent);
+      }

@@ -1,8 +1,6 @@
 -- `loading::acceptable` meets its contract: a table that is not sound, any contents in edition 2, those of an old telephone in edition 1. Assumes nothing.
 use mathlib.Core.Path.{◌≡◌, sym, ◌∙◌}
 use mathlib.Core.Bool.{true}
-use borrow.Author.Rules.{rules}
-use Rattle.finite.proofs.Bools.{not_true_false, not_false_true}
 use Rattle.table.specs.Sound.{sound}
 use Rattle.table.proofs.Sound.{test_sound}
 use Rattle.image.specs.Image.{contents_sayable}

@@ -1,6 +1,5 @@
 -- `loading::take_header` meets its contract: the table is erased, then its quotas are put. Assumes nothing.
 use mathlib.Core.Path.{◌∙◌, ap}
-use borrow.Author.Rules.{rules}
 use Rattle.table.specs.Table.{Table, with_numbers}
 use Rattle.words.specs.Words.{blank_table}
 use Rattle.words.proofs.Laws.{erased_table, erased_size}

@@ -1,20 +1,12 @@
-use mathlib.Core.Path.{◌≡◌, refl, sym, ◌∙◌, ap, ap₂}
-use mathlib.Core.Bool.{◌&&◌}
-use mathlib.Core.List.{List}
-use Prim.Native.Nat.{ℕ, ◌-◌, ◌<◌}
-use native.Mathlib.Omega.{arith}
-use lib.ListN.{length, get_or, take, drop}
-use borrow.Author.Rules.{rules}
-use Rattle.finite.proofs.Bools.{clash}
-use Rattle.table.specs.Table.{Table}
-use Rattle.table.specs.Sound.{sound}
-use Rattle.image.specs.Image.{Edition, step_field_count, record_size, edition_in, image_table, contents_sayable}
-use Rattle.words.specs.Words.{words, table_of, words_of}
-use Rattle.words.proofs.Laws.{words_table}
-use Rattle.records.specs.declared.StepRecord.{StepRecord}
-use Rattle.records.specs.Records.{edition_of, step_read, read_step}
-use Rattle.records.proofs.Reading.{HeaderFits, HeaderSays, StepSays, newer_room, step_least, header_edition, header_known, header_refuted, step_known, step_refuted}
-use Rattle.loading.proofs.Loading.{Filled, filled_none, filled_more, filled_bits, filled_counts, filled_capacity, filled_table_lem, filled_accepted, next_twice, unfit_refused, nothing_refused, twice_refused}
+-- What the loop of `loading::take_image` keeps: the records before the place are read and stored. Assumes nothing.
+use mathlib.Core.Path.{◌≡◌}
+use Prim.Native.Nat.{◌-◌}
+use lib.ListN.{length}
+use Rattle.image.specs.Image.{step_field_count, record_size, edition_in}
+use Rattle.words.specs.Words.{words, table_of}
+use Rattle.records.specs.Records.{edition_of}
+use Rattle.records.proofs.Reading.{HeaderFits}
+use Rattle.loading.proofs.Loading.{Filled}
 use Rattle.loading.proofs.take_image.Given as goal
 
 abbrev pub invariant-loop-at : goal.invariant-loop-at

@@ -1,18 +1,12 @@
-use mathlib.Core.Path.{◌≡◌, sym, ◌∙◌, ap}
-use mathlib.Core.Bool.{Bool, true, false, ◌&&◌}
+use mathlib.Core.Path.{◌≡◌}
+use mathlib.Core.Bool.{Bool, ◌&&◌}
 use mathlib.Core.List.{List}
-use mathlib.Core.Logic.{⊎_elim}
 use Prim.Native.Nat.{ℕ, ◌-◌, ◌≤◌}
-use native.Mathlib.Omega.{arith}
 use Rattle.finite.specs.Below.{count}
-use Rattle.finite.proofs.Below.{count_le}
-use Rattle.finite.proofs.Loops.{count_zero, count_hit, count_miss}
 use Rattle.table.specs.Table.{Table}
 use Rattle.table.specs.Trial.{is_contact}
 use Rattle.words.specs.Words.{table_of}
 use Rattle.words.specs.Marks.{is_marked}
-use Rattle.marking.proofs.Laws.{one_marked, not_marked}
-use Rattle.ringing.proofs.Laws.{is_contact_lem, not_contact}
 use Rattle.ringing.proofs.count_contacts.Given as goal
 
 -- a marked contact

@@ -1,14 +1,7 @@
-use mathlib.Core.Path.{◌≡◌, ◌∙◌, subst}
-use Prim.Native.Nat.{ℕ, ◌-◌, ◌≤◌, ◌<◌}
-use native.Mathlib.Omega.{arith}
-use borrow.Author.Rules.{rules}
-use Rattle.table.specs.Table.{exits}
-use Rattle.table.proofs.Places.{own_exit}
+use Prim.Native.Nat.{◌-◌, ◌≤◌}
 use Rattle.words.specs.Words.{table_of}
-use Rattle.words.proofs.Formed.{target_place}
 use Rattle.marking.specs.Marking.{linked_within}
 use Rattle.ringing.specs.Row.{Grown}
-use Rattle.ringing.proofs.Laws.{grown_start, grown_exit}
 use Rattle.ringing.proofs.enter_targets.Given as goal
 
 abbrev pub invariant-loop-e : goal.invariant-loop-e

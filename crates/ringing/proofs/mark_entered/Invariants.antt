@@ -1,9 +1,7 @@
-use Prim.Native.Nat.{◌-◌, ◌<◌}
-use native.Mathlib.Omega.{arith}
-use borrow.Author.Rules.{rules}
+use Prim.Native.Nat.{◌-◌}
 use Rattle.table.specs.Table.{places}
 use Rattle.words.specs.Words.{table_of}
-use Rattle.ringing.proofs.Laws.{Searching, row_most, row_place, searching_begins, searching_turn, entered_marks}
+use Rattle.ringing.proofs.Laws.{Searching}
 use Rattle.ringing.proofs.mark_entered.Given as goal
 
 abbrev pub invariant-loop-at : goal.invariant-loop-at

@@ -1,14 +1,9 @@
 -- `trials::results_fit` meets its contract. The loop's invariant: the results before `k` are numbers of exits. The measure is what is left of
 -- the results. Assumes nothing.
-use mathlib.Core.Path.{◌≡◌, sym}
-use mathlib.Core.Bool.{Bool, true}
-use mathlib.Core.List.{List}
-use Prim.Native.Nat.{ℕ, ◌-◌, ◌≤◌}
+use mathlib.Core.Path.{sym}
 use native.Mathlib.Omega.{arith}
 use lib.ListN.{length, get_or}
-use lib.Dec.{ltb}
 use borrow.Author.Tests.{lt-ltb, le-ltb}
-use Rattle.finite.specs.Below.{all}
 use Rattle.finite.proofs.Loops.{all_none, all_more, all_fails, all_done}
 use Rattle.table.specs.Table.{exits}
 use Rattle.table.specs.Trial.{results_fit}
@@ -18,15 +13,13 @@ use Rattle.trials.proofs.results_fit.Goals as goal
 pub returns-then-results-k-gt-LINE_FAULT : goal.returns-then-results-k-gt-LINE_FAULT
 unfolding results_fit
 returns-then-results-k-gt-LINE_FAULT c =
-    let k = c in
-    let results = k.args.results.now in
-    sym (all_fails (length results) (is_exit results) k.loop-k.k (omega arith) (le-ltb (get_or results k.loop-k.k 0) exits (omega arith)))
+    let results = c.args.results.now in
+    sym (all_fails (length results) (is_exit results) c.loop-k.k (omega arith) (le-ltb (get_or results c.loop-k.k 0) exits (omega arith)))
 
 pub loop-k-preserved : goal.loop-k-preserved
 loop-k-preserved c =
-    let k = c in
-    let results = k.args.results.now in
-    (omega arith, all_more k.loop-k.k (is_exit results) k.loop-k.invariant.1 (lt-ltb (get_or results k.loop-k.k 0) exits (omega arith)))
+    let results = c.args.results.now in
+    (omega arith, all_more c.loop-k.k (is_exit results) c.loop-k.invariant.1 (lt-ltb (get_or results c.loop-k.k 0) exits (omega arith)))
 
 pub returns : goal.returns
 unfolding results_fit
@@ -36,12 +29,3 @@ returns c =
 
 pub loop-k-init : goal.loop-k-init
 loop-k-init c = (omega arith, all_none _)
-
-pub bounds-results-k : goal.bounds-results-k
-bounds-results-k c = omega arith
-
-pub overflow_add-k : goal.overflow_add-k
-overflow_add-k c = omega arith
-
-pub loop-k-smaller : goal.loop-k-smaller
-loop-k-smaller c = omega arith

@@ -1,15 +1,11 @@
-use mathlib.Core.Path.{◌≡◌, sym}
+use mathlib.Core.Path.{◌≡◌}
 use mathlib.Core.Bool.{Bool, true}
 use mathlib.Core.List.{List}
 use Prim.Native.Nat.{ℕ, ◌-◌, ◌≤◌}
-use native.Mathlib.Omega.{arith}
 use lib.ListN.{length, get_or}
 use lib.Dec.{ltb}
-use borrow.Author.Tests.{lt-ltb, le-ltb}
 use Rattle.finite.specs.Below.{all}
-use Rattle.finite.proofs.Loops.{all_none, all_more, all_fails, all_done}
 use Rattle.table.specs.Table.{exits}
-use Rattle.table.specs.Trial.{results_fit}
 use Rattle.trials.proofs.results_fit.Given as goal
 
 abbrev pub is_exit : List ℕ → ℕ → Bool

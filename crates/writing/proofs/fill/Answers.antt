@@ -4,9 +4,8 @@ use Prim.Native.Nat.{ℕ, ◌≤◌, ◌<◌}
 use mathlib.Core.List.{List, ◌++◌}
 use native.Mathlib.Omega.{arith}
 use lib.ListN.{length, drop}
-use borrow.Author.Rules.{rules}
 use Rattle.table.specs.declared.Answer.TheVariants.{Refused, Given}
-use Rattle.table.specs.Table.{Table}
+use Rattle.table.specs.Table.{Table, steps_in_use}
 use Rattle.table.specs.Answer.{WriteOutcome, too_short, first}
 use Rattle.table.proofs.Sound.{test_sound}
 use Rattle.image.specs.Image.{Edition, image, image_size, image_length, put, room_tests}
@@ -15,7 +14,6 @@ use Rattle.words.specs.Words.{table_of}
 use Rattle.records.specs.Records.{edition_of}
 use Rattle.writing.proofs.Writing.{image_small}
 use Rattle.writing.proofs.fill.Goals as goal
-use Rattle.writing.proofs.fill.Goals.{After-image_size-size}
 
 -- both endings
 module _ (v : Edition) (t : Table) (buffer : List ℕ) where
@@ -28,21 +26,19 @@ module _ (v : Edition) (t : Table) (buffer : List ℕ) where
   long l = put_made _ (room_fits v t (length buffer) l) v t buffer
 
 -- the length worked out is the image's
-size : (c : After-image_size-size) →
-    let s = c in
-    c.image_size-size.result ≡ image_length (edition_of s.args.newer) (table_of s.args.t.now)
+size : (v : Edition) (t : Table) (n k : ℕ) → n ≡ image_size v k → k ≡ steps_in_use t → n ≡ image_length v t
 unfolding image_length
-size c =
-    let s = c in
-    c.image_size-size.ensures ∙ ap (image_size (edition_of s.args.newer)) c.count_used-steps.ensures
+size v t n k e h = e ∙ ap (image_size v) h
 
 pub count_used-steps-requires : goal.count_used-steps-requires
 count_used-steps-requires c = (test_sound (table_of c.args.t.now) c.requires).formed.most
 
 pub returns-then-buffer-size : goal.returns-then-buffer-size
 returns-then-buffer-size c =
-    let s = c in
-    let e = short (edition_of s.args.newer) (table_of s.args.t.now) s.args.buffer.now (omega (arith, size c.before.before, c.if-buffer-size.true)) in
+    let v = edition_of c.args.newer in
+    let t = table_of c.args.t.now in
+    let n = size v t _ _ c.image_size-size.ensures c.count_used-steps.ensures in
+    let e = short v t c.args.buffer.now (omega (arith, n, c.if-buffer-size.true)) in
     record {
       answer = sym (ap (λ (o : WriteOutcome). o.answer) e);
       written = sym (ap (λ (o : WriteOutcome). o.buffer) e);
@@ -50,22 +46,22 @@ returns-then-buffer-size c =
 
 pub put_image-requires : goal.put_image-requires
 put_image-requires c =
-    let z = c in
-    (z.requires, z.count_used-steps.ensures, omega (arith, size z, c.if-buffer-size.false))
+    let n = size (edition_of c.args.newer) (table_of c.args.t.now) _ _ c.image_size-size.ensures c.count_used-steps.ensures in
+    (c.requires, c.count_used-steps.ensures, omega (arith, n, c.if-buffer-size.false))
 
 pub overflow_cast-result : goal.overflow_cast-result
 overflow_cast-result c =
-    let z = c in
-    let s = z in
-    let t = table_of s.args.t.now in
-    omega (arith, size z, image_small (edition_of s.args.newer) t (test_sound t s.requires))
+    let v = edition_of c.args.newer in
+    let t = table_of c.args.t.now in
+    let n = size v t _ _ c.image_size-size.ensures c.count_used-steps.ensures in
+    omega (arith, n, image_small v t (test_sound t c.requires))
 
 pub returns : goal.returns
 returns c =
-    let z = c in
-    let s = z in
-    let e =
-    long (edition_of s.args.newer) (table_of s.args.t.now) s.args.buffer.now (omega (arith, size z, c.if-buffer-size.false)) in record {
-      answer = ap (λ (n : ℕ). Given n 0) (size z) ∙ sym (ap (λ (o : WriteOutcome). o.answer) e);
+    let v = edition_of c.args.newer in
+    let t = table_of c.args.t.now in
+    let n = size v t _ _ c.image_size-size.ensures c.count_used-steps.ensures in
+    let e = long v t c.args.buffer.now (omega (arith, n, c.if-buffer-size.false)) in record {
+      answer = ap (λ (n : ℕ). Given n 0) n ∙ sym (ap (λ (o : WriteOutcome). o.answer) e);
       written = c.put_image.ensures ∙ sym (ap (λ (o : WriteOutcome). o.buffer) e);
     }

@@ -1,18 +1,13 @@
-use mathlib.Core.Path.{◌≡◌, sym, ◌∙◌}
+-- What the loop of `writing::put_image` keeps: the header and the records of the steps in use below i are written. Assumes nothing.
+use mathlib.Core.Path.{◌≡◌}
 use mathlib.Core.Bool.{true}
-use mathlib.Core.Logic.{⊎_elim}
-use Prim.Native.Nat.{◌+◌, ◌-◌, ◌^◌, ◌≤◌, ◌<◌}
-use native.Mathlib.Omega.{arith}
-use lib.ListN.{length, length-drop, drop}
-use lib.Seq.{length-take-le}
-use borrow.Author.Rules.{rules}
-use Rattle.table.specs.Table.{Table, steps_in_use}
+use Prim.Native.Nat.{◌-◌, ◌^◌, ◌≤◌, ◌<◌}
+use lib.ListN.{length}
 use Rattle.table.specs.Sound.{sound}
-use Rattle.table.proofs.Sound.{test_sound}
-use Rattle.image.specs.Image.{Edition, header_field_count, step_field_count, record_size, image_length}
+use Rattle.image.specs.Image.{step_field_count, record_size, image_length}
 use Rattle.words.specs.Words.{table_of}
 use Rattle.records.specs.Records.{edition_of}
-use Rattle.writing.proofs.Writing.{Written, record_fields_lem, written_none, written_more, written_same, written_all, written_room}
+use Rattle.writing.proofs.Writing.{Written}
 use Rattle.writing.proofs.put_image.Given as goal
 
 abbrev pub invariant-loop-i : goal.invariant-loop-i

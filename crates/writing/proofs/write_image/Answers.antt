@@ -3,7 +3,6 @@ use mathlib.Core.Path.{◌≡◌, sym, ◌∙◌, ap}
 use Prim.Native.Nat.{ℕ}
 use mathlib.Core.List.{List}
 use lib.ListN.{length}
-use borrow.Author.Rules.{rules}
 use Rattle.table.specs.Table.{Table}
 use Rattle.table.specs.declared.Answer.TheVariants.{Refused}
 use Rattle.table.specs.Answer.{WriteOutcome, first}
@@ -42,11 +41,9 @@ fill-requires c = sound_test _ (table_passed _ (sym c.table_refusal-refusal.ensu
 
 pub returns : goal.returns
 returns c =
-    let f = c in
-    let s = f in
-    let z = sym f.table_refusal-refusal.ensures ∙ f.if-refusal-ne0.false in
-    let w = made (table_of s.args.t.now) s.args.buffer.now z in
+    let z = sym c.table_refusal-refusal.ensures ∙ c.if-refusal-ne0.false in
+    let w = made (table_of c.args.t.now) c.args.buffer.now z in
     record {
-      answer = f.fill.ensures.answer ∙ ap (λ (o : WriteOutcome). o.answer) w;
-      written = f.fill.ensures.written ∙ ap (λ (o : WriteOutcome). o.buffer) w;
+      answer = c.fill.ensures.answer ∙ ap (λ (o : WriteOutcome). o.answer) w;
+      written = c.fill.ensures.written ∙ ap (λ (o : WriteOutcome). o.buffer) w;
     }

@@ -15,8 +15,8 @@ use Rattle.image.proofs.Slips.{length_pairs}
 use Rattle.words.specs.Words.{table_of}
 use Rattle.records.specs.Records.{put_words}
 use Rattle.records.proofs.Laws.{part_back}
-use Rattle.slips.proofs.put_slip.Statement.{statement}
-use Rattle.slips.proofs.put_slip.Tie as tie
+use Rattle.slips.proofs.put_slip.Goals as goal
+use Rattle.slips.proofs.put_slip.Goals.{After-put_word, After-put_word-2, After-put_word-3, Start}
 
 -- the three numbers
 module _ (b : List ℕ) (step exit steps : ℕ) where
@@ -56,85 +56,71 @@ slip_put t u b q step exit steps n room e =
     ∙ ap₂ (λ (k : ℕ) (x : List ℕ). (words (step ∷ exit ∷ k ∷ []) ++ pairs) ++ x) n (drop-drop (length pairs) 6 b ∙ ap (λ (k : ℕ). drop k b) (sym size))
 
 -- the buffer behind each number
-abbrev start_of : tie.After-put-word → tie.Start
+abbrev start_of : After-put_word → Start
 start_of c = c.before.before.before
 
-abbrev first : tie.After-put-word2 → tie.After-put-word
+abbrev first : After-put_word-2 → After-put_word
 first c = c.before.before.before.before
 
-abbrev second : tie.After-put-word3 → tie.After-put-word2
+abbrev second : After-put_word-3 → After-put_word-2
 second c = c.before.before.before.before
 
-begun : (c : tie.After-put-word3) → let s = start_of (first (second c)) in
-    c.put-word3.new.0 ≡ put s.args.buffer.now s.args.step s.args.exit s.args.steps
+begun : (c : After-put_word-3) → let s = start_of (first (second c)) in
+    c.put_word-3.new.part ≡ put s.args.buffer.now s.args.step s.args.exit s.args.steps
 begun c =
     let d = second c in
     let f = first d in
     let s = start_of f in
-    c.put-word3.ensures
-    ∙ ap (λ (b : List ℕ). put_words b 4 (s.args.steps ∷ [])) (d.put-word2.ensures ∙ ap (λ (b : List ℕ). put_words b 2 (s.args.exit ∷ [])) f.put_word.ensures)
+    c.put_word-3.ensures
+    ∙ ap (λ (b : List ℕ). put_words b 4 (s.args.steps ∷ [])) (d.put_word-2.ensures ∙ ap (λ (b : List ℕ). put_words b 2 (s.args.exit ∷ [])) f.put_word.ensures)
 
-enough : (c : tie.Start) → 6 ≤ length c.args.buffer.now
+enough : (c : Start) → 6 ≤ length c.args.buffer.now
 enough c = let n = c.requires.2 in omega arith
 
-long_first : (c : tie.After-put-word) → length c.put_word.new.0 ≡ length (start_of c).args.buffer.now
-long_first c = c.put_word.auto.0
+long_first : (c : After-put_word) → length c.put_word.new.part ≡ length (start_of c).args.buffer.now
+long_first c = c.put_word.auto.part
 
-room : (c : tie.After-put-word3) → let s = start_of (first (second c)) in
-    length c.put-word3.new.0 ≡ length s.args.buffer.now
-room c = let s = start_of (first (second c)) in ap length (begun c) ∙ length_put s.args.buffer.now s.args.step s.args.exit s.args.steps (enough s)
+room : (c : After-put_word-3) → let s = start_of (first (second c)) in
+    length c.put_word-3.new.part ≡ length s.args.buffer.now
+room c = let s = start_of (first (second c)) in ap length (begun c) ∙ length_put s.args.buffer.now s.args.step s.args.exit s.args.steps (enough s.before.before.before.before.before.before.before.before.before.before.before)
 
-put-word-requires-2 : tie.Need-put-word-requires-2
-put-word-requires-2 c κs = let f = c.before.before.before in omega (arith, long_first f, enough (start_of f))
+pub put_word-requires-2 : goal.put_word-requires-2
+put_word-requires-2 c = let f = c in omega (arith, long_first f, enough (start_of f))
 
-put-word-requires-3 : tie.Need-put-word-requires-3
-put-word-requires-3 c κs =
-    let d = c.before.before.before in
+pub put_word-requires-3 : goal.put_word-requires-3
+put_word-requires-3 c =
+    let d = c in
     let f = first d in
-    omega (arith, long_first f, enough (start_of f), d.put-word2.auto.0)
+    omega (arith, long_first f, enough (start_of f), d.put_word-2.auto.0)
 
-sub-put-pairs : tie.Need-overflow-sub-put-pairs
-sub-put-pairs c = let d = c.before.before in omega (arith, room d, enough (start_of (first (second d))))
+pub slice_bounds-put_pairs-count : goal.slice_bounds-put_pairs-count
+slice_bounds-put_pairs-count c = let d = c in omega (arith, room d, enough (start_of (first (second d))))
 
-part-put-pairs-start : tie.Need-slice-bounds-put-pairs-start
-part-put-pairs-start c = let d = c.before.before in omega (arith, room d, enough (start_of (first (second d))))
+pub slice_bounds-put_pairs-start : goal.slice_bounds-put_pairs-start
+slice_bounds-put_pairs-start c = let d = c in omega (arith, room d, enough (start_of (first (second d))))
 
-put-pairs-requires : tie.Need-put-pairs-requires
-put-pairs-requires c κs =
-    let d = c.before.before.before in
+pub put_pairs-requires : goal.put_pairs-requires
+put_pairs-requires c =
+    let d = c in
     let s = start_of (first (second d)) in
-    let p = d.put-word3.new.0 in
+    let p = d.put_word-3.new.part in
     let k = length-drop 6 p in
     let m = length-take-le (length p - 6) (drop 6 p) (omega arith) in
     let size = pairs_size (table_of s.args.t.now) (table_of s.args.u.now) s.args.steps s.pre.1 in
     (s.pre.0, omega (arith, room d, s.pre.2, size, k, m))
 
-returns : tie.Need-returns
+pub returns : goal.returns
 returns c =
-    let f = c.before.before in
-    let d = f.before.before.before.before in
+    let f = c in
+    let d = f in
     let s = start_of (first (second d)) in
     let e = begun d in
     let p : List ℕ → List ℕ → List ℕ = λ q b. take 6 b ++ (q ++ drop (length b - 6) (drop 6 b)) in
-    ap (p f.put-pairs.new.0) e
-    ∙ slip_put (table_of s.args.t.now) (table_of s.args.u.now) s.args.buffer.now f.put-pairs.new.0 s.args.step s.args.exit s.args.steps s.pre.1 s.pre.2
-    (f.put-pairs.ensures
+    ap (p f.put_pairs.new.part) e
+    ∙ slip_put (table_of s.args.t.now) (table_of s.args.u.now) s.args.buffer.now f.put_pairs.new.part s.args.step s.args.exit s.args.steps s.pre.1 s.pre.2
+    (f.put_pairs.ensures
     ∙ ap
     (λ (b : List ℕ).
     pairs_below (table_of s.args.t.now) (table_of s.args.u.now) (table_of s.args.t.now).capacity ++
     drop (length (pairs_below (table_of s.args.t.now) (table_of s.args.u.now) (table_of s.args.t.now).capacity)) (take (length b - 6) (drop 6 b)))
     e)
-
-pub put-slip-spec : {M : Type 1} → statement M
-put-slip-spec =
-    tie.close
-    (tie.spec
-    (λ c κs. search rules)
-    put-word-requires-2
-    put-word-requires-3
-    sub-put-pairs
-    part-put-pairs-start
-    (λ c. search rules)
-    put-pairs-requires
-    (λ c. search rules)
-    returns)
