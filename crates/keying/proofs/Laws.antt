@@ -95,17 +95,19 @@ module _ (bs : List ℕ) (call n : ℕ) (h : is_line bs call n ≡ true) where
 
   -- what `decimal` asks of a part of the digits
   pub line_spells : (from w : ℕ) → 3 ≤ from → w ≤ 3 → from + w ≤ n + 3 →
-      (from + w ≤ length bs) × ((w ≤ 3) × ((i : ℕ) → i < w → spelt bs from i ≡ true))
+      record {
+        within : from + w ≤ length bs;
+        short : w ≤ 3;
+        spelt : (i : ℕ) → i < w → is_digit (get_or bs (from + i) 0) ≡ true;
+      }
   line_spells from w a b c =
-      let size : length bs ≡ n + 4 = eqb-true (length bs) (n + 4) (line_at 0) in (
-        omega arith,
-        (
-          b,
-          λ i l.
-              let e : 3 + (from - 3 + i) ≡ from + i = omega arith in
-              rw e at (all_at n (spelt bs 3) (line_at 4) (from - 3 + i) (omega arith)),
-        ),
-      )
+      let size : length bs ≡ n + 4 = eqb-true (length bs) (n + 4) (line_at 0) in record {
+        within = omega arith;
+        short = b;
+        spelt = λ i l.
+            let e : 3 + (from - 3 + i) ≡ from + i = omega arith in
+            rw e at (all_at n (spelt bs 3) (line_at 4) (from - 3 + i) (omega arith));
+      }
 
 -- the decoder's cases: each form, where none before it fits
 module _ (bs : List ℕ) where

@@ -1,13 +1,11 @@
 -- `cabins::quotas_fit` meets its contract. The loop's invariant: the cabins below c have guarantees within limits, and sum is their total; the measure is
 -- what is left of them. Assumes nothing.
 use mathlib.Core.Path.{◌≡◌, refl, sym, ◌∙◌, ap, ap₂}
-use mathlib.Core.Bool.{true}
-use Prim.Native.Nat.{ℕ, ◌+◌, ◌*◌, ◌-◌, ◌≤◌, ◌<◌}
+use Prim.Native.Nat.{ℕ, ◌+◌, ◌-◌, ◌≤◌, ◌<◌}
 use native.Mathlib.Omega.{arith}
 use lib.Dec.{leb, ltb}
-use borrow.Author.Rules.{rules}
 use borrow.Author.Tests.{leb-true, le-leb, ltb-true, lt-ltb, lt-leb}
-use Rattle.finite.specs.Below.{all, total}
+use Rattle.finite.specs.Below.{total}
 use Rattle.finite.proofs.Bools.{same_test}
 use Rattle.finite.proofs.Loops.{all_none, all_more, all_fails, all_done}
 use Rattle.finite.proofs.Totals.{total_next}

@@ -1,16 +1,10 @@
-use mathlib.Core.Path.{◌≡◌, refl, sym, ◌∙◌, ap, ap₂}
+use mathlib.Core.Path.{◌≡◌}
 use mathlib.Core.Bool.{true}
-use Prim.Native.Nat.{ℕ, ◌+◌, ◌*◌, ◌-◌, ◌≤◌, ◌<◌}
-use native.Mathlib.Omega.{arith}
-use lib.Dec.{leb, ltb}
-use borrow.Author.Rules.{rules}
-use borrow.Author.Tests.{leb-true, le-leb, ltb-true, lt-ltb, lt-leb}
+use Prim.Native.Nat.{◌*◌, ◌-◌, ◌≤◌}
+use lib.Dec.{leb}
 use Rattle.finite.specs.Below.{all, total}
-use Rattle.finite.proofs.Bools.{same_test}
-use Rattle.finite.proofs.Loops.{all_none, all_more, all_fails, all_done}
-use Rattle.finite.proofs.Totals.{total_next}
 use Rattle.table.specs.Table.{cabin_count}
-use Rattle.table.specs.Cabins.{guarantee_of, limit_of, quotas_fit}
+use Rattle.table.specs.Cabins.{guarantee_of, limit_of}
 use Rattle.cabins.proofs.quotas_fit.Given as goal
 
 abbrev pub invariant-loop-c : goal.invariant-loop-c

@@ -1,15 +1,8 @@
-use mathlib.Core.Path.{◌≡◌, ◌∙◌}
-use mathlib.Core.Logic.{⊎_elim}
+use mathlib.Core.Path.{◌≡◌}
 use Prim.Native.Nat.{ℕ, ◌-◌, ◌≤◌, ◌<◌}
-use native.Mathlib.Omega.{arith}
-use lib.ListN.{length, get_or, length-set}
-use lib.Seq.{get_or-set_same, get_or-set_other}
-use borrow.Author.Rules.{rules}
-use Rattle.finite.proofs.Below.{eq_or_ne}
+use lib.ListN.{length, get_or}
 use Rattle.table.specs.Table.{quota_numbers}
 use Rattle.words.specs.Words.{table_of}
-use Rattle.words.proofs.Laws.{shape_table}
-use Rattle.words.proofs.Fields.{list_ext}
 use Rattle.cabins.proofs.quotas_of.Given as goal
 
 abbrev pub invariant-loop-k : goal.invariant-loop-k

@@ -3,11 +3,10 @@ use mathlib.Core.Path.{◌≡◌, sym, ◌∙◌}
 use Prim.Native.Nat.{ℕ, ◌+◌, ◌≤◌, ◌<◌}
 use native.Mathlib.Omega.{arith}
 use lib.ListN.{get_or}
-use borrow.Author.Rules.{rules}
 use borrow.Author.Tests.{eq-eqb, ne_eqb, le-leb, lt-leb}
 use Rattle.finite.specs.Below.{total}
 use Rattle.table.specs.Table.{cabin_count}
-use Rattle.table.specs.Cabins.{guarantee_of, limit_of, at_limit}
+use Rattle.table.specs.Cabins.{guarantee_of, at_limit}
 use Rattle.table.specs.Answer.{first}
 use Rattle.cabins.specs.Shares.{given, share, share_refusal}
 use Rattle.cabins.proofs.share_refusal.Goals as goal

@@ -1,9 +1,8 @@
 -- `cabins::shared` meets its contract. The loop's invariant: sum is what the cabins below c share; the measure is what is left of them. Assumes nothing.
 use mathlib.Core.Path.{◌≡◌, refl, sym, ◌∙◌, ap, ap₂}
-use Prim.Native.Nat.{ℕ, ◌+◌, ◌*◌, ◌-◌, ◌≤◌}
+use Prim.Native.Nat.{ℕ, ◌+◌, ◌-◌}
 use native.Mathlib.Omega.{arith}
 use lib.ListN.{get_or}
-use borrow.Author.Rules.{rules}
 use Rattle.finite.specs.Below.{total}
 use Rattle.finite.proofs.Totals.{total_next}
 use Rattle.table.specs.Table.{cabin_count}

@@ -1,12 +1,7 @@
-use mathlib.Core.Path.{◌≡◌, refl, sym, ◌∙◌, ap, ap₂}
-use Prim.Native.Nat.{ℕ, ◌+◌, ◌*◌, ◌-◌, ◌≤◌}
-use native.Mathlib.Omega.{arith}
-use lib.ListN.{get_or}
-use borrow.Author.Rules.{rules}
+use mathlib.Core.Path.{◌≡◌}
+use Prim.Native.Nat.{◌*◌, ◌-◌, ◌≤◌}
 use Rattle.finite.specs.Below.{total}
-use Rattle.finite.proofs.Totals.{total_next}
 use Rattle.table.specs.Table.{cabin_count}
-use Rattle.table.specs.Cabins.{guarantee_of, unmet}
 use Rattle.cabins.specs.Shares.{given, share}
 use Rattle.cabins.proofs.shared.Given as goal
 

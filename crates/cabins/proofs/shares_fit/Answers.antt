@@ -2,7 +2,6 @@
 use mathlib.Core.Path.{sym, ◌∙◌, ap}
 use Prim.Native.Nat.{ℕ}
 use lib.Dec.{ltb}
-use borrow.Author.Rules.{rules}
 use Rattle.cabins.specs.Shares.{shares_fit}
 use Rattle.cabins.proofs.shares_fit.Goals as goal
 

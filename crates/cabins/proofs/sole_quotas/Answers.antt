@@ -6,7 +6,6 @@ use native.Mathlib.Omega.{arith}
 use lib.ListN.{replicate}
 use Rattle.table.specs.Table.{quota_numbers}
 use Rattle.table.specs.Cabins.{sole_quotas}
-use borrow.Author.Rules.{rules}
 use Rattle.cabins.proofs.sole_quotas.Goals as goal
 use Rattle.cabins.proofs.sole_quotas.Goals.{then-capacity-eq0, else-capacity-eq0}
 

@@ -1,14 +1,11 @@
 -- `cabins::within_limits` meets its contract. The loop's invariant: the charges of the cabins below c are within their limits; the measure is what is left
 -- of them. Assumes nothing.
-use mathlib.Core.Path.{◌≡◌, sym}
-use mathlib.Core.Bool.{true}
-use Prim.Native.Nat.{◌-◌, ◌≤◌, ◌<◌}
+use mathlib.Core.Path.{sym}
+use Prim.Native.Nat.{◌≤◌, ◌<◌}
 use native.Mathlib.Omega.{arith}
 use lib.ListN.{get_or}
 use lib.Dec.{leb}
-use borrow.Author.Rules.{rules}
 use borrow.Author.Tests.{le-leb, lt-leb}
-use Rattle.finite.specs.Below.{all}
 use Rattle.finite.proofs.Loops.{all_none, all_more, all_fails, all_done}
 use Rattle.table.specs.Table.{cabin_count}
 use Rattle.table.specs.Cabins.{limit_of, within_limits}

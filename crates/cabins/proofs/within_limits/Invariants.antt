@@ -1,15 +1,10 @@
-use mathlib.Core.Path.{◌≡◌, sym}
+use mathlib.Core.Path.{◌≡◌}
 use mathlib.Core.Bool.{true}
-use Prim.Native.Nat.{◌-◌, ◌≤◌, ◌<◌}
-use native.Mathlib.Omega.{arith}
-use lib.ListN.{get_or}
+use Prim.Native.Nat.{◌-◌, ◌≤◌}
 use lib.Dec.{leb}
-use borrow.Author.Rules.{rules}
-use borrow.Author.Tests.{le-leb, lt-leb}
 use Rattle.finite.specs.Below.{all}
-use Rattle.finite.proofs.Loops.{all_none, all_more, all_fails, all_done}
 use Rattle.table.specs.Table.{cabin_count}
-use Rattle.table.specs.Cabins.{limit_of, within_limits}
+use Rattle.table.specs.Cabins.{limit_of}
 use Rattle.cabins.specs.Shares.{given}
 use Rattle.cabins.proofs.within_limits.Given as goal
 

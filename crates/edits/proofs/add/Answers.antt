@@ -4,14 +4,12 @@ use mathlib.Core.Path.{◌≡◌, sym, ◌∙◌, ap}
 use mathlib.Core.Bool.{not}
 use Prim.Native.Nat.{ℕ, ◌<◌}
 use native.Mathlib.Omega.{arith}
-use borrow.Author.Rules.{rules}
 use Rattle.table.specs.declared.Answer.TheVariants.{Given}
 use Rattle.table.specs.Table.{Table, places, in_use}
 use Rattle.table.specs.Sound.{Sound}
 use Rattle.table.specs.Calls.{number_given, add_refusal, add_table, add_call}
 use Rattle.table.proofs.Edits.{number_given_lem, formed_with_step, with_step_kept}
 use Rattle.table.proofs.Calls.{AddFits, add_fits}
-use Rattle.words.specs.Words.{table_of}
 use Rattle.words.proofs.Refusals.{accepted_sound, refused_answer, refused_words, given_answer, given_words}
 use Rattle.words.proofs.Formed.{formed_relinkable}
 use Rattle.edits.proofs.add.Goals as goal

@@ -3,19 +3,18 @@ use mathlib.Core.Path.{◌≡◌, refl, sym, ◌∙◌, ap, ap₂}
 use mathlib.Core.List.{List, [], ◌∷◌, ◌++◌}
 use Prim.Native.Nat.{ℕ, ◌≤◌, ◌<◌}
 use native.Mathlib.Omega.{arith}
-use borrow.Author.Rules.{rules}
-use borrow.Author.Tests.{not-false, eq-eqb, ne_eqb, le-leb, lt-leb}
+use borrow.Author.Tests.{eq-eqb, ne_eqb, le-leb, lt-leb}
 use Rattle.finite.proofs.Bools.{not_true_false, not_false_true}
 use Rattle.table.specs.Table.{Table, cabin_count}
 use Rattle.table.specs.Cabins.{at_limit, none_to_spare, charge, free_steps}
 use Rattle.table.specs.Sound.{Sound}
 use Rattle.table.specs.Answer.{cabin_at_limit, steps_reserved, first}
 use Rattle.table.specs.Calls.{step_conditions, add_refusal}
-use Rattle.table.proofs.Sound.{test_sound, sound_test}
+use Rattle.table.proofs.Sound.{test_sound}
 use Rattle.table.proofs.Calls.{nonzero, past_sound, first_append}
 use Rattle.words.specs.Words.{table_of}
 use Rattle.cabins.specs.Shares.{given, share_refusal}
-use Rattle.cabins.proofs.Laws.{Agree, tabulated, share_refusal_lem}
+use Rattle.cabins.proofs.Laws.{tabulated, share_refusal_lem}
 use Rattle.edits.specs.Refusals.{step_refusal}
 use Rattle.steps.proofs.Laws.{said_true, said_false}
 use Rattle.edits.proofs.add_refusal.Goals as goal

@@ -1,7 +1,6 @@
 -- `edits::counts` meets its contract. Assumes nothing.
 use mathlib.Core.Path.{sym, ◌∙◌}
 use native.Mathlib.Omega.{arith}
-use borrow.Author.Rules.{rules}
 use Rattle.finite.proofs.Below.{count_le}
 use Rattle.table.specs.Table.{in_use, steps_in_use}
 use Rattle.table.specs.Calls.{spoken_counts, counts_call}

@@ -7,7 +7,6 @@ use Rattle.table.specs.Answer.{first, unless}
 use Rattle.table.specs.Calls.{fresh_call}
 use Rattle.table.proofs.Sound.{capacity_range}
 use Rattle.cabins.proofs.Laws.{list_quotas}
-use borrow.Author.Rules.{rules}
 use Rattle.steps.proofs.Laws.{said_true, said_false}
 use Rattle.edits.proofs.fresh.Goals as goal
 use Rattle.edits.proofs.fresh.Goals.{After-quotas_fit, Else-not-capacity_fits}

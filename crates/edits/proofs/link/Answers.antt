@@ -4,13 +4,11 @@ use mathlib.Core.Path.{◌≡◌, refl, sym, ◌∙◌}
 use mathlib.Core.Bool.{true}
 use Prim.Native.Nat.{ℕ, ◌<◌}
 use native.Mathlib.Omega.{arith}
-use borrow.Author.Rules.{rules}
 use Rattle.table.specs.Table.{Table, places, counters, in_use, own_bit, target_of}
 use Rattle.table.specs.Sound.{Sound}
 use Rattle.table.specs.Calls.{weak_bit, link_refusal, link_table, link_call}
 use Rattle.table.proofs.Links.{used_place}
 use Rattle.table.proofs.Calls.{LinkFits, link_fits}
-use Rattle.words.specs.Words.{table_of}
 use Rattle.words.proofs.Refusals.{accepted_sound, refused_answer, refused_words, given_answer, given_words}
 use Rattle.words.proofs.Formed.{formed_relinkable}
 use Rattle.edits.proofs.link.Goals as goal

@@ -1,5 +1,4 @@
 -- `edits::next_number` meets its contract. Assumes nothing.
-use borrow.Author.Rules.{rules}
 use borrow.Author.Tests.{lt-ltb, le-ltb}
 use Rattle.table.specs.Calls.{after}
 use Rattle.edits.proofs.next_number.Goals as goal

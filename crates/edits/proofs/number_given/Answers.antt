@@ -1,17 +1,13 @@
 -- `edits::number_given` meets its contract. The loop's invariant: the search of the definition, from k on among the numbers left, finds the
 -- number given. The measure is how many are left. Assumes nothing.
 use mathlib.Core.Path.{◌≡◌, sym, ◌∙◌, ap}
-use mathlib.Core.Bool.{Bool, false, not}
-use mathlib.Core.Logic.{⊎_elim}
-use mathlib.Core.List.{List}
-use Prim.Native.Nat.{ℕ, ◌≤◌, ◌<◌}
-use native.Mathlib.Omega.{arith}
+use mathlib.Core.Bool.{false, not}
+use Prim.Native.Nat.{ℕ}
 use Rattle.finite.specs.Below.{find}
 use Rattle.finite.proofs.Below.{find_turn, find_none, find_here}
-use Rattle.table.specs.Table.{places, in_use}
+use Rattle.table.specs.Table.{in_use}
 use Rattle.table.specs.Calls.{after, number_given}
 use Rattle.words.specs.Words.{table_of}
-use borrow.Author.Rules.{rules}
 use Rattle.edits.proofs.Laws.{after_place}
 use Rattle.edits.proofs.number_given.Invariants.{free}
 use Rattle.edits.proofs.number_given.Goals as goal

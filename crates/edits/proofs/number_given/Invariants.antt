@@ -1,16 +1,11 @@
-use mathlib.Core.Path.{◌≡◌, sym, ◌∙◌, ap}
-use mathlib.Core.Bool.{Bool, false, not}
-use mathlib.Core.Logic.{⊎_elim}
+use mathlib.Core.Path.{◌≡◌}
+use mathlib.Core.Bool.{Bool, not}
 use mathlib.Core.List.{List}
-use Prim.Native.Nat.{ℕ, ◌≤◌, ◌<◌}
-use native.Mathlib.Omega.{arith}
+use Prim.Native.Nat.{ℕ, ◌<◌}
 use Rattle.finite.specs.Below.{find}
-use Rattle.finite.proofs.Below.{find_turn, find_none, find_here}
 use Rattle.table.specs.Table.{places, in_use}
 use Rattle.table.specs.Calls.{after, number_given}
 use Rattle.words.specs.Words.{table_of}
-use borrow.Author.Rules.{rules}
-use Rattle.edits.proofs.Laws.{after_place}
 use Rattle.edits.proofs.number_given.Given as goal
 
 abbrev pub free : List ℕ → ℕ → Bool

@@ -1,6 +1,5 @@
 -- `edits::read` meets its contract. Assumes nothing.
 use mathlib.Core.Path.{◌≡◌, sym, ◌∙◌}
-use borrow.Author.Rules.{rules}
 use borrow.Author.Tests.{ne_eqb}
 use Rattle.table.specs.Calls.{read_refusal, read_call}
 use Rattle.table.proofs.Links.{used_place}

@@ -1,7 +1,6 @@
 -- `edits::read_refusal` meets its contract: at each return, the conditions that led there. Assumes nothing.
 use mathlib.Core.Path.{◌≡◌, sym, ◌∙◌}
 use mathlib.Core.Bool.{true}
-use borrow.Author.Rules.{rules}
 use Rattle.table.specs.Sound.{sound}
 use Rattle.table.specs.Answer.{first}
 use Rattle.table.specs.Calls.{read_refusal}

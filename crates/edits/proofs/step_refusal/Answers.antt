@@ -4,7 +4,6 @@ use mathlib.Core.Bool.{true, not, cond}
 use mathlib.Core.List.{[], ◌∷◌}
 use Prim.Native.Nat.{ℕ}
 use lib.Dec.{eqb}
-use borrow.Author.Rules.{rules}
 use borrow.Author.Tests.{eq-eqb, ne_eqb}
 use Rattle.table.specs.Table.{Table, steps_in_use}
 use Rattle.table.specs.Sound.{content_fits}

@@ -1,7 +1,6 @@
 -- `keying::decimal` meets its contract. The loop's invariant: the first `i` digits spell the value. The measure is the number of digits left.
 -- Assumes nothing.
 use mathlib.Core.Path.{◌≡◌, refl, ◌∙◌, ap}
-use Prim.Native.Nat.{◌-◌, ◌≤◌}
 use native.Mathlib.Omega.{arith}
 use Rattle.keyline.specs.Keys.{decimal as spells}
 use Rattle.keying.proofs.Laws.{digit_low, decimal_more, decimal_fits}
@@ -14,29 +13,15 @@ loop-i-init c = (omega arith, refl)
 pub overflow_mul-value : goal.overflow_mul-value
 overflow_mul-value c =
     let a = c.args in
-    let p = c.requires in
-    omega (arith, decimal_fits a.line.now a.from a.w p.short.0 p.1.1 c.loop-i.i (omega arith))
-
-pub overflow_add-from : goal.overflow_add-from
-overflow_add-from c = omega arith
-
-pub bounds-line-from : goal.bounds-line-from
-bounds-line-from c = omega arith
+    omega (arith, decimal_fits a.line.now a.from a.w c.requires.short c.requires.spelt c.loop-i.i (omega arith))
 
 pub digit_value-requires : goal.digit_value-requires
-digit_value-requires c = digit_low _ (c.requires.short.1 c.loop-i.i (omega arith))
+digit_value-requires c = digit_low _ (c.requires.spelt c.loop-i.i (omega arith))
 
 pub overflow_add-value : goal.overflow_add-value
 overflow_add-value c =
     let a = c.args in
-    let p = c.requires in
-    omega (arith, decimal_fits a.line.now a.from a.w p.1.0 p.1.1 c.loop-i.i (omega arith))
-
-pub overflow_add-i : goal.overflow_add-i
-overflow_add-i c = omega arith
-
-pub loop-i-smaller : goal.loop-i-smaller
-loop-i-smaller c = omega arith
+    omega (arith, decimal_fits a.line.now a.from a.w c.requires.short c.requires.spelt c.loop-i.i (omega arith))
 
 pub loop-i-preserved : goal.loop-i-preserved
 loop-i-preserved c =

@@ -3,8 +3,7 @@ use mathlib.Core.Path.{sym, ◌∙◌}
 use Prim.Native.Nat.{◌+◌}
 use native.Mathlib.Omega.{arith}
 use lib.ListN.{length}
-use borrow.Author.Tests.{ne_eqb, not-true, not-false}
-use borrow.Author.Rules.{rules}
+use borrow.Author.Tests.{ne_eqb}
 use Rattle.keying.proofs.Laws.{not_line, line_last}
 use Rattle.keying.proofs.is_line.Goals as goal
 
@@ -23,10 +22,10 @@ pub returns-then-line-call : goal.returns-then-line-call
 returns-then-line-call c = sym (not_line _ _ _ 3 (ne_eqb _ _ c.if-line-call.true))
 
 pub returns-then-not-digits : goal.returns-then-not-digits
-returns-then-not-digits c = sym (not_line _ _ _ 4 (sym c.digits.ensures ∙ not-true _ c.if-not-digits.true))
+returns-then-not-digits c = sym (not_line _ _ _ 4 (sym c.digits.ensures ∙ c.if-not-digits.true))
 
 pub returns : goal.returns
 returns c =
     sym
     (line_last _ _ _ (omega arith) (omega arith) (omega arith) (omega arith)
-    (sym c.digits.ensures ∙ not-false _ c.if-not-digits.false))
+    (sym c.digits.ensures ∙ c.if-not-digits.false))

@@ -1,7 +1,6 @@
 -- `marking::count_marks` meets its contract. The loop's invariant: `number` is the count below k. The measure is what is left of n. Assumes nothing.
 use mathlib.Core.Path.{◌≡◌, sym, ◌∙◌, ap}
-use mathlib.Core.Logic.{⊎_elim}
-use Prim.Native.Nat.{ℕ, ◌-◌, ◌≤◌}
+use Prim.Native.Nat.{ℕ}
 use native.Mathlib.Omega.{arith}
 use Rattle.finite.specs.Below.{count}
 use Rattle.finite.proofs.Below.{count_le}

@@ -1,12 +1,7 @@
-use mathlib.Core.Path.{◌≡◌, sym, ◌∙◌, ap}
-use mathlib.Core.Logic.{⊎_elim}
-use Prim.Native.Nat.{ℕ, ◌-◌, ◌≤◌}
-use native.Mathlib.Omega.{arith}
+use mathlib.Core.Path.{◌≡◌}
+use Prim.Native.Nat.{◌-◌, ◌≤◌}
 use Rattle.finite.specs.Below.{count}
-use Rattle.finite.proofs.Below.{count_le}
-use Rattle.finite.proofs.Loops.{count_zero, count_hit, count_miss}
 use Rattle.words.specs.Marks.{is_marked}
-use Rattle.marking.proofs.Laws.{one_marked, not_marked}
 use Rattle.marking.proofs.count_marks.Given as goal
 
 abbrev pub invariant-loop-k : goal.invariant-loop-k

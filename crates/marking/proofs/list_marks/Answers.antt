@@ -1,9 +1,8 @@
 -- `marking::list_marks` meets its contract. The loop's invariant: the numbers of the marked steps below k are written, and `at` is their count. The
 -- measure is what is left of n. Assumes nothing.
 use mathlib.Core.Path.{◌≡◌, refl, sym, ◌∙◌, ap, ap₂}
-use mathlib.Core.Logic.{⊎_elim}
 use mathlib.Core.List.{List}
-use Prim.Native.Nat.{ℕ, ◌-◌, ◌≤◌, ◌<◌}
+use Prim.Native.Nat.{ℕ, ◌<◌}
 use native.Mathlib.Omega.{arith}
 use lib.ListN.{length, get_or, set, length-set}
 use Rattle.finite.specs.Below.{count}

@@ -1,15 +1,9 @@
-use mathlib.Core.Path.{◌≡◌, refl, sym, ◌∙◌, ap, ap₂}
-use mathlib.Core.Logic.{⊎_elim}
-use mathlib.Core.List.{List}
-use Prim.Native.Nat.{ℕ, ◌-◌, ◌≤◌, ◌<◌}
-use native.Mathlib.Omega.{arith}
-use lib.ListN.{length, get_or, set, length-set}
+use mathlib.Core.Path.{◌≡◌}
+use Prim.Native.Nat.{◌-◌, ◌≤◌}
+use lib.ListN.{length}
 use Rattle.finite.specs.Below.{count}
-use Rattle.finite.proofs.Below.{count_le}
-use Rattle.finite.proofs.Loops.{count_zero, count_hit, count_miss}
-use Rattle.finite.proofs.Select.{count_rises}
 use Rattle.words.specs.Marks.{is_marked}
-use Rattle.marking.proofs.Laws.{one_marked, not_marked, written, written_none, written_hit, written_miss}
+use Rattle.marking.proofs.Laws.{written}
 use Rattle.marking.proofs.list_marks.Given as goal
 
 abbrev pub invariant-loop-k : goal.invariant-loop-k

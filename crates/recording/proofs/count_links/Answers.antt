@@ -1,12 +1,10 @@
 -- `recording::count_links` meets its contract: at each place the counters are those of the exits before it. Assumes nothing.
 use mathlib.Core.Path.{◌≡◌, refl, ◌∙◌, ap}
-use mathlib.Core.Logic.{⊎_elim}
-use Prim.Native.Nat.{ℕ, ◌-◌, ◌≤◌, ◌<◌}
+use Prim.Native.Nat.{ℕ, ◌<◌}
 use native.Mathlib.Omega.{arith}
 use lib.ListN.{get_or}
-use borrow.Author.Rules.{rules}
-use Rattle.table.specs.Table.{Table, places, counters, exit_places}
-use Rattle.words.specs.Words.{table_of, Becomes}
+use Rattle.table.specs.Table.{Table, counters, exit_places}
+use Rattle.words.specs.Words.{table_of}
 use Rattle.recording.proofs.Counting.{counted_to, counted_none, counted_hit, counted_miss, counted_le, counted_bit, counted_all}
 use Rattle.recording.proofs.count_links.Goals as goal
 use Rattle.recording.proofs.count_links.Goals.{else-wide-lt-PLACES, then-wide-lt-PLACES}

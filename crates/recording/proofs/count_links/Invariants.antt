@@ -1,12 +1,8 @@
-use mathlib.Core.Path.{◌≡◌, refl, ◌∙◌, ap}
-use mathlib.Core.Logic.{⊎_elim}
-use Prim.Native.Nat.{ℕ, ◌-◌, ◌≤◌, ◌<◌}
-use native.Mathlib.Omega.{arith}
-use lib.ListN.{get_or}
-use borrow.Author.Rules.{rules}
-use Rattle.table.specs.Table.{Table, places, exit_places}
+use mathlib.Core.Path.{◌≡◌}
+use Prim.Native.Nat.{◌-◌, ◌≤◌}
+use Rattle.table.specs.Table.{exit_places}
 use Rattle.words.specs.Words.{table_of, Becomes}
-use Rattle.recording.proofs.Counting.{counted_to, counted_none, counted_hit, counted_miss, counted_le, counted_bit, counted_all}
+use Rattle.recording.proofs.Counting.{counted_to}
 use Rattle.recording.proofs.count_links.Given as goal
 
 abbrev pub invariant-loop-p : goal.invariant-loop-p

@@ -1,15 +1,13 @@
 -- `recording::has_old_contents` meets its contract. The loop's invariant: found counts the steps below i whose content edition 1 cannot say; the measure
 -- is how many steps are left. Assumes nothing.
 use mathlib.Core.Path.{◌≡◌, sym, ◌∙◌, ap, ap₂}
-use mathlib.Core.Bool.{Bool, not}
-use Prim.Native.Nat.{ℕ, ◌+◌, ◌-◌, ◌≤◌}
+use mathlib.Core.Bool.{not}
+use Prim.Native.Nat.{ℕ, ◌+◌}
 use native.Mathlib.Omega.{arith}
 use lib.Dec.{eqb}
-use borrow.Author.Rules.{rules}
 use Rattle.finite.specs.Below.{one, count}
 use Rattle.finite.proofs.Below.{count_le}
 use Rattle.finite.proofs.Loops.{count_zero, count_next, none_fail}
-use Rattle.table.specs.Table.{Table, places, kind_of, content_of}
 use Rattle.image.specs.Image.{old_content, contents_sayable}
 use Rattle.words.specs.Words.{table_of}
 use Rattle.recording.proofs.has_old_contents.Invariants.{said}

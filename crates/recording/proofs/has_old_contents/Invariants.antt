@@ -1,14 +1,9 @@
-use mathlib.Core.Path.{◌≡◌, sym, ◌∙◌, ap, ap₂}
+use mathlib.Core.Path.{◌≡◌}
 use mathlib.Core.Bool.{Bool, not}
-use Prim.Native.Nat.{ℕ, ◌+◌, ◌-◌, ◌≤◌}
-use native.Mathlib.Omega.{arith}
-use lib.Dec.{eqb}
-use borrow.Author.Rules.{rules}
-use Rattle.finite.specs.Below.{one, count}
-use Rattle.finite.proofs.Below.{count_le}
-use Rattle.finite.proofs.Loops.{count_zero, count_next, none_fail}
+use Prim.Native.Nat.{ℕ, ◌-◌, ◌≤◌}
+use Rattle.finite.specs.Below.{count}
 use Rattle.table.specs.Table.{Table, places, kind_of, content_of}
-use Rattle.image.specs.Image.{old_content, contents_sayable}
+use Rattle.image.specs.Image.{old_content}
 use Rattle.words.specs.Words.{table_of}
 use Rattle.recording.proofs.has_old_contents.Given as goal
 

@@ -1,6 +1,5 @@
 -- `recording::pack` meets its contract. Assumes nothing.
 use mathlib.Core.Path.{refl}
-use borrow.Author.Rules.{rules}
 use Rattle.recording.proofs.pack.Goals as goal
 
 pub returns : goal.returns

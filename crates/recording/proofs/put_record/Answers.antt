@@ -3,7 +3,6 @@ use mathlib.Core.Path.{◌∙◌, ap}
 use mathlib.Core.List.{[], ◌∷◌}
 use Prim.Native.Nat.{◌/◌, ◌%◌}
 use lib.Seq.{sets}
-use borrow.Author.Rules.{rules}
 use Rattle.table.specs.Table.{Table, exit_places, with_links, with_steps}
 use Rattle.image.specs.Image.{with_record}
 use Rattle.records.specs.Records.{added, record_fields}

@@ -3,7 +3,6 @@ use mathlib.Core.Path.{◌≡◌, refl, sym, ◌∙◌, ap, subst}
 use mathlib.Core.List.{List}
 use Prim.Native.Nat.{ℕ, ◌*◌, ◌≤◌, ◌<◌}
 use lib.ListN.{get_or, replicate}
-use borrow.Author.Rules.{rules}
 use Rattle.table.specs.Table.{Table, places, counters, counts_at, links_to, with_links}
 use Rattle.image.specs.Image.{counted}
 use Rattle.recording.proofs.recount.Goals as goal

@@ -2,7 +2,6 @@
 use mathlib.Core.Logic.{⊎_elim}
 use Prim.Native.Nat.{ℕ, ◌<◌}
 use native.Mathlib.Omega.{arith}
-use borrow.Author.Rules.{rules}
 use Rattle.finite.proofs.Bools.{test}
 use Rattle.table.specs.Table.{Table, places, in_use, own_bit, link_bit}
 use Rattle.table.specs.Sound.{Sound}

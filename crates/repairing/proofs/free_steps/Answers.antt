@@ -1,13 +1,8 @@
 -- `repairing::free_steps` meets its contract. The loop's invariant: the records of the marked steps below k are zero, by the definition's own rounds.
 -- The measure is what is left of n. Assumes nothing.
 use mathlib.Core.Path.{◌≡◌, ◌∙◌}
-use mathlib.Core.Logic.{⊎_elim}
-use Prim.Native.Nat.{◌-◌, ◌≤◌}
 use native.Mathlib.Omega.{arith}
-use Rattle.finite.specs.Below.{rounds}
-use Rattle.table.specs.Table.{places}
 use Rattle.table.specs.Clear.{blanked, each_doubtful, release}
-use Rattle.words.specs.Words.{table_of, Becomes}
 use Rattle.words.proofs.Becomes.{becomes_none, becomes_next, becomes_then}
 use Rattle.repairing.specs.Repairing.{as_marks}
 use Rattle.marking.proofs.Laws.{one_marked, not_marked}

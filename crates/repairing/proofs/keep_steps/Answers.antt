@@ -1,12 +1,9 @@
 -- `repairing::keep_steps` meets its contract. The loop's invariant: the repair of every table that t can stand for has come as far, on a table that is
 -- there in the proof alone, and the list has the candidates, none below `next`. The measure is that of `repair_steps`. Assumes nothing.
-use Prim.Native.Nat.{◌+◌, ◌*◌, ◌-◌, ◌≤◌}
+use Prim.Native.Nat.{◌≤◌}
 use native.Mathlib.Omega.{arith}
-use Rattle.finite.specs.Below.{count}
-use Rattle.table.specs.Table.{Table, places}
+use Rattle.table.specs.Table.{places}
 use Rattle.words.specs.Words.{table_of}
-use Rattle.words.specs.Marks.{is_marked}
-use Rattle.repairing.specs.Repairing.{Settling}
 use Rattle.repairing.proofs.Repairs.{Followed, able_most, candidate_doubtful, marks_fall, followed_begins, followed_skip, followed_turn, followed_done}
 use Rattle.repairing.proofs.keep_steps.Goals as goal
 use Rattle.repairing.proofs.keep_steps.Goals.{At-loop-next}

@@ -1,11 +1,10 @@
 use Prim.Native.Nat.{◌+◌, ◌*◌, ◌-◌, ◌≤◌}
-use native.Mathlib.Omega.{arith}
 use Rattle.finite.specs.Below.{count}
-use Rattle.table.specs.Table.{Table, places}
+use Rattle.table.specs.Table.{Table}
 use Rattle.words.specs.Words.{table_of}
 use Rattle.words.specs.Marks.{is_marked}
 use Rattle.repairing.specs.Repairing.{Settling}
-use Rattle.repairing.proofs.Repairs.{Followed, able_most, candidate_doubtful, marks_fall, followed_begins, followed_skip, followed_turn, followed_done}
+use Rattle.repairing.proofs.Repairs.{Followed}
 use Rattle.repairing.proofs.keep_steps.Given as goal
 
 abbrev pub invariant-loop-next : goal.invariant-loop-next

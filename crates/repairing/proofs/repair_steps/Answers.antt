@@ -1,16 +1,9 @@
 -- `repairing::repair_steps` meets its contract. The loop's invariant: what is left of the definition's repair comes to the same, and the list has the
 -- candidates, none below `low`. The measure falls with each step taken back, and else with the way left for `low`. Assumes nothing.
-use mathlib.Core.Path.{◌≡◌, refl, sym, ◌∙◌, subst}
-use Prim.Native.Nat.{◌+◌, ◌*◌, ◌-◌, ◌≤◌}
+use mathlib.Core.Path.{refl, sym, ◌∙◌, subst}
 use native.Mathlib.Omega.{arith}
-use lib.ListN.{length}
-use Rattle.finite.specs.Below.{count}
-use Rattle.table.specs.Table.{linked}
 use Rattle.table.specs.Sound.{Formed}
-use Rattle.words.specs.Words.{table_of}
-use Rattle.words.specs.Marks.{is_marked}
-use Rattle.repairing.specs.Repairing.{Candidates}
-use Rattle.repairing.proofs.Repairs.{Progress, able_most, able_standing, able_restored, candidate_doubtful, candidates_skip, marks_fall, progress_begins, turn, progress_done}
+use Rattle.repairing.proofs.Repairs.{able_most, able_standing, able_restored, candidate_doubtful, candidates_skip, marks_fall, progress_begins, turn, progress_done}
 use Rattle.repairing.proofs.repair_steps.Goals as goal
 
 pub loop-low-init : goal.loop-low-init

@@ -1,14 +1,12 @@
-use mathlib.Core.Path.{◌≡◌, refl, sym, ◌∙◌, subst}
+use mathlib.Core.Path.{◌≡◌}
 use Prim.Native.Nat.{◌+◌, ◌*◌, ◌-◌, ◌≤◌}
-use native.Mathlib.Omega.{arith}
 use lib.ListN.{length}
 use Rattle.finite.specs.Below.{count}
 use Rattle.table.specs.Table.{linked}
-use Rattle.table.specs.Sound.{Formed}
 use Rattle.words.specs.Words.{table_of}
 use Rattle.words.specs.Marks.{is_marked}
 use Rattle.repairing.specs.Repairing.{Candidates}
-use Rattle.repairing.proofs.Repairs.{Progress, able_most, able_standing, able_restored, candidate_doubtful, candidates_skip, marks_fall, progress_begins, turn, progress_done}
+use Rattle.repairing.proofs.Repairs.{Progress}
 use Rattle.repairing.proofs.repair_steps.Given as goal
 
 abbrev pub invariant-loop-low : goal.invariant-loop-low

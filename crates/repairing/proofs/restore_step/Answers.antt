@@ -1,15 +1,12 @@
 -- `repairing::restore_step` meets its contract. The loop's invariant: the exits below e are weakened, by the definition's own rounds, and the table
 -- is in order. The measure is what is left of the exits. Assumes nothing.
 use mathlib.Core.Path.{◌≡◌}
-use Prim.Native.Nat.{ℕ, ◌-◌, ◌≤◌}
+use Prim.Native.Nat.{ℕ}
 use native.Mathlib.Omega.{arith}
-use borrow.Author.Rules.{rules}
 use Rattle.finite.specs.Below.{rounds}
 use Rattle.table.specs.Table.{Table, exits_of}
 use Rattle.table.specs.Clear.{weakened, restored}
-use Rattle.words.specs.Words.{table_of, Becomes}
 use Rattle.words.proofs.Becomes.{becomes_none, becomes_next, becomes_done, becomes_then}
-use Rattle.repairing.specs.Repairing.{Standing}
 use Rattle.repairing.proofs.Laws.{standing_place, standing_flipped, standing_weakened, standing_after}
 use Rattle.repairing.proofs.restore_step.Goals as goal
 

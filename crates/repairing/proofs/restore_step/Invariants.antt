@@ -1,14 +1,10 @@
 use mathlib.Core.Path.{◌≡◌}
-use Prim.Native.Nat.{ℕ, ◌-◌, ◌≤◌}
-use native.Mathlib.Omega.{arith}
-use borrow.Author.Rules.{rules}
+use Prim.Native.Nat.{◌-◌, ◌≤◌}
 use Rattle.finite.specs.Below.{rounds}
-use Rattle.table.specs.Table.{Table, exits_of}
-use Rattle.table.specs.Clear.{weakened, restored}
+use Rattle.table.specs.Table.{exits_of}
+use Rattle.table.specs.Clear.{weakened}
 use Rattle.words.specs.Words.{table_of, Becomes}
-use Rattle.words.proofs.Becomes.{becomes_none, becomes_next, becomes_done, becomes_then}
 use Rattle.repairing.specs.Repairing.{Standing}
-use Rattle.repairing.proofs.Laws.{standing_place, standing_flipped, standing_weakened, standing_after}
 use Rattle.repairing.proofs.restore_step.Given as goal
 
 abbrev pub invariant-loop-e : goal.invariant-loop-e

@@ -1,16 +1,11 @@
 -- `repairing::unlink_step` meets its contract. The loop's invariant: the exits below e are empty, by the definition's own rounds, and the table is in
 -- order. The measure is what is left of the exits. Assumes nothing.
 use mathlib.Core.Path.{◌≡◌}
-use Prim.Native.Nat.{◌-◌, ◌≤◌}
 use native.Mathlib.Omega.{arith}
-use borrow.Author.Rules.{rules}
-use Rattle.finite.specs.Below.{rounds}
 use Rattle.table.specs.Table.{exits_of}
 use Rattle.table.specs.Calls.{relink}
 use Rattle.table.specs.Clear.{unlinked}
-use Rattle.words.specs.Words.{table_of, Becomes}
 use Rattle.words.proofs.Becomes.{becomes_none, becomes_next, becomes_done}
-use Rattle.repairing.specs.Repairing.{Standing}
 use Rattle.repairing.proofs.Laws.{standing_relinkable, standing_emptied, standing_after}
 use Rattle.repairing.proofs.unlink_step.Goals as goal
 

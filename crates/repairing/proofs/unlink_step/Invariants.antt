@@ -1,15 +1,10 @@
 use mathlib.Core.Path.{◌≡◌}
 use Prim.Native.Nat.{◌-◌, ◌≤◌}
-use native.Mathlib.Omega.{arith}
-use borrow.Author.Rules.{rules}
 use Rattle.finite.specs.Below.{rounds}
 use Rattle.table.specs.Table.{exits_of}
 use Rattle.table.specs.Calls.{relink}
-use Rattle.table.specs.Clear.{unlinked}
 use Rattle.words.specs.Words.{table_of, Becomes}
-use Rattle.words.proofs.Becomes.{becomes_none, becomes_next, becomes_done}
 use Rattle.repairing.specs.Repairing.{Standing}
-use Rattle.repairing.proofs.Laws.{standing_relinkable, standing_emptied, standing_after}
 use Rattle.repairing.proofs.unlink_step.Given as goal
 
 abbrev pub invariant-loop-e : goal.invariant-loop-e

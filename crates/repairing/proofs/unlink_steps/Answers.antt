@@ -1,14 +1,10 @@
 -- `repairing::unlink_steps` meets its contract. The loop's invariant: the marked steps below k are unlinked, by the definition's own rounds, and the
 -- table is in order. The measure is what is left of n. Assumes nothing.
 use mathlib.Core.Path.{◌≡◌, ◌∙◌}
-use mathlib.Core.Logic.{⊎_elim}
-use Prim.Native.Nat.{◌-◌, ◌≤◌}
 use native.Mathlib.Omega.{arith}
-use Rattle.finite.specs.Below.{rounds}
 use Rattle.table.specs.Clear.{unlinked}
-use Rattle.words.specs.Words.{table_of, Becomes}
 use Rattle.words.proofs.Becomes.{becomes_none, becomes_next}
-use Rattle.repairing.specs.Repairing.{as_marks, Repairable}
+use Rattle.repairing.specs.Repairing.{as_marks}
 use Rattle.marking.proofs.Laws.{one_marked, not_marked}
 use Rattle.repairing.proofs.Laws.{marks_at, each_round, each_go, each_stay, each_done}
 use Rattle.repairing.proofs.Repairs.{able_most, able_standing, able_unlinked, able_after}

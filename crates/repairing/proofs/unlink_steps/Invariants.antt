@@ -1,15 +1,9 @@
-use mathlib.Core.Path.{◌≡◌, ◌∙◌}
-use mathlib.Core.Logic.{⊎_elim}
 use Prim.Native.Nat.{◌-◌, ◌≤◌}
-use native.Mathlib.Omega.{arith}
 use Rattle.finite.specs.Below.{rounds}
 use Rattle.table.specs.Clear.{unlinked}
 use Rattle.words.specs.Words.{table_of, Becomes}
-use Rattle.words.proofs.Becomes.{becomes_none, becomes_next}
 use Rattle.repairing.specs.Repairing.{as_marks, Repairable}
-use Rattle.marking.proofs.Laws.{one_marked, not_marked}
-use Rattle.repairing.proofs.Laws.{marks_at, each_round, each_go, each_stay, each_done}
-use Rattle.repairing.proofs.Repairs.{able_most, able_standing, able_unlinked, able_after}
+use Rattle.repairing.proofs.Laws.{each_round}
 use Rattle.repairing.proofs.unlink_steps.Given as goal
 
 abbrev pub invariant-loop-k : goal.invariant-loop-k

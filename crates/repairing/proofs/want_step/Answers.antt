@@ -1,6 +1,5 @@
 -- `repairing::want_step` meets its contract: the step is no step, not doubtful, or a new candidate. Assumes nothing.
 use native.Mathlib.Omega.{arith}
-use borrow.Author.Rules.{rules}
 use Rattle.repairing.proofs.Laws.{wants_nothing, wants_certain, wants_doubtful}
 use Rattle.repairing.proofs.want_step.Goals as goal
 

@@ -1,9 +1,8 @@
 -- `repairing::want_targets` meets its contract. The loop's invariant: what the exits below e lead to has been added. The measure is what is left of
 -- the exits. Assumes nothing.
 use mathlib.Core.Path.{◌≡◌, ◌∙◌, subst}
-use Prim.Native.Nat.{ℕ, ◌-◌, ◌≤◌, ◌<◌}
+use Prim.Native.Nat.{ℕ, ◌<◌}
 use native.Mathlib.Omega.{arith}
-use borrow.Author.Rules.{rules}
 use Rattle.table.specs.Table.{exits_of, linked}
 use Rattle.words.specs.Words.{table_of}
 use Rattle.words.proofs.Formed.{target_place}

@@ -1,13 +1,9 @@
-use mathlib.Core.Path.{◌≡◌, ◌∙◌, subst}
-use Prim.Native.Nat.{ℕ, ◌-◌, ◌≤◌, ◌<◌}
-use native.Mathlib.Omega.{arith}
-use borrow.Author.Rules.{rules}
-use Rattle.table.specs.Table.{exits_of, linked}
+use mathlib.Core.Path.{◌≡◌}
+use Prim.Native.Nat.{◌-◌, ◌≤◌}
+use Rattle.table.specs.Table.{exits_of}
 use Rattle.words.specs.Words.{table_of}
-use Rattle.words.proofs.Formed.{target_place}
 use Rattle.marking.specs.Marking.{linked_within}
 use Rattle.repairing.specs.Repairing.{Added}
-use Rattle.repairing.proofs.Laws.{added_start, added_exit}
 use Rattle.repairing.proofs.want_targets.Given as goal
 
 abbrev pub invariant-loop-e : goal.invariant-loop-e

@@ -2,7 +2,6 @@
 use mathlib.Core.Path.{◌≡◌, refl, sym, ◌∙◌, ap, ap₂, subst}
 use Prim.Native.Nat.{ℕ, ◌-◌, ◌<◌}
 use native.Mathlib.Omega.{arith}
-use borrow.Author.Rules.{rules}
 use Rattle.table.specs.Table.{Table, places, exits_of, own_bit, target_of}
 use Rattle.table.specs.Calls.{relink}
 use Rattle.words.specs.Words.{table_of, Becomes}

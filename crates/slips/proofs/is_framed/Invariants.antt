@@ -1,18 +1,13 @@
-use mathlib.Core.Path.{◌≡◌, sym, ◌∙◌, ap}
-use mathlib.Core.Bool.{Bool, true, false}
+use mathlib.Core.Path.{◌≡◌}
+use mathlib.Core.Bool.{Bool, true}
 use mathlib.Core.List.{List}
-use Prim.Native.Nat.{ℕ, ◌+◌, ◌-◌, ◌*◌, ◌≤◌, ◌<◌}
-use native.Mathlib.Omega.{arith}
+use Prim.Native.Nat.{ℕ, ◌+◌, ◌-◌, ◌*◌, ◌≤◌}
 use lib.ListN.{length}
 use lib.Dec.{ltb}
-use borrow.Author.Rules.{rules}
-use borrow.Author.Tests.{lt-ltb, le-ltb, eq-eqb, ne_eqb}
 use Rattle.finite.specs.Below.{all}
-use Rattle.finite.proofs.Loops.{all_none, all_more, all_fails, all_done}
 use Rattle.table.specs.Table.{places}
-use Rattle.image.specs.Image.{record_size, word_at, field_at, Bytes}
+use Rattle.image.specs.Image.{field_at}
 use Rattle.image.specs.Slip.{slip_count, old_place}
-use Rattle.slips.specs.Framed.{framed}
 use Rattle.slips.proofs.is_framed.Given as goal
 
 -- old record k is of a step that a table has

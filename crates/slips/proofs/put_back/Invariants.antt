@@ -1,24 +1,23 @@
-use mathlib.Core.Path.{◌≡◌, refl, sym, ◌∙◌, ap, subst}
+-- What the loop of `slips::put_back` keeps: the first records are in place. Assumes nothing.
+use mathlib.Core.Path.{◌≡◌}
 use mathlib.Core.Bool.{true}
 use mathlib.Core.List.{List}
-use Prim.Native.Nat.{ℕ, suc, ◌+◌, ◌-◌, ◌*◌, ◌^◌, ◌≤◌, ◌<◌}
-use native.Mathlib.Omega.{arith}
-use lib.ListN.{length, get_or, drop, length-drop}
-use lib.Seq.{length-take-le}
-use borrow.Author.Rules.{rules}
-use Rattle.finite.specs.Below.{rounds}
-use Rattle.table.specs.Table.{Table, places}
+use Prim.Native.Nat.{ℕ, ◌-◌, ◌^◌, ◌≤◌, ◌<◌}
+use lib.ListN.{length}
+use Rattle.table.specs.Table.{Table}
 use Rattle.table.specs.Sound.{sound}
-use Rattle.table.proofs.Sound.{test_sound}
-use Rattle.image.specs.Image.{edition2, record_size, field_at, with_record, counted}
-use Rattle.image.specs.Slip.{record_length, slip_count, old_place, fields_at, rebuilt}
+use Rattle.image.specs.Slip.{slip_count, old_place}
 use Rattle.words.specs.Words.{words, table_of}
-use Rattle.records.specs.declared.StepRecord.{StepRecord}
-use Rattle.records.specs.Records.{record_fields, step_read}
-use Rattle.records.proofs.Reading.{part_fields}
 use Rattle.slips.specs.Framed.{Framed}
-use Rattle.slips.proofs.Back.{record_read, after, after_bits, after_capacity}
+use Rattle.slips.proofs.Back.{after}
 use Rattle.slips.proofs.put_back.Given as goal
+
+-- the first `done` old records are in place
+pub record Done (t₀ : Table) (bs : List ℕ) (t : Table) (at : ℕ) : Type 0 where
+  pub done : ℕ
+  pub most : done ≤ slip_count bs
+  pub place : at ≡ old_place done
+  pub table : t ≡ after t₀ bs done
 
 abbrev pub invariant-loop-at : goal.invariant-loop-at
 invariant-loop-at l =

@@ -5,7 +5,6 @@ use Prim.Native.Nat.{ℕ, ◌+◌, ◌-◌, ◌≤◌}
 use native.Mathlib.Omega.{arith}
 use lib.ListN.{length, take, drop, length-drop, length-append}
 use lib.Seq.{sets-eq, length-take-le, drop-drop}
-use borrow.Author.Rules.{rules}
 use Rattle.finite.specs.Below.{count}
 use Rattle.table.specs.Table.{Table}
 use Rattle.image.specs.Image.{record_size, word, words}
@@ -16,7 +15,6 @@ use Rattle.words.specs.Words.{table_of}
 use Rattle.records.specs.Records.{put_words}
 use Rattle.records.proofs.Laws.{part_back}
 use Rattle.slips.proofs.put_slip.Goals as goal
-use Rattle.slips.proofs.put_slip.Goals.{After-put_word, After-put_word-2, After-put_word-3, Start}
 
 -- the three numbers
 module _ (b : List ℕ) (step exit steps : ℕ) where
@@ -55,72 +53,27 @@ slip_put t u b q step exit steps n room e =
     ∙ part_back p (head b step exit steps) (drop 6 b) pairs 6 (length pairs) (head_put b step exit steps (omega arith)) (omega arith) (omega arith)
     ∙ ap₂ (λ (k : ℕ) (x : List ℕ). (words (step ∷ exit ∷ k ∷ []) ++ pairs) ++ x) n (drop-drop (length pairs) 6 b ∙ ap (λ (k : ℕ). drop k b) (sym size))
 
--- the buffer behind each number
-abbrev start_of : After-put_word → Start
-start_of c = c.before.before.before
-
-abbrev first : After-put_word-2 → After-put_word
-first c = c.before.before.before.before
-
-abbrev second : After-put_word-3 → After-put_word-2
-second c = c.before.before.before.before
-
-begun : (c : After-put_word-3) → let s = start_of (first (second c)) in
-    c.put_word-3.new.part ≡ put s.args.buffer.now s.args.step s.args.exit s.args.steps
-begun c =
-    let d = second c in
-    let f = first d in
-    let s = start_of f in
-    c.put_word-3.ensures
-    ∙ ap (λ (b : List ℕ). put_words b 4 (s.args.steps ∷ [])) (d.put_word-2.ensures ∙ ap (λ (b : List ℕ). put_words b 2 (s.args.exit ∷ [])) f.put_word.ensures)
-
-enough : (c : Start) → 6 ≤ length c.args.buffer.now
-enough c = let n = c.requires.2 in omega arith
-
-long_first : (c : After-put_word) → length c.put_word.new.part ≡ length (start_of c).args.buffer.now
-long_first c = c.put_word.auto.part
-
-room : (c : After-put_word-3) → let s = start_of (first (second c)) in
-    length c.put_word-3.new.part ≡ length s.args.buffer.now
-room c = let s = start_of (first (second c)) in ap length (begun c) ∙ length_put s.args.buffer.now s.args.step s.args.exit s.args.steps (enough s.before.before.before.before.before.before.before.before.before.before.before)
-
-pub put_word-requires-2 : goal.put_word-requires-2
-put_word-requires-2 c = let f = c in omega (arith, long_first f, enough (start_of f))
-
-pub put_word-requires-3 : goal.put_word-requires-3
-put_word-requires-3 c =
-    let d = c in
-    let f = first d in
-    omega (arith, long_first f, enough (start_of f), d.put_word-2.auto.0)
-
-pub slice_bounds-put_pairs-count : goal.slice_bounds-put_pairs-count
-slice_bounds-put_pairs-count c = let d = c in omega (arith, room d, enough (start_of (first (second d))))
-
-pub slice_bounds-put_pairs-start : goal.slice_bounds-put_pairs-start
-slice_bounds-put_pairs-start c = let d = c in omega (arith, room d, enough (start_of (first (second d))))
+-- the buffer behind the three numbers
+begun : (b : List ℕ) (step exit steps : ℕ) {b₁ b₂ b₃ : List ℕ} → b₁ ≡ put_words b 0 (step ∷ []) → b₂ ≡ put_words b₁ 2 (exit ∷ []) →
+    b₃ ≡ put_words b₂ 4 (steps ∷ []) → b₃ ≡ put b step exit steps
+begun b step exit steps p q r =
+    r ∙ ap (λ (x : List ℕ). put_words x 4 (steps ∷ [])) (q ∙ ap (λ (x : List ℕ). put_words x 2 (exit ∷ [])) p)
 
 pub put_pairs-requires : goal.put_pairs-requires
 put_pairs-requires c =
-    let d = c in
-    let s = start_of (first (second d)) in
-    let p = d.put_word-3.new.part in
+    let p = c.put_word-3.new.part in
     let k = length-drop 6 p in
     let m = length-take-le (length p - 6) (drop 6 p) (omega arith) in
-    let size = pairs_size (table_of s.args.t.now) (table_of s.args.u.now) s.args.steps s.pre.1 in
-    (s.pre.0, omega (arith, room d, s.pre.2, size, k, m))
+    let size = pairs_size (table_of c.args.t.now) (table_of c.args.u.now) c.args.steps c.requires.1 in
+    (c.requires.0, omega (arith, size, k, m))
 
 pub returns : goal.returns
 returns c =
-    let f = c in
-    let d = f in
-    let s = start_of (first (second d)) in
-    let e = begun d in
+    let t = table_of c.args.t.now in
+    let u = table_of c.args.u.now in
+    let e = begun c.args.buffer.now c.args.step c.args.exit c.args.steps c.put_word.ensures c.put_word-2.ensures c.put_word-3.ensures in
     let p : List ℕ → List ℕ → List ℕ = λ q b. take 6 b ++ (q ++ drop (length b - 6) (drop 6 b)) in
-    ap (p f.put_pairs.new.part) e
-    ∙ slip_put (table_of s.args.t.now) (table_of s.args.u.now) s.args.buffer.now f.put_pairs.new.part s.args.step s.args.exit s.args.steps s.pre.1 s.pre.2
-    (f.put_pairs.ensures
-    ∙ ap
-    (λ (b : List ℕ).
-    pairs_below (table_of s.args.t.now) (table_of s.args.u.now) (table_of s.args.t.now).capacity ++
-    drop (length (pairs_below (table_of s.args.t.now) (table_of s.args.u.now) (table_of s.args.t.now).capacity)) (take (length b - 6) (drop 6 b)))
-    e)
+    ap (p c.put_pairs.new.part) e
+    ∙ slip_put t u c.args.buffer.now c.put_pairs.new.part c.args.step c.args.exit c.args.steps c.requires.1 c.requires.2
+    (c.put_pairs.ensures
+    ∙ ap (λ (b : List ℕ). pairs_below t u t.capacity ++ drop (length (pairs_below t u t.capacity)) (take (length b - 6) (drop 6 b))) e)

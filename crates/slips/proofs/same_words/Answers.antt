@@ -1,12 +1,8 @@
 -- `slips::same_words` meets its contract. The loop's invariant: `others` of the words below k are not the same. The measure is what is left of them.
 -- Assumes nothing.
 use mathlib.Core.Path.{◌≡◌, sym, ◌∙◌, ap}
-use mathlib.Core.Bool.{Bool, not}
-use mathlib.Core.Logic.{⊎_elim}
-use mathlib.Core.List.{List}
-use Prim.Native.Nat.{ℕ, ◌-◌, ◌≤◌}
+use mathlib.Core.Bool.{not}
 use native.Mathlib.Omega.{arith}
-use borrow.Author.Rules.{rules}
 use borrow.Author.Tests.{eq-eqb, ne_eqb}
 use Rattle.finite.specs.Below.{count}
 use Rattle.finite.proofs.Below.{count_le}
@@ -32,8 +28,8 @@ loop-k-preserved c =
     let start = c in
     let test = differ start.args.t.now start.args.u.now in
     elim c.if-t-k.branch [
-      then-t-k w ↦ omega (arith, count_hit loop.k test (ap not (ne_eqb _ _ w.if-t-k.true)))
-    | else-t-k w ↦ omega (arith, count_miss loop.k test (ap not (eq-eqb _ _ w.if-t-k.false)))
+      | then-t-k w ↦ omega (arith, count_hit loop.k test (ap not (ne_eqb _ _ w.if-t-k.true)))
+      | else-t-k w ↦ omega (arith, count_miss loop.k test (ap not (eq-eqb _ _ w.if-t-k.false)))
     ]
 
 pub returns : goal.returns

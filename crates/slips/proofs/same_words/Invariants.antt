@@ -1,16 +1,10 @@
-use mathlib.Core.Path.{◌≡◌, sym, ◌∙◌, ap}
+use mathlib.Core.Path.{◌≡◌}
 use mathlib.Core.Bool.{Bool, not}
-use mathlib.Core.Logic.{⊎_elim}
 use mathlib.Core.List.{List}
 use Prim.Native.Nat.{ℕ, ◌-◌, ◌≤◌}
-use native.Mathlib.Omega.{arith}
-use borrow.Author.Rules.{rules}
-use borrow.Author.Tests.{eq-eqb, ne_eqb}
 use Rattle.finite.specs.Below.{count}
-use Rattle.finite.proofs.Below.{count_le}
-use Rattle.finite.proofs.Loops.{count_zero, count_hit, count_miss, none_fail}
 use Rattle.words.specs.Words.{words}
-use Rattle.pairs.proofs.Laws.{agree, same_agree}
+use Rattle.pairs.proofs.Laws.{agree}
 use Rattle.slips.proofs.same_words.Given as goal
 
 -- word k is not the same

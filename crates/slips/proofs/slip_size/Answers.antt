@@ -1,5 +1,4 @@
 -- `slips::slip_size` meets its contract: the head, and two records for each step. Assumes nothing.
-use borrow.Author.Rules.{rules}
 use Rattle.image.specs.Image.{record_size}
 use Rattle.slips.proofs.slip_size.Goals as goal
 

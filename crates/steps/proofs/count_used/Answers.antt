@@ -1,15 +1,11 @@
 -- `steps::count_used` meets its contract. The loop's invariant: found counts the steps in use below i. The measure is what is left of n.
 -- Assumes nothing.
 use mathlib.Core.Path.{◌≡◌, sym, ◌∙◌}
-use mathlib.Core.Logic.{⊎_elim}
-use Prim.Native.Nat.{◌≤◌, ◌-◌}
 use native.Mathlib.Omega.{arith}
-use Rattle.finite.specs.Below.{count}
 use Rattle.finite.proofs.Below.{count_le}
 use Rattle.finite.proofs.Loops.{count_zero, count_hit, count_miss}
 use Rattle.table.specs.Table.{in_use, steps_in_use}
 use Rattle.words.specs.Words.{table_of}
-use borrow.Author.Rules.{rules}
 use Rattle.steps.proofs.count_used.Goals as goal
 use Rattle.steps.proofs.count_used.Goals.{else-in_use, then-in_use}
 

@@ -1,6 +1,5 @@
 -- `steps::exit_refusal` meets its contract: at each return, the conditions that led there. Assumes nothing.
 use Prim.Native.Nat.{◌≤◌, ◌<◌}
-use borrow.Author.Rules.{rules}
 use borrow.Author.Tests.{le-leb, lt-leb}
 use Rattle.table.specs.Table.{exits}
 use Rattle.table.specs.Answer.{first}

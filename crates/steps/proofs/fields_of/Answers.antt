@@ -2,7 +2,6 @@
 use mathlib.Core.List.{[], ◌∷◌}
 use Rattle.finite.specs.Below.{tabulate_from, tabulate}
 use Rattle.table.specs.Calls.{fields_of}
-use borrow.Author.Rules.{rules}
 use Rattle.steps.proofs.fields_of.Goals as goal
 
 pub returns : goal.returns

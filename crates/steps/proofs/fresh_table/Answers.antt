@@ -7,7 +7,6 @@ use Rattle.table.specs.Table.{Table, with_steps, with_numbers}
 use Rattle.table.specs.Calls.{fresh_table}
 use Rattle.words.specs.Words.{words_of, blank_table}
 use Rattle.words.proofs.Laws.{became, erased_table, erased_size}
-use borrow.Author.Rules.{rules}
 use Rattle.steps.proofs.fresh_table.Goals as goal
 
 -- the quotas are set, and step 0 is put into use

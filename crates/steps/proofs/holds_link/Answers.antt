@@ -1,5 +1,4 @@
 -- `steps::holds_link` meets its contract: a step in use has a place. Assumes nothing.
-use borrow.Author.Rules.{rules}
 use Rattle.table.specs.Table.{holds}
 use Rattle.table.proofs.Places.{own_exit}
 use Rattle.table.proofs.Links.{used_place}

@@ -4,7 +4,6 @@ use Prim.Native.Nat.{ℕ, ◌≤◌}
 use Rattle.table.specs.Table.{places, in_use}
 use Rattle.words.specs.Words.{table_of}
 use Rattle.words.proofs.Laws.{shape_table}
-use borrow.Author.Rules.{rules}
 use Rattle.steps.proofs.Laws.{unused_above}
 use Rattle.steps.proofs.in_use.Goals as goal
 

@@ -3,7 +3,6 @@ use mathlib.Core.Path.{◌∙◌, ap}
 use mathlib.Core.List.{List}
 use Rattle.table.specs.Calls.{fresh_table, refused_table}
 use Rattle.words.specs.Words.{words_of}
-use borrow.Author.Rules.{rules}
 use Rattle.steps.proofs.refused_table.Goals as goal
 
 pub returns : goal.returns

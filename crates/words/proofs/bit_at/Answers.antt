@@ -2,7 +2,6 @@
 use mathlib.Core.Path.{sym}
 use Rattle.table.specs.Table.{places, link_bit}
 use Rattle.table.proofs.Places.{exit_place_below}
-use borrow.Author.Rules.{rules}
 use Rattle.words.proofs.bit_at.Goals as goal
 
 pub bit_in-requires : goal.bit_in-requires

@@ -6,7 +6,6 @@ use native.Mathlib.Omega.{arith}
 use lib.Seq.{sets}
 use Rattle.table.specs.Table.{Table, counters, counter_place, with_links, with_steps}
 use Rattle.table.specs.Clear.{blanked}
-use borrow.Author.Rules.{rules}
 use Rattle.words.proofs.blank_step.Goals as goal
 
 pub returns : goal.returns

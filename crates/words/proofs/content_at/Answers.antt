@@ -3,7 +3,6 @@ use mathlib.Core.Path.{sym}
 use Rattle.table.specs.Table.{places, content_of}
 use Rattle.words.specs.Words.{contents_from, table_of}
 use Rattle.words.proofs.Laws.{part_read}
-use borrow.Author.Rules.{rules}
 use Rattle.words.proofs.content_at.Goals as goal
 
 pub returns : goal.returns

@@ -4,7 +4,6 @@ use Prim.Native.Nat.{◌*◌}
 use Rattle.table.specs.Table.{places, counters}
 use Rattle.words.specs.Words.{counts_from, table_of}
 use Rattle.words.proofs.Laws.{part_read}
-use borrow.Author.Rules.{rules}
 use Rattle.words.proofs.count_in.Goals as goal
 
 pub returns : goal.returns

@@ -1,6 +1,5 @@
 -- `words::counter_at` meets its contract. Assumes nothing.
 use Rattle.table.specs.Table.{counter_of, counter_place}
-use borrow.Author.Rules.{rules}
 use Rattle.words.proofs.counter_at.Goals as goal
 
 pub returns : goal.returns

@@ -1,7 +1,6 @@
 -- `words::erase` meets its contract. Assumes nothing.
 use mathlib.Core.Path.{refl}
 use Rattle.words.specs.Words.{words_of, blank_table}
-use borrow.Author.Rules.{rules}
 use Rattle.words.proofs.erase.Goals as goal
 
 pub returns : goal.returns

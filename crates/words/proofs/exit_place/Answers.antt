@@ -1,7 +1,6 @@
 -- `words::exit_place` meets its contract. Assumes nothing.
 use mathlib.Core.Path.{sym}
 use Rattle.table.proofs.Places.{place_own, place_entry}
-use borrow.Author.Rules.{rules}
 use Rattle.words.proofs.exit_place.Goals as goal
 
 pub returns-then-e-lt-EXITS : goal.returns-then-e-lt-EXITS

@@ -3,7 +3,6 @@ use mathlib.Core.Path.{ap}
 use native.Mathlib.Omega.{arith}
 use Rattle.table.specs.Table.{entries_of}
 use Rattle.table.proofs.Places.{entries_alarm, entries_none}
-use borrow.Author.Rules.{rules}
 use Rattle.words.proofs.exits_of.Goals as goal
 
 pub returns-then-i-eq0 : goal.returns-then-i-eq0

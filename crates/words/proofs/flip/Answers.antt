@@ -3,7 +3,6 @@ use lib.ListN.{length-set}
 use Rattle.table.specs.Table.{with_steps}
 use Rattle.table.specs.Clear.{flipped}
 use Rattle.words.proofs.Laws.{store_own}
-use borrow.Author.Rules.{rules}
 use Rattle.words.proofs.flip.Goals as goal
 
 pub returns : goal.returns

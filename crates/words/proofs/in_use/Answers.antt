@@ -1,6 +1,5 @@
 -- `words::in_use` meets its contract. Assumes nothing.
 use Rattle.table.specs.Table.{in_use}
-use borrow.Author.Rules.{rules}
 use Rattle.words.proofs.in_use.Goals as goal
 
 pub returns : goal.returns

@@ -1,7 +1,6 @@
 -- `words::last` meets its contract. Assumes nothing.
 use mathlib.Core.Path.{refl}
 use Rattle.words.specs.Words.{table_of}
-use borrow.Author.Rules.{rules}
 use Rattle.words.proofs.last.Goals as goal
 
 pub returns : goal.returns

@@ -4,7 +4,6 @@ use native.Mathlib.Omega.{arith}
 use lib.ListN.{length-set}
 use Rattle.table.specs.Table.{counter_place, counter_of}
 use Rattle.words.proofs.Laws.{store-lowered, lowered_none}
-use borrow.Author.Rules.{rules}
 use Rattle.words.proofs.lower.Goals as goal
 
 pub overflow_sub-t : goal.overflow_sub-t

@@ -11,7 +11,6 @@ use Rattle.finite.proofs.Select.{tabulate_entries}
 use Rattle.table.specs.Table.{Table, places, counters, with_links}
 use Rattle.words.specs.Words.{counts_from, table_of}
 use Rattle.words.proofs.Laws.{store_counts}
-use borrow.Author.Rules.{rules}
 use Rattle.words.proofs.put_counts.Goals as goal
 
 pub returns : goal.returns

@@ -4,7 +4,6 @@ use Prim.Native.Nat.{◌*◌}
 use lib.Seq.{sets}
 use Rattle.table.specs.Table.{Table, exit_places, counters, with_links, with_steps}
 use Rattle.words.specs.Words.{with_fields}
-use borrow.Author.Rules.{rules}
 use Rattle.words.proofs.put_fields.Goals as goal
 
 pub returns : goal.returns

@@ -7,7 +7,6 @@ use Rattle.table.specs.Table.{Table, places, exit_places, exit_place, with_links
 use Rattle.table.proofs.Places.{exit_place_below}
 use Rattle.words.specs.Words.{targets_from}
 use Rattle.words.proofs.Laws.{store_targets, store_bits}
-use borrow.Author.Rules.{rules}
 use Rattle.words.proofs.put_link.Goals as goal
 
 place : (c : goal.After-exit_place-p) → c.exit_place-p.result < exit_places places

@@ -8,7 +8,6 @@ use lib.Seq.{sets}
 use Rattle.finite.specs.Below.{tabulate, tabulate_from}
 use Rattle.finite.proofs.Select.{tabulate_entries}
 use Rattle.table.specs.Table.{Table, exits, exit_place, exit_places, with_links}
-use borrow.Author.Rules.{rules}
 use Rattle.words.proofs.put_links.Goals as goal
 
 -- one exit put

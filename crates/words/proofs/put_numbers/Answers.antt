@@ -4,7 +4,6 @@ use native.Mathlib.Omega.{arith}
 use lib.ListN.{set, length-set}
 use Rattle.table.specs.Table.{Table, with_steps, with_numbers}
 use Rattle.words.proofs.Laws.{store_capacity, store_last}
-use borrow.Author.Rules.{rules}
 use Rattle.words.proofs.put_numbers.Goals as goal
 
 pub returns : goal.returns

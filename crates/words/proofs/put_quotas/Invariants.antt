@@ -1,16 +1,9 @@
-use mathlib.Core.Path.{◌≡◌, refl, sym, ◌∙◌, ap}
-use mathlib.Core.Logic.{⊎_elim}
+use mathlib.Core.Path.{◌≡◌}
 use mathlib.Core.List.{List}
-use Prim.Native.Nat.{ℕ, ◌+◌, ◌-◌, ◌≤◌, ◌<◌}
-use native.Mathlib.Omega.{arith}
-use lib.ListN.{length, get_or, set, length-set}
-use lib.Seq.{get_or-set_same, get_or-set_other}
-use Rattle.finite.proofs.Below.{eq_or_ne}
+use Prim.Native.Nat.{ℕ, ◌-◌, ◌≤◌, ◌<◌}
+use lib.ListN.{length, get_or}
 use Rattle.table.specs.Table.{Table, quota_numbers, with_numbers}
-use Rattle.words.specs.Words.{words, quotas_from, table_of}
-use Rattle.words.proofs.Laws.{store_quotas, shape_table}
-use Rattle.words.proofs.Fields.{list_ext}
-use borrow.Author.Rules.{rules}
+use Rattle.words.specs.Words.{words, table_of}
 use Rattle.words.proofs.put_quotas.Given as goal
 
 -- the table with other quotas

@@ -5,7 +5,6 @@ use lib.ListN.{set, length-set}
 use Rattle.table.specs.Table.{Table, with_steps}
 use Rattle.words.specs.Words.{used_from, kinds_from, contents_from, own_from}
 use Rattle.words.proofs.Laws.{store_used, store_kinds, store_contents, store_own, store_cabins}
-use borrow.Author.Rules.{rules}
 use Rattle.words.proofs.put_step.Goals as goal
 
 pub returns : goal.returns

@@ -3,7 +3,6 @@ use mathlib.Core.Path.{sym}
 use Rattle.table.specs.Table.{quota_numbers}
 use Rattle.words.specs.Words.{quotas_from, table_of}
 use Rattle.words.proofs.Laws.{part_read}
-use borrow.Author.Rules.{rules}
 use Rattle.words.proofs.quota_in.Goals as goal
 
 pub returns : goal.returns

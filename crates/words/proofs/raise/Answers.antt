@@ -4,7 +4,6 @@ use native.Mathlib.Omega.{arith}
 use lib.ListN.{length-set}
 use Rattle.table.specs.Table.{counter_place, counter_of}
 use Rattle.words.proofs.Laws.{store-raised, raised_none}
-use borrow.Author.Rules.{rules}
 use Rattle.words.proofs.raise.Goals as goal
 
 pub overflow_add-t : goal.overflow_add-t

@@ -4,7 +4,6 @@ use lib.ListN.{set}
 use Rattle.table.specs.Table.{Table, exit_place, counter_of, with_links}
 use Rattle.table.specs.Calls.{raised, relink}
 use Rattle.words.proofs.Laws.{lowered_below}
-use borrow.Author.Rules.{rules}
 use Rattle.words.proofs.relink.Goals as goal
 
 pub lower-requires : goal.lower-requires

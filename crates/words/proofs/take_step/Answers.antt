@@ -7,7 +7,6 @@ use Rattle.table.specs.Table.{Table, places, with_steps}
 use Rattle.table.specs.Calls.{with_step}
 use Rattle.words.specs.Words.{used_from, kinds_from, contents_from, table_of}
 use Rattle.words.proofs.Laws.{store_last, store_used, store_kinds, store_contents, store_cabins}
-use borrow.Author.Rules.{rules}
 use Rattle.words.proofs.take_step.Goals as goal
 
 pub returns : goal.returns

@@ -2,7 +2,6 @@
 use mathlib.Core.Path.{sym}
 use Rattle.table.specs.Table.{places, target_of}
 use Rattle.table.proofs.Places.{exit_place_below}
-use borrow.Author.Rules.{rules}
 use Rattle.words.proofs.target_at.Goals as goal
 
 pub target_in-requires : goal.target_in-requires

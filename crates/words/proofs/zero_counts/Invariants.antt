@@ -1,17 +1,9 @@
-use mathlib.Core.Path.{◌≡◌, refl, sym, ◌∙◌, ap}
-use mathlib.Core.Logic.{⊎_elim}
+use mathlib.Core.Path.{◌≡◌}
 use mathlib.Core.List.{List}
-use Prim.Native.Nat.{ℕ, ◌+◌, ◌-◌, ◌*◌, ◌≤◌, ◌<◌}
-use native.Mathlib.Omega.{arith}
-use lib.ListN.{length, get_or, set, replicate, length-set, length-replicate}
-use lib.Seq.{get_or-set_same, get_or-set_other}
-use Rattle.finite.proofs.Below.{eq_or_ne}
-use Rattle.table.specs.Table.{Table, places, counters, with_links}
-use Rattle.table.proofs.Edits.{get_or_zeros}
-use Rattle.words.specs.Words.{words, counts_from, table_of}
-use Rattle.words.proofs.Laws.{store_counts, shape_table}
-use Rattle.words.proofs.Fields.{list_ext}
-use borrow.Author.Rules.{rules}
+use Prim.Native.Nat.{ℕ, ◌-◌, ◌≤◌, ◌<◌}
+use lib.ListN.{length, get_or}
+use Rattle.table.specs.Table.{Table, with_links}
+use Rattle.words.specs.Words.{words, table_of}
 use Rattle.words.proofs.zero_counts.Given as goal
 
 -- the table with other counters
