@@ -184,22 +184,22 @@ pub counts : (n : ℕ) (l : List ℕ) → n ≤ length l → (n ≤ length l) ×
 counts n l h = (h, sym (length-take-le n l h))
 
 -- the whole block is fed
-pub fed_all : {s : State} {block out₀ : List ℕ} {table : Table} {line : List ℕ} {kept : ℕ} {out : List ℕ} {end i : ℕ} →
-    Fedto s block out₀ table line kept out end i → length block ≤ i → 18 * length block ≤ length out₀ →
-    (kept ≤ kept_most) ×
-    (◌≡◌ {A = State} (record { table = table; kept = take kept line }) (feed s block) ×
-    ((end ≡ length (fed_output s block)) × ((out ≡ sets out₀ 0 (fed_output s block)) × ((end ≤ length out) × (end ≡ length (take end out))))))
+pub fed_all : {s : State} {block out₀ : List ℕ} {t : Table} {line : List ℕ} {k : ℕ} {out : List ℕ} {end i : ℕ} →
+    Fedto s block out₀ t line k out end i → length block ≤ i → 18 * length block ≤ length out₀ → record {
+      kept : k ≤ kept_most;
+      state : ◌≡◌ {A = State} (record { table = t; kept = take k line }) (feed s block);
+      place : end ≡ length (fed_output s block);
+      text : out ≡ sets out₀ 0 (fed_output s block);
+      room : (end ≤ length out) × (end ≡ length (take end out));
+    }
 fed_all {s} {block} {out₀} {out = out} {end = end} {i = i} f l r =
-    let q : take i block ≡ block = take_all i block l in (
-      f.most,
-      (
-        f.state ∙ ap (feed s) q,
-        (
-          f.place ∙ ap (λ (x : List ℕ). length (fed_output s x)) q,
-          (f.text ∙ ap (λ (x : List ℕ). sets out₀ 0 (fed_output s x)) q, counts end out (omega (arith, f.small, f.within, f.room))),
-        ),
-      ),
-    )
+    let q : take i block ≡ block = take_all i block l in record {
+      kept = f.most;
+      state = f.state ∙ ap (feed s) q;
+      place = f.place ∙ ap (λ (x : List ℕ). length (fed_output s x)) q;
+      text = f.text ∙ ap (λ (x : List ℕ). sets out₀ 0 (fed_output s x)) q;
+      room = counts end out (omega (arith, f.small, f.within, f.room));
+    }
 
 -- the end of input, with no line begun and with one
 module _ (table : Table) (line : List ℕ) (kept : ℕ) where
