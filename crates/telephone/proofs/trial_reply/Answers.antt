@@ -5,21 +5,17 @@ use borrow.Author.Rules.{rules}
 use Rattle.table.specs.Answer.{tried_refusal, ending_of, last_of, moves_of}
 use Rattle.telephone.specs.declared.TrialReply.{TrialReply}
 use Rattle.telephone.specs.Replies.{trial_reply}
-use Rattle.telephone.proofs.trial_reply.Statement.{statement}
-use Rattle.telephone.proofs.trial_reply.Tie as tie
+use Rattle.telephone.proofs.trial_reply.Goals as goal
 
 -- the reply of a trial that ended, from the number of its ending
 ended : {n m : ℕ} (last moves : ℕ) → n ≡ m →
     ◌≡◌ {A = TrialReply} (record { refusal = 0; ending = n; last = last; moves = moves }) (record { refusal = 0; ending = m; last = last; moves = moves })
 ended last moves same = λ i. record { refusal = 0; ending = same i; last = last; moves = moves }
 
-returns : tie.Need-returns
+pub returns-in-Refused : goal.returns-in-Refused
 unfolding trial_reply tried_refusal ending_of last_of moves_of
-returns c = sym (ap trial_reply c.before.a.given.1)
+returns-in-Refused c = sym (ap trial_reply c.in-Refused.is)
 
-returns-2 : tie.Need-returns-2
+pub returns-in-Ended : goal.returns-in-Ended
 unfolding trial_reply tried_refusal ending_of last_of moves_of
-returns-2 c = ended _ _ c.ending-number.ensures ∙ sym (ap trial_reply c.before.before.a2.given.1)
-
-pub trial-reply-spec : {M : Type 1} → statement M
-trial-reply-spec = tie.close (tie.spec (λ c. search rules) (λ c. search rules) (λ c κs. search rules) returns returns-2)
+returns-in-Ended c = ended _ _ c.ending_number.ensures ∙ sym (ap trial_reply c.in-Ended.is)

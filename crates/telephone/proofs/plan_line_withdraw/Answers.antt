@@ -1,0 +1,11 @@
+-- `telephone::plan_line_withdraw` meets its contract: the numbers of the call's answer, and the dispatcher as the call left it. Assumes nothing.
+use mathlib.Core.Path.{◌∙◌, ap}
+use Rattle.telephone.specs.Replies.{reply_of}
+use borrow.Author.Rules.{rules}
+use Rattle.telephone.proofs.plan_line_withdraw.Goals as goal
+
+pub returns : goal.returns
+returns c = record {
+  answer = c.reply_of.ensures ∙ ap reply_of c.withdraw.ensures.answer;
+  words = c.withdraw.ensures.words;
+}
