@@ -4,7 +4,8 @@
 : "${root:?}"
 . "$root/scripts/words.sh"
 
-# What is proved, and the tool that is built over the library; paths below the root. cargo builds where .cargo/config.toml says.
+# What is proved, copied from where rt makes it, and the tool that is built over the library; paths below the root. cargo builds where
+# .cargo/config.toml says.
 library=target/staticlib/libtelephone.a
 keys=target/bin/keys
 built=rust/target
@@ -18,9 +19,9 @@ below() {
         END { print n }'
 }
 
-# is_new FILE: whether FILE is there and newer than all that is proved. Wrong programs, which have to be refused, and documents are not.
+# is_new FILE: whether FILE is there and newer than all that is proved. Wrong programs, which have to be refused, what rt makes, and documents are not.
 is_new() {
-    [[ -e $1 && -z $(find "$root/crates" "$root/crates.txt" \( -name must-fail -o -name wrong \) -prune -o \
+    [[ -e $1 && -z $(find "$root/crates" "$root/crates.txt" \( -name must-fail -o -name wrong -o -name out \) -prune -o \
         -newer "$1" \( -name '*.rt' -o -name '*.antt' -o -name crates.txt \) -print -quit) ]]
 }
 
@@ -32,8 +33,8 @@ to_prove() {
     done
 }
 
-# proved FILE NAME COMMAND..: makes FILE, below the root, by the command, which proves the crate NAME; nothing to do where FILE is newer than all
-# sources. Of two at a time the second waits for the first.
+# proved FILE NAME MADE COMMAND..: makes FILE, below the root, by the command, which proves the crate NAME in its folder and leaves MADE in its out/;
+# nothing to do where FILE is newer than all sources. Of two at a time the second waits for the first.
 proved() {
     local file=$root/$1 lock status
     needs "$(to_prove "$1")" || return 1
@@ -46,25 +47,29 @@ proved() {
     return $status
 }
 
-# progress: of what rt prints, a line for each crate proved, as soon as it is there. An awk would do, but Debian's keeps the lines of a pipe back.
+# progress: of what rt prints, a line for each crate that it proves, as soon as it is proved, with the seconds since the line before. An awk would do,
+# but Debian's keeps the lines of a pipe back.
 progress() {
-    local line n=0
+    local line name='' n=0 since=$SECONDS
     while IFS= read -r line; do
-        if [[ $line =~ ^rt:\ ([a-z_]+\ proved.*) ]]; then
-            printf '  %2d  %s\n' $((++n)) "${BASH_REMATCH[1]}"
+        if [[ $line =~ ^crate\ ([a-z_]+): ]]; then
+            name=${BASH_REMATCH[1]}
+        elif [[ $line == logic=proved\ * && -n $name ]]; then
+            printf '  %2d  %s proved (%d s)\n' $((++n)) "$name" $((SECONDS - since))
+            name='' since=$SECONDS
         fi
     done
 }
 
-# prove_now FILE NAME COMMAND..: the same without a look at FILE. Each crate proved is a line on standard error. Where it fails, the end of what the
+# prove_now FILE NAME MADE COMMAND..: the same without a look at FILE. Each crate proved is a line on standard error. Where it fails, the end of what the
 # command said is shown.
 prove_now() {
-    local file=$1 name=$2 log
-    shift 2
+    local file=$1 name=$2 made=$3 log
+    shift 3
     log=$(mktemp) || return 1
     echo "proving $name and what it stands on, $(below "$name") crates: this takes minutes, once" >&2
-    if (cd "$root" && set -o pipefail && "$@" 2>&1 | tee "$log" | progress >&2); then
-        touch "$file"
+    if (cd "$root/crates/$name" && set -o pipefail && "$@" </dev/null 2>&1 | tee "$log" | progress >&2) &&
+        mkdir -p "${file%/*}" && cp "$root/crates/$name/out/$made" "$file.new" && mv "$file.new" "$file"; then
         rm -f "$log"
         return 0
     fi
@@ -76,12 +81,12 @@ prove_now() {
 
 # The static library, which the tool `plan` and the timed programs link.
 library() {
-    proved "$library" telephone rt staticlib telephone
+    proved "$library" telephone_c libtelephone_c.a rt lib
 }
 
-# The program `keys`.
+# The program `keys`. rt runs it too, on no input.
 keys_program() {
-    proved "$keys" keys rt check keys
+    proved "$keys" keys keys rt run
 }
 
 # is_built: whether the tool is there and newer than its sources and the library, which is new

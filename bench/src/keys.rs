@@ -71,9 +71,8 @@ fn run(program: &Path, lines: &PathBuf, answers: &PathBuf) -> f64 {
     let (from, to) = (File::open(lines).unwrap(), File::create(answers).unwrap());
     let start = clock::children();
     let status = Program::new(program).stdin(from).stdout(to).status();
-    let status = status.unwrap_or_else(|error| {
-        panic!("{}: {error}: run `rt check keys` first", program.display())
-    });
+    let status =
+        status.unwrap_or_else(|error| panic!("{}: {error}: run `./keys` first", program.display()));
     assert!(status.success());
     clock::children() - start
 }

@@ -13,7 +13,7 @@ const LIMIT: Duration = Duration::from_secs(40);
 /// The program `keys`, as the gate built it.
 pub fn keys_program() -> PathBuf {
     let program = root().join("target/bin/keys");
-    assert!(program.exists(), "no {}: run `rt check keys` first", program.display());
+    assert!(program.exists(), "no {}: run `./keys` first", program.display());
     program
 }
 

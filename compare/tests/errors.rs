@@ -135,6 +135,7 @@ fn the_program_says_what_fails() {
 #[test]
 fn the_script_plan() {
     let folder = Path::new(env!("CARGO_TARGET_TMPDIR"));
+    // rt takes no link below the repository, so it goes once it was used
     let link = folder.join("link_to_plan");
     let _ = std::fs::remove_file(&link);
     std::os::unix::fs::symlink(plan_script(), &link).unwrap();
@@ -142,6 +143,7 @@ fn the_script_plan() {
     let stored = format!("fresh 4 -o '{}'", image.display());
     let made = redirected(&link, &stored, b"");
     assert!(made.status.success(), "{}", text(&made.stderr));
+    std::fs::remove_file(&link).unwrap();
     let image = image.display();
     for redirection in BAD_OUTPUT {
         for words in [format!("show '{image}'"), format!("draw '{image}'"), "--help".to_string()] {

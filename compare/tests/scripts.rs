@@ -10,13 +10,13 @@ use std::process::{Command, Output, Stdio};
 use std::time::{Duration, SystemTime};
 
 /// The scripts that take no word but --help, and those that take others.
-const PLAIN: [&str; 4] = ["keys", "visit", "numbers", "test"];
+const PLAIN: [&str; 5] = ["keys", "visit", "numbers", "test", "scripts/library"];
 const OTHERS: [&str; 2] = ["scripts/pictures", "bench/versions"];
 
 /// What the scripts use of the system. Tools that they ask for by name are not among them.
-const USUAL: [&str; 18] = [
-    "awk", "bash", "cat", "dirname", "env", "find", "flock", "mkdir", "mktemp", "readlink", "rm",
-    "sed", "sh", "sort", "tac", "tail", "tee", "touch",
+const USUAL: [&str; 20] = [
+    "awk", "bash", "cat", "cp", "dirname", "env", "find", "flock", "mkdir", "mktemp", "mv",
+    "readlink", "rm", "sed", "sh", "sort", "tac", "tail", "tee", "touch",
 ];
 
 /// A copy of the scripts, with a folder bin of the usual tools and no others. It stands outside the repository, where rt would take its sources for lost
@@ -32,7 +32,8 @@ impl Drop for Copy {
 impl Copy {
     fn new(name: &str) -> Copy {
         let folder = std::env::temp_dir().join(format!("scripts-{}-{name}", std::process::id()));
-        for made in ["bench", "bin", "crates/table/src", "docs", "rust/plan/help", "scripts"] {
+        let made = ["bench", "bin", "docs", "rust/plan/help", "scripts"];
+        for made in made.iter().chain(&["crates/keys", "crates/table/src", "crates/telephone_c"]) {
             fs::create_dir_all(folder.join(made)).unwrap();
         }
         let pages = fs::read_dir(root().join("rust/plan/help")).unwrap();
@@ -165,6 +166,7 @@ fn missing_tools() {
     let all = ["rt", "cargo", "cc"];
     for (script, words, tools) in [
         ("keys", &[][..], &["rt"][..]),
+        ("scripts/library", &[], &["rt"]),
         ("visit", &[], &all),
         ("plan", &["fresh", "4"], &all),
         ("numbers", &[], &all),
@@ -267,9 +269,14 @@ fn what_sets_off_proving() {
     for file in none {
         assert!(!touched(file, 5), "{file}");
     }
-    for file in
-        ["must-fail/a.edit", "must-fail/b.rt", "wrong/c.edit", "wrong/d/src/lib.rt", "README.md"]
-    {
+    for file in [
+        "must-fail/a.edit",
+        "must-fail/b.rt",
+        "wrong/c.edit",
+        "wrong/d/src/lib.rt",
+        "out/rlib/lib.rt",
+        "README.md",
+    ] {
         assert!(!touched(&format!("crates/table/{file}"), 20), "{file}");
     }
     for file in none {
@@ -280,12 +287,25 @@ fn what_sets_off_proving() {
     assert!(touched("crates.txt", 5));
 }
 
+/// What the toolchain prints where it has proved a crate, as a line of a shell.
+fn proves(name: &str) -> String {
+    format!("echo 'crate {name}: modules loaded=1 checked=2'; echo 'logic=proved functions=3'")
+}
+
+/// The first two crates that a script says are proved, without the seconds, which depend on the machine.
+fn first_proved(said: &[impl AsRef<str>]) -> Vec<&str> {
+    let lines = said[1..3].iter().map(AsRef::as_ref);
+    assert!(lines.clone().all(|line| line.ends_with(" s)")));
+    lines.map(|line| line.split(" (").next().unwrap()).collect()
+}
+
 /// A crate that is proved is said before the next one is: the toolchain waits for the line to be read, for some seconds.
 #[test]
 fn progress_line_by_line() {
-    let rt = "echo 'rt: finite proved (1 s)'\ntries=0\nwhile [ ! -e read ] && [ $tries -lt 100 ]; do sleep 0.1; tries=$((tries + 1)); done
-        [ -e read ] && echo 'rt: table proved (2 s)'\nexit 1";
-    let copy = Copy::new("progress").tool("rt", rt);
+    let (finite, table) = (proves("finite"), proves("table"));
+    let rt = format!("{finite}\ntries=0\nwhile [ ! -e read ] && [ $tries -lt 100 ]; do sleep 0.1; tries=$((tries + 1)); done
+        [ -e read ] && {{ {table}; }}\nexit 1");
+    let copy = Copy::new("progress").tool("rt", &rt);
     symlink("/bin/sleep", copy.0.join("bin/sleep")).unwrap();
     let mut command = copy.command("keys", &[]);
     let mut child = command.stdin(Stdio::null()).stderr(Stdio::piped()).spawn().unwrap();
@@ -293,20 +313,24 @@ fn progress_line_by_line() {
     for line in BufReader::new(child.stderr.take().unwrap()).lines() {
         lines.push(line.unwrap());
         if lines.last().unwrap().contains("finite proved") {
-            fs::write(copy.0.join("read"), "").unwrap();
+            fs::write(copy.0.join("crates/keys/read"), "").unwrap();
         }
     }
     assert_eq!(child.wait().unwrap().code(), Some(2));
-    assert_eq!(lines[1..3], ["   1  finite proved (1 s)", "   2  table proved (2 s)"], "{lines:?}");
+    assert_eq!(first_proved(&lines), ["   1  finite proved", "   2  table proved"], "{lines:?}");
 }
 
 /// While they prove, the scripts say which crate is proved; where a proof fails, they say so, run nothing and end with another status than 0.
 #[test]
 fn where_a_proof_fails() {
-    let rt = "echo 'rt: finite proved (1 s)'; echo 'rt: table proved (4 s)'; echo 'error: a fact fails' >&2; exit 1";
-    let copy = Copy::new("failing_proof").tool("rt", rt).tool("cc", "");
+    let rt = format!(
+        "{}; {}; echo 'error: a fact fails' >&2; exit 1",
+        proves("finite"),
+        proves("table")
+    );
+    let copy = Copy::new("failing_proof").tool("rt", &rt).tool("cc", "");
     let copy = copy.tool("cargo", "echo 'cargo 99.0.0 (x)'");
-    for script in ["visit", "plan", "keys", "numbers", "scripts/pictures"] {
+    for script in ["visit", "plan", "keys", "numbers", "scripts/library", "scripts/pictures"] {
         let given = copy.run(script, &[]);
         assert_eq!(
             (given.status.code(), text(&given.stdout)),
@@ -316,7 +340,7 @@ fn where_a_proof_fails() {
         let said = text(&given.stderr);
         let lines: Vec<&str> = said.lines().collect();
         assert!(lines[0].starts_with("proving ") && lines[0].contains(" crates"), "{said}");
-        assert_eq!(lines[1..3], ["   1  finite proved (1 s)", "   2  table proved (4 s)"]);
+        assert_eq!(first_proved(&lines), ["   1  finite proved", "   2  table proved"]);
         assert!(said.contains("error: a fact fails") && said.contains("not proved: rt "), "{said}");
     }
 }

@@ -1,5 +1,5 @@
-//! Links the static library that `rt staticlib telephone` writes to the repository's `target/staticlib`, or the one in the folder that
-//! TELEPHONE_LIB names.
+//! Links the static library that `scripts/library` writes to the repository's `target/staticlib`, or the one in the folder that TELEPHONE_LIB
+//! names.
 
 use std::env::{var, var_os};
 use std::path::PathBuf;
@@ -11,7 +11,7 @@ fn main() {
     let archive = folder.join("libtelephone.a");
     println!("cargo:rerun-if-env-changed=TELEPHONE_LIB");
     println!("cargo:rerun-if-changed={}", archive.display());
-    assert!(archive.exists(), "no {}: run `rt staticlib telephone` first", archive.display());
+    assert!(archive.exists(), "no {}: run `scripts/library` first", archive.display());
     assert_eq!(
         var("CARGO_CFG_TARGET_ARCH").unwrap(),
         "x86_64",

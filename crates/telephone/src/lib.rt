@@ -1,6 +1,6 @@
-// The calls of documents 01 and 02 as exported functions, for C and Rust. A table is an array of words that the caller owns and lends; a call that
-// changes it writes it in place. Any words may stand in it; so it is with a dispatcher. Each function makes one proved call and gives its answer by the
-// paper's numbers.
+// The calls of documents 01 and 02 in the form in which the crate `telephone_c` exports them, for C and Rust. A table is an array of words that the
+// caller owns and lends; a call that changes it writes it in place. Any words may stand in it; so it is with a dispatcher. Each function makes one
+// proved call and gives its answer by the paper's numbers.
 
 #![tactic(auto)]
 
@@ -151,24 +151,21 @@ fn read_reply(r: Reading) -> ReadReply
 }
 
 // The edition of this interface, for a host that links it.
-#[unsafe(no_mangle)]
-pub extern "C" fn plan_edition() -> u16
+pub fn plan_edition() -> u16
     ensures { result ≡ edition }
 {
     EDITION
 }
 
 // Whether a table is sound: 1 or 0.
-#[unsafe(no_mangle)]
-pub extern "C" fn plan_is_sound(t: &[u16; WORDS]) -> u16
+pub fn plan_is_sound(t: &[u16; WORDS]) -> u16
     ensures { result ≡ cond (sound (table_of t.now)) 1 0 }
 {
     if soundness::is_sound(t) { 1 } else { 0 }
 }
 
 // Sole quotas: the list that gives all steps of a capacity but step 0 to cabin 0, which edition 1 images load with.
-#[unsafe(no_mangle)]
-pub extern "C" fn plan_sole_quotas(quotas: &mut [u16; QUOTAS], capacity: u16)
+pub fn plan_sole_quotas(quotas: &mut [u16; QUOTAS], capacity: u16)
     ensures { quotas.new ≡ sole_quotas capacity }
 {
     *quotas = cabins::sole_quotas(capacity);
@@ -176,8 +173,7 @@ pub extern "C" fn plan_sole_quotas(quotas: &mut [u16; QUOTAS], capacity: u16)
 
 // Fresh: a table of that capacity, with those guarantees and limits of the cabins, and step 0 alone in use. Refusals: 2, 16, with a fresh table of
 // capacity 1.
-#[unsafe(no_mangle)]
-pub extern "C" fn plan_fresh(t: &mut [u16; WORDS], capacity: u16, quotas: &[u16; QUOTAS]) -> Reply
+pub fn plan_fresh(t: &mut [u16; WORDS], capacity: u16, quotas: &[u16; QUOTAS]) -> Reply
     ensures answer { result ≡ reply_of (fresh_call capacity quotas.now).answer }
     ensures table { t.new ≡ words_of (fresh_call capacity quotas.now).table }
 {
@@ -185,8 +181,7 @@ pub extern "C" fn plan_fresh(t: &mut [u16; WORDS], capacity: u16, quotas: &[u16;
 }
 
 // Add: a new step of a cabin in an exit of its holder. First is its number. Refusals: 1, 16, 3, 4, 5, 7, 8, 14, 15.
-#[unsafe(no_mangle)]
-pub extern "C" fn plan_add(
+pub fn plan_add(
     t: &mut [u16; WORDS],
     holder: u16,
     exit: u16,
@@ -201,14 +196,7 @@ pub extern "C" fn plan_add(
 }
 
 // Link: the source's target is copied into an exit of the second step. Refusals: 1, source 3, 4, 6, second 3, 4, 5.
-#[unsafe(no_mangle)]
-pub extern "C" fn plan_link(
-    t: &mut [u16; WORDS],
-    source: u16,
-    from: u16,
-    second: u16,
-    into: u16,
-) -> Reply
+pub fn plan_link(t: &mut [u16; WORDS], source: u16, from: u16, second: u16, into: u16) -> Reply
     ensures answer { result ≡ reply_of (link_call (table_of t.old) source from second into).answer }
     ensures table { t.new ≡ words_of (link_call (table_of t.old) source from second into).table }
 {
@@ -216,8 +204,7 @@ pub extern "C" fn plan_link(
 }
 
 // Clear: an exit is emptied. First is the steps made doubtful, second the steps freed. Refusals: 1, 3, 4, 6.
-#[unsafe(no_mangle)]
-pub extern "C" fn plan_clear(t: &mut [u16; WORDS], step: u16, exit: u16) -> Reply
+pub fn plan_clear(t: &mut [u16; WORDS], step: u16, exit: u16) -> Reply
     ensures answer { result ≡ reply_of (clear_call (table_of t.old) step exit).answer }
     ensures table { t.new ≡ words_of (clear_call (table_of t.old) step exit).table }
 {
@@ -225,13 +212,7 @@ pub extern "C" fn plan_clear(t: &mut [u16; WORDS], step: u16, exit: u16) -> Repl
 }
 
 // Clear with slip: the same, and the slip of the clearing at the start of the buffer; no other byte is written. Refusals: 1, 3, 4, 6, 11.
-#[unsafe(no_mangle)]
-pub extern "C" fn plan_clear_with_slip(
-    t: &mut [u16; WORDS],
-    step: u16,
-    exit: u16,
-    buffer: &mut [u8],
-) -> Reply
+pub fn plan_clear_with_slip(t: &mut [u16; WORDS], step: u16, exit: u16, buffer: &mut [u8]) -> Reply
     ensures answer { result ≡ reply_of (clear_slip_call (table_of t.old) step exit buffer.old).answer }
     ensures table { t.new ≡ words_of (clear_slip_call (table_of t.old) step exit buffer.old).table }
     ensures written { buffer.new ≡ (clear_slip_call (table_of t.old) step exit buffer.old).buffer }
@@ -240,8 +221,7 @@ pub extern "C" fn plan_clear_with_slip(
 }
 
 // Take back: a clearing is taken back by its slip. First is the steps that are back in use. Refusals: 1, 18.
-#[unsafe(no_mangle)]
-pub extern "C" fn plan_take_back(t: &mut [u16; WORDS], bytes: &[u8]) -> Reply
+pub fn plan_take_back(t: &mut [u16; WORDS], bytes: &[u8]) -> Reply
     ensures answer { result ≡ reply_of (take_back_call (table_of t.old) bytes.now).answer }
     ensures table { t.new ≡ words_of (take_back_call (table_of t.old) bytes.now).table }
 {
@@ -250,13 +230,7 @@ pub extern "C" fn plan_take_back(t: &mut [u16; WORDS], bytes: &[u8]) -> Reply
 
 // Preview a clearing: the numbers of the steps that it would free, a byte each. First is the steps that it would make doubtful, second those that it would
 // free. Refusals: 1, 3, 4, 6, 11.
-#[unsafe(no_mangle)]
-pub extern "C" fn plan_preview_clear(
-    t: &[u16; WORDS],
-    step: u16,
-    exit: u16,
-    buffer: &mut [u8],
-) -> Reply
+pub fn plan_preview_clear(t: &[u16; WORDS], step: u16, exit: u16, buffer: &mut [u8]) -> Reply
     ensures answer { result ≡ reply_of (preview_call (table_of t.now) step exit buffer.old).answer }
     ensures written { buffer.new ≡ (preview_call (table_of t.now) step exit buffer.old).buffer }
 {
@@ -265,8 +239,7 @@ pub extern "C" fn plan_preview_clear(
 
 // Who can be rung: the numbers of the steps that some trial enters, a byte each. First is how many there are, second how many of them are contacts. Refusals:
 // 1, 11.
-#[unsafe(no_mangle)]
-pub extern "C" fn plan_rung(t: &[u16; WORDS], buffer: &mut [u8]) -> Reply
+pub fn plan_rung(t: &[u16; WORDS], buffer: &mut [u8]) -> Reply
     ensures answer { result ≡ reply_of (rung_call (table_of t.now) buffer.old).answer }
     ensures written { buffer.new ≡ (rung_call (table_of t.now) buffer.old).buffer }
 {
@@ -274,8 +247,7 @@ pub extern "C" fn plan_rung(t: &[u16; WORDS], buffer: &mut [u8]) -> Reply
 }
 
 // Squeeze: the steps in use get the lowest numbers, in their old order, and the table the capacity and the quotas given. Refusals: 1, 2, 16, 13.
-#[unsafe(no_mangle)]
-pub extern "C" fn plan_squeeze(t: &mut [u16; WORDS], capacity: u16, quotas: &[u16; QUOTAS]) -> Reply
+pub fn plan_squeeze(t: &mut [u16; WORDS], capacity: u16, quotas: &[u16; QUOTAS]) -> Reply
     ensures answer { result ≡ reply_of (squeeze_call (table_of t.old) capacity quotas.now).answer }
     ensures table { t.new ≡ words_of (squeeze_call (table_of t.old) capacity quotas.now).table }
 {
@@ -283,16 +255,14 @@ pub extern "C" fn plan_squeeze(t: &mut [u16; WORDS], capacity: u16, quotas: &[u1
 }
 
 // Counts: first is the steps in use, second the free ones. Refusal: 1.
-#[unsafe(no_mangle)]
-pub extern "C" fn plan_counts(t: &[u16; WORDS]) -> Reply
+pub fn plan_counts(t: &[u16; WORDS]) -> Reply
     ensures { result ≡ reply_of (counts_call (table_of t.now)).answer }
 {
     reply_of(edits::counts(t))
 }
 
 // Read: all fields of a step. Refusals: 1, 3.
-#[unsafe(no_mangle)]
-pub extern "C" fn plan_read(t: &[u16; WORDS], step: u16) -> ReadReply
+pub fn plan_read(t: &[u16; WORDS], step: u16) -> ReadReply
     ensures { result ≡ read_reply (read_call (table_of t.now) step) }
 {
     read_reply(edits::read(t, step))
@@ -300,13 +270,7 @@ pub extern "C" fn plan_read(t: &[u16; WORDS], step: u16) -> ReadReply
 
 // Trial: the plan is followed within a limit of moves, a contact by its line result and all else by the answered exit. The steps entered are written
 // into the trace, and no other byte. Refusals: 1, 10, 11.
-#[unsafe(no_mangle)]
-pub extern "C" fn plan_trial(
-    t: &[u16; WORDS],
-    limit: u16,
-    results: &[u8],
-    trace: &mut [u8],
-) -> TrialReply
+pub fn plan_trial(t: &[u16; WORDS], limit: u16, results: &[u8], trace: &mut [u8]) -> TrialReply
     ensures answer { result ≡ trial_reply (trial_call (table_of t.now) limit results.now trace.old).answer }
     ensures trace { trace.new ≡ (trial_call (table_of t.now) limit results.now trace.old).trace }
     ensures moves { result.moves ≡ moves_of (trial_call (table_of t.now) limit results.now trace.old).answer }
@@ -316,16 +280,14 @@ pub extern "C" fn plan_trial(
 }
 
 // Image length: the length of the image that write image would write, which is the room that it needs. Refusal: 1.
-#[unsafe(no_mangle)]
-pub extern "C" fn plan_image_length(t: &[u16; WORDS]) -> WriteReply
+pub fn plan_image_length(t: &[u16; WORDS]) -> WriteReply
     ensures { result ≡ write_reply (length_call (table_of t.now)) }
 {
     write_reply(writing::image_length(t))
 }
 
 // Write image: the image, of edition 2, at the start of the buffer, and its length; no other byte is written. Refusals: 1, 11.
-#[unsafe(no_mangle)]
-pub extern "C" fn plan_write_image(t: &[u16; WORDS], buffer: &mut [u8]) -> WriteReply
+pub fn plan_write_image(t: &[u16; WORDS], buffer: &mut [u8]) -> WriteReply
     ensures answer { result ≡ write_reply (write_call (table_of t.now) buffer.old).answer }
     ensures written { buffer.new ≡ (write_call (table_of t.now) buffer.old).buffer }
 {
@@ -333,8 +295,7 @@ pub extern "C" fn plan_write_image(t: &[u16; WORDS], buffer: &mut [u8]) -> Write
 }
 
 // Load image: the table of an accepted image of edition 1 or 2. Refusal: 12, with a fresh table of capacity 1.
-#[unsafe(no_mangle)]
-pub extern "C" fn plan_load_image(t: &mut [u16; WORDS], bytes: &[u8]) -> Reply
+pub fn plan_load_image(t: &mut [u16; WORDS], bytes: &[u8]) -> Reply
     ensures answer { result ≡ reply_of (load_call bytes.now).answer }
     ensures table { t.new ≡ words_of (load_call bytes.now).table }
 {
@@ -342,8 +303,7 @@ pub extern "C" fn plan_load_image(t: &mut [u16; WORDS], bytes: &[u8]) -> Reply
 }
 
 // Convert up: an image of edition 1 as one of edition 2 at the start of the buffer, and its length; no other byte is written. Refusals: 12, 11.
-#[unsafe(no_mangle)]
-pub extern "C" fn plan_convert_up(bytes: &[u8], buffer: &mut [u8]) -> WriteReply
+pub fn plan_convert_up(bytes: &[u8], buffer: &mut [u8]) -> WriteReply
     ensures answer { result ≡ write_reply (convert_call edition2 bytes.now buffer.old).answer }
     ensures written { buffer.new ≡ (convert_call edition2 bytes.now buffer.old).buffer }
 {
@@ -351,8 +311,7 @@ pub extern "C" fn plan_convert_up(bytes: &[u8], buffer: &mut [u8]) -> WriteReply
 }
 
 // Convert down: an image of edition 2 as one of edition 1 at the start of the buffer, and its length; no other byte is written. Refusals: 12, 17, 11.
-#[unsafe(no_mangle)]
-pub extern "C" fn plan_convert_down(bytes: &[u8], buffer: &mut [u8]) -> WriteReply
+pub fn plan_convert_down(bytes: &[u8], buffer: &mut [u8]) -> WriteReply
     ensures answer { result ≡ write_reply (convert_call edition1 bytes.now buffer.old).answer }
     ensures written { buffer.new ≡ (convert_call edition1 bytes.now buffer.old).buffer }
 {
@@ -360,8 +319,7 @@ pub extern "C" fn plan_convert_down(bytes: &[u8], buffer: &mut [u8]) -> WriteRep
 }
 
 // Key line: the call that its bytes make. First and second are the two numbers that the program `keys` prints. Refusals: 1, 9, then its call's.
-#[unsafe(no_mangle)]
-pub extern "C" fn plan_key_line(t: &mut [u16; WORDS], line: &[u8]) -> Reply
+pub fn plan_key_line(t: &mut [u16; WORDS], line: &[u8]) -> Reply
     ensures answer { result ≡ reply_of (key_call (table_of t.old) line.now).answer }
     ensures table { t.new ≡ words_of (key_call (table_of t.old) line.now).table }
 {
@@ -369,8 +327,7 @@ pub extern "C" fn plan_key_line(t: &mut [u16; WORDS], line: &[u8]) -> Reply
 }
 
 // Fresh dispatcher: nobody waits, and cabin 15 counts as last served. It is not refused.
-#[unsafe(no_mangle)]
-pub extern "C" fn plan_line_fresh(d: &mut [u16; LINE_WORDS]) -> Reply
+pub fn plan_line_fresh(d: &mut [u16; LINE_WORDS]) -> Reply
     ensures answer { result ≡ reply_of (line_call (dispatcher_of d.old) fresh).answer }
     ensures words { d.new ≡ line_words_of (line_call (dispatcher_of d.old) fresh).dispatcher }
 {
@@ -378,8 +335,7 @@ pub extern "C" fn plan_line_fresh(d: &mut [u16; LINE_WORDS]) -> Reply
 }
 
 // Raise: a cabin waits for the line. Refusals: 1, 20.
-#[unsafe(no_mangle)]
-pub extern "C" fn plan_line_raise(d: &mut [u16; LINE_WORDS], cabin: u16) -> Reply
+pub fn plan_line_raise(d: &mut [u16; LINE_WORDS], cabin: u16) -> Reply
     ensures answer { result ≡ reply_of (line_call (dispatcher_of d.old) (raise cabin)).answer }
     ensures words { d.new ≡ line_words_of (line_call (dispatcher_of d.old) (raise cabin)).dispatcher }
 {
@@ -387,8 +343,7 @@ pub extern "C" fn plan_line_raise(d: &mut [u16; LINE_WORDS], cabin: u16) -> Repl
 }
 
 // Withdraw: a cabin does not wait any more. Refusals: 1, 20.
-#[unsafe(no_mangle)]
-pub extern "C" fn plan_line_withdraw(d: &mut [u16; LINE_WORDS], cabin: u16) -> Reply
+pub fn plan_line_withdraw(d: &mut [u16; LINE_WORDS], cabin: u16) -> Reply
     ensures answer { result ≡ reply_of (line_call (dispatcher_of d.old) (withdraw cabin)).answer }
     ensures words { d.new ≡ line_words_of (line_call (dispatcher_of d.old) (withdraw cabin)).dispatcher }
 {
@@ -396,8 +351,7 @@ pub extern "C" fn plan_line_withdraw(d: &mut [u16; LINE_WORDS], cabin: u16) -> R
 }
 
 // Next: the first waiting cabin after the one last served, going round, is served. First is the cabin. Refusals: 1, 21.
-#[unsafe(no_mangle)]
-pub extern "C" fn plan_line_next(d: &mut [u16; LINE_WORDS]) -> Reply
+pub fn plan_line_next(d: &mut [u16; LINE_WORDS]) -> Reply
     ensures answer { result ≡ reply_of (line_call (dispatcher_of d.old) next).answer }
     ensures words { d.new ≡ line_words_of (line_call (dispatcher_of d.old) next).dispatcher }
 {

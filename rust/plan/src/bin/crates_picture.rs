@@ -73,7 +73,9 @@ fn read(text: &str) -> Result<(Vec<Crate>, Vec<String>), String> {
             if groups.last() != Some(&gist) {
                 groups.push(gist);
             }
-            entries.push((name.trim(), groups.len() - 1, below));
+            // a static library has that word after its name
+            let name = name.split_whitespace().next().unwrap_or("");
+            entries.push((name, groups.len() - 1, below));
         }
     }
     let number = |name: &str| entries.iter().position(|entry| entry.0 == name);
@@ -120,5 +122,6 @@ mod tests {
         assert_eq!(crates[3].stands_on, [0, 2, 1]);
         assert_eq!(shortest(&crates), [(1, 0), (2, 1), (3, 2)]);
         assert_eq!(read("a:\nb").err().unwrap(), "crates.txt, line 2: no colon after a name");
+        assert_eq!(read("a:\nb staticlib: a").unwrap().0[1].name, "b");
     }
 }

@@ -1,0 +1,280 @@
+// The exported functions, for C and Rust: each makes the call of that name in the crate `telephone`, and states its clauses again. They stand here since
+// a crate is built as a library or as a static library, not as both. The header is `include/telephone.h`.
+
+#![tactic(auto)]
+
+ghost use Rattle.std.specs.Prelude.{◌≡◌, cond, ◌≤◌};
+ghost use Rattle.table.specs.Cabins.{sole_quotas};
+ghost use Rattle.table.specs.Sound.{sound};
+ghost use Rattle.table.specs.Answer.{moves_of};
+ghost use Rattle.table.specs.Calls.{fresh_call, add_call, link_call, read_call, counts_call};
+ghost use Rattle.table.specs.Clear.{clear_call};
+ghost use Rattle.table.specs.Preview.{preview_call};
+ghost use Rattle.table.specs.Rung.{rung_call};
+ghost use Rattle.table.specs.Squeeze.{squeeze_call};
+ghost use Rattle.table.specs.Trial.{trial_call};
+ghost use Rattle.words.specs.Words.{table_of, words_of};
+ghost use Rattle.image.specs.Image.{edition1, edition2, length_call, write_call, load_call};
+ghost use Rattle.image.specs.Convert.{convert_call};
+ghost use Rattle.image.specs.Slip.{clear_slip_call, take_back_call};
+ghost use Rattle.keyline.specs.Keys.{key_call};
+ghost use Rattle.line.specs.Line.{fresh, raise, withdraw, next, line_call, dispatcher_of, line_words_of};
+ghost use Rattle.telephone.specs.Replies.{edition, reply_of, read_reply, trial_reply, write_reply};
+
+use dispatching::LINE_WORDS;
+use telephone::{ReadReply, Reply, TrialReply, WriteReply};
+use words::{QUOTAS, WORDS};
+
+// The edition of this interface, for a host that links it.
+#[unsafe(no_mangle)]
+pub extern "C" fn plan_edition() -> u16
+    ensures { result ≡ edition }
+{
+    telephone::plan_edition()
+}
+
+// Whether a table is sound: 1 or 0.
+#[unsafe(no_mangle)]
+pub extern "C" fn plan_is_sound(t: &[u16; WORDS]) -> u16
+    ensures { result ≡ cond (sound (table_of t.now)) 1 0 }
+{
+    telephone::plan_is_sound(t)
+}
+
+// Sole quotas: the list that gives all steps of a capacity but step 0 to cabin 0, which edition 1 images load with.
+#[unsafe(no_mangle)]
+pub extern "C" fn plan_sole_quotas(quotas: &mut [u16; QUOTAS], capacity: u16)
+    ensures { quotas.new ≡ sole_quotas capacity }
+{
+    telephone::plan_sole_quotas(quotas, capacity);
+}
+
+// Fresh: a table of that capacity, with those guarantees and limits of the cabins, and step 0 alone in use. Refusals: 2, 16, with a fresh table of
+// capacity 1.
+#[unsafe(no_mangle)]
+pub extern "C" fn plan_fresh(t: &mut [u16; WORDS], capacity: u16, quotas: &[u16; QUOTAS]) -> Reply
+    ensures answer { result ≡ reply_of (fresh_call capacity quotas.now).answer }
+    ensures table { t.new ≡ words_of (fresh_call capacity quotas.now).table }
+{
+    telephone::plan_fresh(t, capacity, quotas)
+}
+
+// Add: a new step of a cabin in an exit of its holder. First is its number. Refusals: 1, 16, 3, 4, 5, 7, 8, 14, 15.
+#[unsafe(no_mangle)]
+pub extern "C" fn plan_add(
+    t: &mut [u16; WORDS],
+    holder: u16,
+    exit: u16,
+    kind: u16,
+    content: u16,
+    cabin: u16,
+) -> Reply
+    ensures answer { result ≡ reply_of (add_call (table_of t.old) holder exit kind content cabin).answer }
+    ensures table { t.new ≡ words_of (add_call (table_of t.old) holder exit kind content cabin).table }
+{
+    telephone::plan_add(t, holder, exit, kind, content, cabin)
+}
+
+// Link: the source's target is copied into an exit of the second step. Refusals: 1, source 3, 4, 6, second 3, 4, 5.
+#[unsafe(no_mangle)]
+pub extern "C" fn plan_link(
+    t: &mut [u16; WORDS],
+    source: u16,
+    from: u16,
+    second: u16,
+    into: u16,
+) -> Reply
+    ensures answer { result ≡ reply_of (link_call (table_of t.old) source from second into).answer }
+    ensures table { t.new ≡ words_of (link_call (table_of t.old) source from second into).table }
+{
+    telephone::plan_link(t, source, from, second, into)
+}
+
+// Clear: an exit is emptied. First is the steps made doubtful, second the steps freed. Refusals: 1, 3, 4, 6.
+#[unsafe(no_mangle)]
+pub extern "C" fn plan_clear(t: &mut [u16; WORDS], step: u16, exit: u16) -> Reply
+    ensures answer { result ≡ reply_of (clear_call (table_of t.old) step exit).answer }
+    ensures table { t.new ≡ words_of (clear_call (table_of t.old) step exit).table }
+{
+    telephone::plan_clear(t, step, exit)
+}
+
+// Clear with slip: the same, and the slip of the clearing at the start of the buffer; no other byte is written. Refusals: 1, 3, 4, 6, 11.
+#[unsafe(no_mangle)]
+pub extern "C" fn plan_clear_with_slip(
+    t: &mut [u16; WORDS],
+    step: u16,
+    exit: u16,
+    buffer: &mut [u8],
+) -> Reply
+    ensures answer { result ≡ reply_of (clear_slip_call (table_of t.old) step exit buffer.old).answer }
+    ensures table { t.new ≡ words_of (clear_slip_call (table_of t.old) step exit buffer.old).table }
+    ensures written { buffer.new ≡ (clear_slip_call (table_of t.old) step exit buffer.old).buffer }
+{
+    telephone::plan_clear_with_slip(t, step, exit, buffer)
+}
+
+// Take back: a clearing is taken back by its slip. First is the steps that are back in use. Refusals: 1, 18.
+#[unsafe(no_mangle)]
+pub extern "C" fn plan_take_back(t: &mut [u16; WORDS], bytes: &[u8]) -> Reply
+    ensures answer { result ≡ reply_of (take_back_call (table_of t.old) bytes.now).answer }
+    ensures table { t.new ≡ words_of (take_back_call (table_of t.old) bytes.now).table }
+{
+    telephone::plan_take_back(t, bytes)
+}
+
+// Preview a clearing: the numbers of the steps that it would free, a byte each. First is the steps that it would make doubtful, second those that it would
+// free. Refusals: 1, 3, 4, 6, 11.
+#[unsafe(no_mangle)]
+pub extern "C" fn plan_preview_clear(
+    t: &[u16; WORDS],
+    step: u16,
+    exit: u16,
+    buffer: &mut [u8],
+) -> Reply
+    ensures answer { result ≡ reply_of (preview_call (table_of t.now) step exit buffer.old).answer }
+    ensures written { buffer.new ≡ (preview_call (table_of t.now) step exit buffer.old).buffer }
+{
+    telephone::plan_preview_clear(t, step, exit, buffer)
+}
+
+// Who can be rung: the numbers of the steps that some trial enters, a byte each. First is how many there are, second how many of them are contacts. Refusals:
+// 1, 11.
+#[unsafe(no_mangle)]
+pub extern "C" fn plan_rung(t: &[u16; WORDS], buffer: &mut [u8]) -> Reply
+    ensures answer { result ≡ reply_of (rung_call (table_of t.now) buffer.old).answer }
+    ensures written { buffer.new ≡ (rung_call (table_of t.now) buffer.old).buffer }
+{
+    telephone::plan_rung(t, buffer)
+}
+
+// Squeeze: the steps in use get the lowest numbers, in their old order, and the table the capacity and the quotas given. Refusals: 1, 2, 16, 13.
+#[unsafe(no_mangle)]
+pub extern "C" fn plan_squeeze(t: &mut [u16; WORDS], capacity: u16, quotas: &[u16; QUOTAS]) -> Reply
+    ensures answer { result ≡ reply_of (squeeze_call (table_of t.old) capacity quotas.now).answer }
+    ensures table { t.new ≡ words_of (squeeze_call (table_of t.old) capacity quotas.now).table }
+{
+    telephone::plan_squeeze(t, capacity, quotas)
+}
+
+// Counts: first is the steps in use, second the free ones. Refusal: 1.
+#[unsafe(no_mangle)]
+pub extern "C" fn plan_counts(t: &[u16; WORDS]) -> Reply
+    ensures { result ≡ reply_of (counts_call (table_of t.now)).answer }
+{
+    telephone::plan_counts(t)
+}
+
+// Read: all fields of a step. Refusals: 1, 3.
+#[unsafe(no_mangle)]
+pub extern "C" fn plan_read(t: &[u16; WORDS], step: u16) -> ReadReply
+    ensures { result ≡ read_reply (read_call (table_of t.now) step) }
+{
+    telephone::plan_read(t, step)
+}
+
+// Trial: the plan is followed within a limit of moves, a contact by its line result and all else by the answered exit. The steps entered are written
+// into the trace, and no other byte. Refusals: 1, 10, 11.
+#[unsafe(no_mangle)]
+pub extern "C" fn plan_trial(
+    t: &[u16; WORDS],
+    limit: u16,
+    results: &[u8],
+    trace: &mut [u8],
+) -> TrialReply
+    ensures answer { result ≡ trial_reply (trial_call (table_of t.now) limit results.now trace.old).answer }
+    ensures trace { trace.new ≡ (trial_call (table_of t.now) limit results.now trace.old).trace }
+    ensures moves { result.moves ≡ moves_of (trial_call (table_of t.now) limit results.now trace.old).answer }
+    ensures most { result.moves ≤ limit }
+{
+    telephone::plan_trial(t, limit, results, trace)
+}
+
+// Image length: the length of the image that write image would write, which is the room that it needs. Refusal: 1.
+#[unsafe(no_mangle)]
+pub extern "C" fn plan_image_length(t: &[u16; WORDS]) -> WriteReply
+    ensures { result ≡ write_reply (length_call (table_of t.now)) }
+{
+    telephone::plan_image_length(t)
+}
+
+// Write image: the image, of edition 2, at the start of the buffer, and its length; no other byte is written. Refusals: 1, 11.
+#[unsafe(no_mangle)]
+pub extern "C" fn plan_write_image(t: &[u16; WORDS], buffer: &mut [u8]) -> WriteReply
+    ensures answer { result ≡ write_reply (write_call (table_of t.now) buffer.old).answer }
+    ensures written { buffer.new ≡ (write_call (table_of t.now) buffer.old).buffer }
+{
+    telephone::plan_write_image(t, buffer)
+}
+
+// Load image: the table of an accepted image of edition 1 or 2. Refusal: 12, with a fresh table of capacity 1.
+#[unsafe(no_mangle)]
+pub extern "C" fn plan_load_image(t: &mut [u16; WORDS], bytes: &[u8]) -> Reply
+    ensures answer { result ≡ reply_of (load_call bytes.now).answer }
+    ensures table { t.new ≡ words_of (load_call bytes.now).table }
+{
+    telephone::plan_load_image(t, bytes)
+}
+
+// Convert up: an image of edition 1 as one of edition 2 at the start of the buffer, and its length; no other byte is written. Refusals: 12, 11.
+#[unsafe(no_mangle)]
+pub extern "C" fn plan_convert_up(bytes: &[u8], buffer: &mut [u8]) -> WriteReply
+    ensures answer { result ≡ write_reply (convert_call edition2 bytes.now buffer.old).answer }
+    ensures written { buffer.new ≡ (convert_call edition2 bytes.now buffer.old).buffer }
+{
+    telephone::plan_convert_up(bytes, buffer)
+}
+
+// Convert down: an image of edition 2 as one of edition 1 at the start of the buffer, and its length; no other byte is written. Refusals: 12, 17, 11.
+#[unsafe(no_mangle)]
+pub extern "C" fn plan_convert_down(bytes: &[u8], buffer: &mut [u8]) -> WriteReply
+    ensures answer { result ≡ write_reply (convert_call edition1 bytes.now buffer.old).answer }
+    ensures written { buffer.new ≡ (convert_call edition1 bytes.now buffer.old).buffer }
+{
+    telephone::plan_convert_down(bytes, buffer)
+}
+
+// Key line: the call that its bytes make. First and second are the two numbers that the program `keys` prints. Refusals: 1, 9, then its call's.
+#[unsafe(no_mangle)]
+pub extern "C" fn plan_key_line(t: &mut [u16; WORDS], line: &[u8]) -> Reply
+    ensures answer { result ≡ reply_of (key_call (table_of t.old) line.now).answer }
+    ensures table { t.new ≡ words_of (key_call (table_of t.old) line.now).table }
+{
+    telephone::plan_key_line(t, line)
+}
+
+// Fresh dispatcher: nobody waits, and cabin 15 counts as last served. It is not refused.
+#[unsafe(no_mangle)]
+pub extern "C" fn plan_line_fresh(d: &mut [u16; LINE_WORDS]) -> Reply
+    ensures answer { result ≡ reply_of (line_call (dispatcher_of d.old) fresh).answer }
+    ensures words { d.new ≡ line_words_of (line_call (dispatcher_of d.old) fresh).dispatcher }
+{
+    telephone::plan_line_fresh(d)
+}
+
+// Raise: a cabin waits for the line. Refusals: 1, 20.
+#[unsafe(no_mangle)]
+pub extern "C" fn plan_line_raise(d: &mut [u16; LINE_WORDS], cabin: u16) -> Reply
+    ensures answer { result ≡ reply_of (line_call (dispatcher_of d.old) (raise cabin)).answer }
+    ensures words { d.new ≡ line_words_of (line_call (dispatcher_of d.old) (raise cabin)).dispatcher }
+{
+    telephone::plan_line_raise(d, cabin)
+}
+
+// Withdraw: a cabin does not wait any more. Refusals: 1, 20.
+#[unsafe(no_mangle)]
+pub extern "C" fn plan_line_withdraw(d: &mut [u16; LINE_WORDS], cabin: u16) -> Reply
+    ensures answer { result ≡ reply_of (line_call (dispatcher_of d.old) (withdraw cabin)).answer }
+    ensures words { d.new ≡ line_words_of (line_call (dispatcher_of d.old) (withdraw cabin)).dispatcher }
+{
+    telephone::plan_line_withdraw(d, cabin)
+}
+
+// Next: the first waiting cabin after the one last served, going round, is served. First is the cabin. Refusals: 1, 21.
+#[unsafe(no_mangle)]
+pub extern "C" fn plan_line_next(d: &mut [u16; LINE_WORDS]) -> Reply
+    ensures answer { result ≡ reply_of (line_call (dispatcher_of d.old) next).answer }
+    ensures words { d.new ≡ line_words_of (line_call (dispatcher_of d.old) next).dispatcher }
+{
+    telephone::plan_line_next(d)
+}
