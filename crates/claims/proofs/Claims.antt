@@ -1,25 +1,26 @@
 -- Everything that is claimed, and where it is proved. A reader needs this file and specs/, and no proof. Assumes nothing.
 --   test_sound sound_test     the test and the statement of soundness are one
 --   demand_1                  every call, refused or not
---   demand_3 history-*        every history
+--   demand_3 history_*        every history
 --   guarantee_kept charges_counted   every history: what a cabin below its guarantee may add, and what the cabins are charged (W5)
---   demand-2-*                every accepted call
---   written_equal loaded_equal   one table, one image (W1); demand-2-old-*, an image of edition 1 (W5, W9)
+--   demand_2_*                every accepted call
+--   written_equal loaded_equal   one table, one image (W1); demand_2_old_*, an image of edition 1 (W5, W9)
 --   contents_range            which contents a step may have (W9)
---   convert-*                 an image converted to the other edition (W6, W9)
---   squeeze-*                 an accepted squeeze, and what its table does (W2)
+--   convert_*                 an image converted to the other edition (W6, W9)
+--   squeeze_*                 an accepted squeeze, and what its table does (W2)
 --   slip_demand take_back_demand told_demand   a clearing with a slip, its taking back, and what the plan is told of them (W7)
 --   preview_demand preview_refusals   what a clearing would free, and the clearing made next; when a preview is refused (W8)
---   rung-* fewest_results     who can be rung, when the call is refused, and the trials made next
+--   rung_* fewest_results     who can be rung, when the call is refused, and the trials made next
 --   clears_any_order two_clears second_clear   clearings of the same exits in any order, and of two (W14)
 --   line_demand_1 line_refusals line_unsound line_unknown line_nobody   calls on the dispatcher of one line, refused or not (W11)
 --   line_fresh line_raise line_withdraw line_next ..   accepted ones, what settles them, and two of one cabin
 --   line_served line_not_passed_over alarm_served   a waiting cabin is served within 16 accepted "next" calls
---   trial_demand trial_only trial_longer   an accepted trial, and one with a larger limit (W3); trials-by-plan, trials of one plan
+--   trial_demand trial_only trial_longer   an accepted trial, and one with a larger limit (W3); trials_by_plan, trials of one plan
 --   examples_shown ..         P1 to P10, each refusal of each call, key lines byte by byte, a table for each clause of soundness
 --   keys_demand keys_blocks   the program `keys`
 --   words_table table_words   the table in memory
---   plan-*                    each exported function meets its contract, which is the equation with its definition (crates/telephone/src/lib.rt)
+--   plan_*                    each function that telephone_c exports meets its contract, which is the equation with its definition; said of the function
+--                             of telephone that it calls, whose clauses it repeats (crates/telephone/src/lib.rt)
 use mathlib.Core.Path.{◌≡◌, sym, ◌∙◌}
 use mathlib.Core.Bool.{true, false}
 use mathlib.Core.Logic.{◌⊎◌, ◌↔◌}
@@ -554,7 +555,7 @@ pub in_memory : dispatcher_of (100 ∷ 101 ∷ 102 ∷ 103 ∷ 104 ∷ 105 ∷ 1
     record { waiting = 100 ∷ 101 ∷ 102 ∷ 103 ∷ 104 ∷ 105 ∷ 106 ∷ 107 ∷ 108 ∷ 109 ∷ 110 ∷ 111 ∷ 112 ∷ 113 ∷ 114 ∷ 115 ∷ []; last = 7 }
 in_memory = Cabins.in_memory
 
--- Each exported function is its definition.
+-- Each exported function is its definition: the functions of `telephone`, whose clauses the exports of `telephone_c` repeat.
 module _ {M : Type 1} where
   pub plan_sole_quotas : sole-quotas-contract.statement M
   plan_sole_quotas = sole-quotas-met.met

@@ -1,7 +1,7 @@
 -- The marks are the chains: what `reach` marks is what a chain leads to. Assumes nothing.
 --   within E n a r   the marks after r rounds
 --   within_short within_chain   they are what a chain of at most r links leads to
---   reach_sound      a marked number has a chain; reach-short, one of at most n links
+--   reach_sound      a marked number has a chain; reach_short, one of at most n links
 --   reach_complete   a chain of links below n ends in a marked number
 --   chain_named chain_unnamed reach_named   chains and marks under other names of the numbers
 use mathlib.Core.Path.{◌≡◌, refl, sym, ◌∙◌, subst}

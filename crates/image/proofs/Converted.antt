@@ -1,9 +1,9 @@
 -- An image converted to the other edition (document 02, W6). Assumes nothing.
---   sayable_says says_sayable   what an edition can say, as a test and as a statement; sole-sayable, by the quotas and the contents alone; unsaid-why, what
+--   sayable_says says_sayable   what an edition can say, as a test and as a statement; sole_sayable, by the quotas and the contents alone; unsaid_why, what
 --                               stands in the way of edition 1
---   Converts                    what is known of a conversion that is not refused; refusal-converts, that it is known
+--   Converts                    what is known of a conversion that is not refused; refusal_converts, that it is known
 --   refusal_bad refusal_same refusal_unsaid refusal_room   the refusal, case by case; Verdict, verdict, what each answer says
---   convert_put                 what such a conversion does; converts-back, the image that it writes can be converted back
+--   convert_put                 what such a conversion does; converts_back, the image that it writes can be converted back
 use mathlib.Core.Path.{◌≡◌, refl, sym, ◌∙◌, ap, subst}
 use mathlib.Core.Bool.{true, false, ◌&&◌}
 use mathlib.Core.Logic.{◌⊎◌, inl, inr, ⊎_elim}

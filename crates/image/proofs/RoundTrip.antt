@@ -4,7 +4,7 @@
 --   encode_accepted   the image is accepted
 --   load_encode       what the call answers
 --   contents_contacts contacts_contents larger_contact_lem   the contents that edition 1 can say, as a test and as a statement
---   accepted_says     what an image says, its edition can say; sole-says, edition 1 can say a sound table that cabin 0 has to itself, with contacts up to 99
+--   accepted_says     what an image says, its edition can say; sole_says, edition 1 can say a sound table that cabin 0 has to itself, with contacts up to 99
 use mathlib.Core.Path.{◌≡◌, refl, sym, ◌∙◌, ap, ap₂}
 use mathlib.Core.Bool.{true, false, ◌&&◌, not}
 use mathlib.Core.Logic.{⊎_elim}

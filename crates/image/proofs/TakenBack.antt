@@ -2,7 +2,7 @@
 --   before_back         the table that a slip was made of is rebuilt from the one that it led to
 --   rebuilt_plan        the plan of the rebuilt table
 --   Led t u, cleared_led   what a clearing leads from and to
---   Taken t bs          what an accepted slip says; accepted-taken taken-accepted not_taken, all ways of the conditions
+--   Taken t bs          what an accepted slip says; accepted_taken taken_accepted not_taken, all ways of the conditions
 --   regret              taking back right after the clearing
 use mathlib.Core.Path.{◌≡◌, refl, sym, ◌∙◌, ap, subst}
 use mathlib.Core.Bool.{Bool, true, false, ◌&&◌, not, cond}

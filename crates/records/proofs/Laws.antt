@@ -2,7 +2,7 @@
 --   put_word put_more   a number put at a place, and numbers put behind others
 --   put_record          the numbers of a record put at the start: size, kind and fields are those that it has to have
 --   part_back           bytes lent from a place on come back behind those before it
---   header_length step_length   how many fields the records of an edition have; header-most step-most, how long they are
+--   header_length step_length   how many fields the records of an edition have; header_most step_most, how long they are
 use mathlib.Core.Path.{◌≡◌, refl, ◌∙◌, ap}
 use mathlib.Core.List.{List, [], ◌∷◌, ◌++◌, append_assoc, append-nil}
 use Prim.Native.Nat.{ℕ, suc, ◌+◌, ◌-◌, ◌*◌, ◌/◌, ◌%◌, ◌≤◌}

@@ -1,5 +1,5 @@
 -- The parts of the test are soundness: what a checked table lacks, withdrawing step 0 settles. Assumes nothing.
---   Fitted t         what the code has tested of the fields, each alone; charges-counted: what its pass has counted
+--   Fitted t         what the code has tested of the fields, each alone; charges_counted: what its pass has counted
 --   Checked t        what it has tested before the search
 --   checked_ranged   so the search can be made
 --   checked_spans    and its answer is that of the test of soundness

@@ -1,6 +1,6 @@
 -- Each call on a sound table, for any arguments: it is refused as its plan says, and where it is accepted the table handed back is sound and
 -- its plan is the plan's call. Assumes nothing.
---   Passed xs       no condition of the order xs holds; first-passed, where its refusal is 0
+--   Passed xs       no condition of the order xs holds; first_passed, where its refusal is 0
 --   first_append    two orders, one after the other
 --   table_fits exit_fits_lem hold_fits fill_fits   what the conditions that calls share say where none holds, and that the rest of the order is passed
 --   add_refusal_lem link_refusal_lem clear_refusal_lem read_refusal_lem trial_refusal_lem   the table's refusal is the plan's

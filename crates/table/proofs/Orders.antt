@@ -1,5 +1,5 @@
 -- Exits cleared in two orders end in one plan (document 02, W14). Assumes nothing.
---   Left t P u        clearings of the exits P leave u of t; left-same, one plan for one set of exits
+--   Left t P u        clearings of the exits P leave u of t; left_same, one plan for one set of exits
 --   left_clear left_all   one clearing more, and a list of them, refused or not
 --   clears_any_order two_clears second_clear   the claims
 use mathlib.Core.Path.{◌≡◌, refl, sym, ◌∙◌, ap, ap₂}

@@ -1,7 +1,7 @@
 -- The plain plan of a table, read and redrawn: what a table says of its steps its plan says too, and each edit of a table is the plan's edit.
 -- Assumes nothing.
 --   plan_used plan_kind plan_target_lem plan_holds_lem plan_linked_lem plan_contact_lem plan_goes_on_lem plan_count_lem plan_charge_lem   the plan says what the table says
---   plan_fresh plan_relink plan_with_step plan-cleared        the plan after an edit
+--   plan_fresh plan_relink plan_with_step plan_cleared        the plan after an edit
 use mathlib.Core.Path.{◌≡◌, refl, sym, ◌∙◌, ap, ap₂, fun_ext}
 use mathlib.Core.Bool.{Bool, true, false, ◌&&◌, ◌||◌, not, cond}
 use mathlib.Core.Logic.{⊎_elim}

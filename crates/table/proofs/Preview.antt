@@ -1,7 +1,7 @@
 -- What a preview says of the clearing (document 02, W8). Assumes nothing.
 --   preview_order     the order of its refusals
---   preview_made preview_refused_as   an accepted preview and a refused one; preview-accepted, what its acceptance says
---   freed_counted go_length   as many steps would go as the clearing counts; go-fits, the room is enough for them
+--   preview_made preview_refused_as   an accepted preview and a refused one; preview_accepted, what its acceptance says
+--   freed_counted go_length   as many steps would go as the clearing counts; go_fits, the room is enough for them
 --   doubtful_links    the table as it is shows the links of the doubtful steps, since the exit's holder is not one of them
 --   go_none go_marked   the same by the rules of clearing: none where rule 1 stops, else the steps still doubtful
 --   holder_kept       a clearing keeps the step that held the link

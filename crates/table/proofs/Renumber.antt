@@ -2,7 +2,7 @@
 --   new_zero new_used new_free   the new number of step 0, and of the step after one in use or a free one
 --   new_below new_once new_step  a new number is below the steps in use, is that of one step, and each is that of a step
 --   old_new                      the step that gets a number is the one that has it as its new number
---   squeezed-*                   a field of the squeezed table
+--   squeezed_*                   a field of the squeezed table
 --   squeezed_renumbered          the squeezed table has the steps of the old one under their new numbers
 use mathlib.Core.Path.{◌≡◌, refl, sym, ◌∙◌, ap}
 use mathlib.Core.Bool.{Bool, true, false, ◌&&◌, cond}

@@ -4,7 +4,7 @@
 --   erased_table erased_size   the words of a blank table
 --   part_read       a word of a part
 --   sizes lists      the parts of a table in memory: how long each is, and the lists of the table
---   store-*         a word that is stored into changes its part alone
+--   store_*         a word that is stored into changes its part alone
 use mathlib.Core.Path.{◌≡◌, refl, sym, ◌∙◌, ap, ap₂}
 use mathlib.Core.Bool.{true, false}
 use mathlib.Core.Logic.{⊎_elim}
