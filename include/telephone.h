@@ -52,12 +52,12 @@
  *     plan_clear_with_slip                                                     11,216
  *     plan_take_back                                                           11,296
  *     plan_preview_clear                                                        8,288
- *     plan_squeeze                                                              7,568
+ *     plan_squeeze                                                              7,584
  *     plan_trial, plan_write_image                                              7,280
  *     plan_rung                                                                 7,744
  *     plan_load_image                                                           7,344
  *     plan_convert_up, plan_convert_down                                       11,312
- *     plan_key_line                                                             7,440
+ *     plan_key_line                                                             7,456
  *     plan_line_fresh, plan_line_raise, plan_line_withdraw, plan_line_next         56
  *
  * `cargo test --release --test stack -- --nocapture` in compare/ prints them.
