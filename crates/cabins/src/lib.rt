@@ -4,25 +4,21 @@
 
 ghost use Rattle.std.specs.Prelude.{◌≡◌, ◌+◌, ◌-◌, ◌≤◌, ◌<◌};
 ghost use Rattle.finite.specs.Below.{total};
+ghost use Rattle.table.specs.Answer.{refused};
 ghost use Rattle.table.specs.Table.{cabin_count};
 ghost use Rattle.table.specs.Cabins.{guarantee_of, limit_of, quotas_fit, sole_quotas, within_limits};
 ghost use Rattle.words.specs.Words.{table_of};
 ghost use Rattle.cabins.specs.Shares.{given, share, shares_fit, share_refusal};
 
-use words::{CABINS, QUOTAS, WORDS};
+use table::Refusal;
+use words::{CABINS, QUOTAS, QUOTAS_FROM, WORDS};
 
 // The quotas of a table.
 pub fn quotas_of(t: &[u16; WORDS]) -> [u16; QUOTAS]
     ensures { result ≡ (table_of t.now).quotas }
 {
-    words::sized(t);
     let mut quotas = [0u16; QUOTAS];
-    let mut k: usize = 0;
-    // The numbers below k are those of the table.
-    while k < QUOTAS {
-        quotas[k] = words::quota_in(t, k);
-        k += 1;
-    }
+    quotas.copy_from_slice(&t[QUOTAS_FROM..]);
     quotas
 }
 
@@ -30,7 +26,7 @@ pub fn quotas_of(t: &[u16; WORDS]) -> [u16; QUOTAS]
 pub fn sole_quotas(capacity: u16) -> [u16; QUOTAS]
     ensures { result ≡ sole_quotas capacity }
 {
-    let most = if capacity == 0 { 0 } else { capacity - 1 };
+    let most = capacity.saturating_sub(1);
     let mut quotas = [0u16; QUOTAS];
     quotas[0] = most;
     quotas[1] = most;
@@ -59,24 +55,15 @@ pub fn quotas_fit(capacity: u16, quotas: &[u16; QUOTAS]) -> bool
     ensures { result ≡ quotas_fit capacity quotas.now }
 {
     let mut sum = 0u32;
-    let mut c = 0usize;
     // The guarantees of the cabins below c are within their limits, and sum is their total.
-    while c < CABINS {
+    for c in 0..CABINS {
         let guarantee = guarantee_in(quotas, c);
         if limit_in(quotas, c) < guarantee {
             return false;
         }
-        sum += guarantee as u32;
-        c += 1;
+        sum += u32::from(guarantee);
     }
-    sum < capacity as u32
-}
-
-// The larger of two numbers.
-fn larger(a: u16, b: u16) -> u16
-    ensures { result ≡ a - b + b }
-{
-    if b < a { a } else { b }
+    sum < u32::from(capacity)
 }
 
 // The cabins' shares together: of each the larger of its guarantee and its charge.
@@ -85,11 +72,9 @@ fn shared(quotas: &[u16; QUOTAS], charges: &[u16; CABINS]) -> u32
     ensures most { result ≤ 524280 }
 {
     let mut sum = 0u32;
-    let mut c = 0usize;
     // sum is the shares of the cabins below c.
-    while c < CABINS {
-        sum += larger(guarantee_in(quotas, c), charges[c]) as u32;
-        c += 1;
+    for c in 0..CABINS {
+        sum += u32::from(guarantee_in(quotas, c).max(charges[c]));
     }
     sum
 }
@@ -98,43 +83,35 @@ fn shared(quotas: &[u16; QUOTAS], charges: &[u16; CABINS]) -> u32
 fn within_limits(quotas: &[u16; QUOTAS], charges: &[u16; CABINS]) -> bool
     ensures { result ≡ within_limits quotas.now (given charges.now) }
 {
-    let mut c = 0usize;
-    // The charges of the cabins below c are within their limits.
-    while c < CABINS {
-        if limit_in(quotas, c) < charges[c] {
-            return false;
-        }
-        c += 1;
-    }
-    true
+    (0..CABINS).all(|c| charges[c] <= limit_in(quotas, c))
 }
 
 // Whether charges suit a capacity and its quotas.
 pub fn shares_fit(capacity: u16, quotas: &[u16; QUOTAS], charges: &[u16; CABINS]) -> bool
     ensures { result ≡ shares_fit capacity quotas.now (given charges.now) }
 {
-    within_limits(quotas, charges) && shared(quotas, charges) < capacity as u32
+    within_limits(quotas, charges) && shared(quotas, charges) < u32::from(capacity)
 }
 
-// The refusal of an add for cabin c: it is at its limit, or beyond its guarantee with nothing left over, or 0.
-pub fn share_refusal(
+// Whether an add for cabin c has its share: it is refused at its limit, or beyond its guarantee with nothing left over.
+pub fn check_share(
     capacity: u16,
     quotas: &[u16; QUOTAS],
     charges: &[u16; CABINS],
     c: usize,
-) -> u16
+) -> Result<(), Refusal>
     requires { c < cabin_count }
-    ensures { result ≡ share_refusal capacity quotas.now (given charges.now) c }
+    ensures { refused result ≡ share_refusal capacity quotas.now (given charges.now) c }
 {
     let charge = charges[c];
     if charge == limit_in(quotas, c) {
-        return words::CABIN_AT_LIMIT;
+        return Err(Refusal::CabinAtLimit);
     }
     if charge < guarantee_in(quotas, c) {
-        return 0;
+        return Ok(());
     }
-    if (capacity as u32) <= shared(quotas, charges) + 1 {
-        return words::STEPS_RESERVED;
+    if u32::from(capacity) <= shared(quotas, charges) + 1 {
+        return Err(Refusal::StepsReserved);
     }
-    0
+    Ok(())
 }

@@ -28,7 +28,7 @@ use mathlib.Core.List.{List, [], ◌∷◌, ◌++◌, flatten, Memᴰ}
 use Prim.Native.Nat.{ℕ, ◌≤◌, ◌<◌}
 use lib.ListN.{length, get_or}
 use Rattle.table.specs.Table.{Table, places, counters, in_use, counter_of, links_to, steps_in_use, StrongChain}
-use Rattle.table.specs.declared.Answer.TheVariants.{Refused, Given}
+use Rattle.table.specs.Said.{Refused, Given}
 use Rattle.table.specs.Answer.{WriteOutcome, first, refusal_of, first_of}
 use Rattle.table.specs.Cabins.{sole_quotas}
 use Rattle.table.specs.Sound.{Sound, sound, Shape, content_fits}

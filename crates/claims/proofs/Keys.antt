@@ -5,9 +5,9 @@ use mathlib.Core.Logic.{⊎_elim}
 use mathlib.Core.List.{List, [], ◌∷◌, ◌++◌, map}
 use Prim.Native.Nat.{ℕ, suc}
 use lib.ListN.{length}
+use Rattle.std.specs.Prelude.{Option, Some, None}
 use Rattle.finite.proofs.Below.{eq_or_ne}
-use Rattle.table.specs.declared.Answer.{Answer}
-use Rattle.table.specs.declared.Answer.TheVariants.{Given, Refused}
+use Rattle.table.specs.Said.{Answer, Refused, Given}
 use Rattle.table.specs.Table.{Table, places}
 use Rattle.table.specs.Answer.{Outcome, first, unless, refusal_of, first_of, second_of}
 use Rattle.finite.specs.Below.{all, total}
@@ -17,9 +17,8 @@ use Rattle.table.specs.Sound.{capacity_fits}
 use Rattle.table.specs.Clear.{clear_call}
 use Rattle.table.specs.Plan.{fresh_plan}
 use Rattle.table.proofs.Calls.{unless_zero, unless_refused}
+use Rattle.keyline.specs.declared.Command.{Command}
 use Rattle.keyline.specs.declared.Command.TheVariants.{Add, Link, Clear, Count}
-use Rattle.keyline.specs.declared.Decoded.{Decoded}
-use Rattle.keyline.specs.declared.Decoded.TheVariants.{Line, Nothing}
 use Rattle.keyline.specs.Keys.{decode, perform, perform_line, key_call}
 use Rattle.history.specs.History.{Call, Said, freed, Heard, fresh, key_line, said_by, command_says, line_says, row, run, is_told, with_told, heard_by, drawn_by, first_row, first_table, first_plan}
 use Rattle.history.proofs.Demand3.{demand_3}
@@ -43,17 +42,17 @@ drawn_unless says n t o h =
     (λ (d : n ≡ 0 → ⊥). rw (unless_refused n t o d) (drawn_refused says n))
     (eq_or_ne n 0)
 
-drawn_line_lem : (t : Table) (d : Decoded) → Drawn (line_says d) (perform_line t d).answer
+drawn_line_lem : (t : Table) (d : Option Command) → Drawn (line_says d) (perform_line t d).answer
 unfolding line_says command_says perform_line perform add_call link_call spoken_counts said_by first_of second_of drawn_first drawn_second
-drawn_line_lem t Nothing = drawn_refused _ _
-drawn_line_lem t (Line (Add holder e kind content)) = drawn_unless _ _ t _ (record { one = refl; two = refl })
-drawn_line_lem t (Line (Link source e second f)) = drawn_unless _ _ t _ (record { one = refl; two = refl })
-drawn_line_lem t (Line (Clear i e)) = clear (clear_call t i e).answer
+drawn_line_lem t None = drawn_refused _ _
+drawn_line_lem t (Some (Add holder e kind content)) = drawn_unless _ _ t _ (record { one = refl; two = refl })
+drawn_line_lem t (Some (Link source e second f)) = drawn_unless _ _ t _ (record { one = refl; two = refl })
+drawn_line_lem t (Some (Clear i e)) = clear (clear_call t i e).answer
   where
     clear : (a : Answer) → Drawn (λ a b. freed b) a
     clear (Refused n) = drawn_refused _ n
     clear (Given a b) = record { one = refl; two = refl }
-drawn_line_lem t (Line Count) = record { one = refl; two = refl }
+drawn_line_lem t (Some Count) = record { one = refl; two = refl }
 
 -- the line printed is the line drawn of what is heard
 line_drawn : (t : Table) (l : List ℕ) →

@@ -1,3 +1,4 @@
 -- Everything that is claimed.
 pub mod Keys
+pub mod Refusals
 pub mod Claims

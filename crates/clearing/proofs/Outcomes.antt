@@ -16,8 +16,7 @@ use Rattle.finite.proofs.Bools.{and_left, clash, refute, not_true_false, not_fal
 use Rattle.finite.proofs.Below.{le_or_lt, length_tabulate, get_or_tabulate, count_pos, rounds_keep}
 use Rattle.finite.proofs.Select.{tabulate_entries}
 use Rattle.finite.proofs.Those.{length_those, those_ext}
-use Rattle.table.specs.declared.Answer.{Answer}
-use Rattle.table.specs.declared.Answer.TheVariants.{Refused, Given}
+use Rattle.table.specs.Said.{Answer, Refused, Given}
 use Rattle.table.specs.Table.{Table, places, counter_place, in_use, own_bit, target_of, link_bit, counter_of, strong, linked, strongly_linked, with_links}
 use Rattle.table.specs.Sound.{Formed, Sound}
 use Rattle.table.specs.Answer.{WriteOutcome, too_short, steps_room}

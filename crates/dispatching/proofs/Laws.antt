@@ -17,7 +17,7 @@ use borrow.Author.Tests.{ne_eqb, le-leb, lt-leb}
 use Rattle.finite.specs.Below.{any}
 use Rattle.finite.proofs.Bools.{clash, refute}
 use Rattle.finite.proofs.Below.{eq_or_ne, any_at, any_intro}
-use Rattle.table.specs.declared.Answer.TheVariants.{Refused, Given}
+use Rattle.table.specs.Said.{Refused, Given}
 use Rattle.table.specs.Answer.{first}
 use Rattle.line.specs.Line.{line_cabins, Dispatcher, waits, next_cabin, LineCall, raise, withdraw, next, cabin_tests, with_alarm, line_row, LineOutcome, line_call, dispatcher_words, dispatcher_of, line_words_of}
 use Rattle.line.proofs.Laws.{line_refusal, line_done, line_refused, next_known, next_waits, words_dispatcher}

@@ -4,15 +4,14 @@
 --   examples, refusals   the table
 --   key_lines, Decodes  key lines byte by byte, and what they are decoded to
 --   unsound, fail_as_said   a table made unsound for each clause of soundness, and the clauses that it fails
-use Rattle.std.specs.Prelude.{◌≡◌, Bool, true, false, ◌&&◌, List, [], ◌∷◌, ◌++◌, ℕ, suc, set, take, replicate}
+use Rattle.std.specs.Prelude.{◌≡◌, Bool, true, false, ◌&&◌, List, [], ◌∷◌, ◌++◌, ℕ, suc, set, take, replicate, Option, Some, None}
 use Rattle.finite.specs.Below.{same}
 use Rattle.table.specs.Table.{Table, with_numbers, with_links, with_steps}
 use Rattle.table.specs.Cabins.{sole_quotas}
 use Rattle.table.specs.Sound.{sound_tests}
 use Rattle.table.specs.Calls.{add_call}
+use Rattle.keyline.specs.declared.Command.{Command}
 use Rattle.keyline.specs.declared.Command.TheVariants.{Add, Link, Clear, Count}
-use Rattle.keyline.specs.declared.Decoded.{Decoded}
-use Rattle.keyline.specs.declared.Decoded.TheVariants.{Line, Nothing}
 use Rattle.keyline.specs.Keys.{decode}
 use Rattle.history.specs.History.{fresh, load, add, link, clear, read, trial, write, key_line, squeeze, clear_slip, take_back, preview, rung}
 use Rattle.history.specs.Acts.{begin, call}
@@ -519,16 +518,16 @@ refusals =
     []
 
 -- key lines, byte by byte, and what they are decoded to: H*101231007A, H*201230123A, H*30123A, H*4A; H*5A is none
-unfoldable pub key_lines : List (List ℕ × Decoded)
+unfoldable pub key_lines : List (List ℕ × Option Command)
 key_lines =
-    (72 ∷ 42 ∷ 49 ∷ 48 ∷ 49 ∷ 50 ∷ 51 ∷ 49 ∷ 48 ∷ 48 ∷ 55 ∷ 65 ∷ [], Line (Add 12 3 1 7)) ∷
-    (72 ∷ 42 ∷ 50 ∷ 48 ∷ 49 ∷ 50 ∷ 51 ∷ 48 ∷ 49 ∷ 50 ∷ 51 ∷ 65 ∷ [], Line (Link 12 3 12 3)) ∷
-    (72 ∷ 42 ∷ 51 ∷ 48 ∷ 49 ∷ 50 ∷ 51 ∷ 65 ∷ [], Line (Clear 12 3)) ∷
-    (72 ∷ 42 ∷ 52 ∷ 65 ∷ [], Line Count) ∷
-    (72 ∷ 42 ∷ 53 ∷ 65 ∷ [], Nothing) ∷
+    (72 ∷ 42 ∷ 49 ∷ 48 ∷ 49 ∷ 50 ∷ 51 ∷ 49 ∷ 48 ∷ 48 ∷ 55 ∷ 65 ∷ [], Some (Add 12 3 1 7)) ∷
+    (72 ∷ 42 ∷ 50 ∷ 48 ∷ 49 ∷ 50 ∷ 51 ∷ 48 ∷ 49 ∷ 50 ∷ 51 ∷ 65 ∷ [], Some (Link 12 3 12 3)) ∷
+    (72 ∷ 42 ∷ 51 ∷ 48 ∷ 49 ∷ 50 ∷ 51 ∷ 65 ∷ [], Some (Clear 12 3)) ∷
+    (72 ∷ 42 ∷ 52 ∷ 65 ∷ [], Some Count) ∷
+    (72 ∷ 42 ∷ 53 ∷ 65 ∷ [], None) ∷
     []
 
-abbrev pub Decodes : List (List ℕ × Decoded) → Type 0
+abbrev pub Decodes : List (List ℕ × Option Command) → Type 0
 Decodes [] = Unit {0}
 Decodes (x ∷ xs) = (decode x.0 ≡ x.1) × Decodes xs
 

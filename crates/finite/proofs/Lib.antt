@@ -8,3 +8,4 @@ pub mod Packed
 pub mod Totals
 pub mod Stores
 pub mod Those
+pub mod Lists

@@ -10,11 +10,11 @@ use native.Mathlib.Omega.{arith}
 use lib.ListN.{length}
 use lib.Dec.{eqb}
 use borrow.Author.Tests.{eq-eqb, ne_eqb, lt-leb}
+use Rattle.std.specs.Prelude.{Option, Some, None}
 use Rattle.finite.specs.Below.{one, count}
 use Rattle.finite.proofs.Bools.{and_intro, and_left, and_right, clash, same_test}
 use Rattle.finite.proofs.Below.{eq_or_ne, count_ext, count_split, count_change}
-use Rattle.table.specs.declared.Answer.{Answer}
-use Rattle.table.specs.declared.Answer.TheVariants.{Refused, Given}
+use Rattle.table.specs.Said.{Answer, Refused, Given}
 use Rattle.table.specs.Table.{Table, in_use, cabin_of, steps_in_use, with_links}
 use Rattle.table.specs.Cabins.{guarantee_of, limit_of, at_limit, none_to_spare, charged, charge, free_steps}
 use Rattle.table.specs.Sound.{Sound}
@@ -33,9 +33,8 @@ use Rattle.table.proofs.Squeeze.{squeeze_fits, charge_same, used_same}
 use Rattle.image.specs.Image.{write_call}
 use Rattle.image.specs.Slip.{clear_slip_refusal, clear_slip_call, slip_step, slip_exit, rebuilt, take_back_refusal, take_back_call}
 use Rattle.image.proofs.TakenBack.{slip_outcome, slip_cleared, accepted_taken, again_made}
+use Rattle.keyline.specs.declared.Command.{Command}
 use Rattle.keyline.specs.declared.Command.TheVariants.{Add, Link, Clear, Count}
-use Rattle.keyline.specs.declared.Decoded.{Decoded}
-use Rattle.keyline.specs.declared.Decoded.TheVariants.{Line, Nothing}
 use Rattle.keyline.specs.Keys.{key_cabin, decode, perform, call_conditions, line_conditions, perform_line, key_call}
 use Rattle.history.specs.History.{First, Call, add, link, clear, read, trial, write, key_line, squeeze, clear_slip, take_back, preview, rung, Said, silent, number, freed, back, foreseen, spoken, listed, said_by, command_says, line_says, row, run, table_after, heard_by, first_table}
 use Rattle.history.specs.Accounts.{gone, booked, account, summed, tally}
@@ -191,13 +190,13 @@ module _ {t : Table} (s : Sound t) where
       unfold said_by in
       counts_still cabin t _ (λ d. ap (λ (h : ℕ → ℕ). h d) (charge_same s c q f.roomy)) (used_same s c q f.roomy))
 
-  counts_line : (d : Decoded) → Counts key_cabin t (said_by (line_says d) (perform_line t d).answer) (perform_line t d).table
+  counts_line : (d : Option Command) → Counts key_cabin t (said_by (line_says d) (perform_line t d).answer) (perform_line t d).table
   unfolding line_says command_says perform_line perform
-  counts_line Nothing = unfold said_by in counts_still key_cabin t t (λ c. refl) refl
-  counts_line (Line (Add holder e kind content)) = counts_add holder e kind content key_cabin
-  counts_line (Line (Link source e second f)) = counts_link key_cabin source e second f
-  counts_line (Line (Clear i e)) = counts_clear key_cabin i e
-  counts_line (Line Count) = counts_count key_cabin
+  counts_line None = unfold said_by in counts_still key_cabin t t (λ c. refl) refl
+  counts_line (Some (Add holder e kind content)) = counts_add holder e kind content key_cabin
+  counts_line (Some (Link source e second f)) = counts_link key_cabin source e second f
+  counts_line (Some (Clear i e)) = counts_clear key_cabin i e
+  counts_line (Some Count) = counts_count key_cabin
 
   counts_keys : (bs : List ℕ) → Counts key_cabin t (said_by (line_says (decode bs)) (key_call t bs).answer) (key_call t bs).table
   unfolding key_call
@@ -341,11 +340,11 @@ module _ (t : Table) (cabin : ℕ) (under : charge t cabin < guarantee_of t.quot
 -- a key line, which adds for its cabin
 module _ (t : Table) (s : Sound t) (under : charge t key_cabin < guarantee_of t.quotas key_cabin) (limit : charge t key_cabin < limit_of t.quotas key_cabin)
     (free : 0 < free_steps t) where
-  line_avoids : (d : Decoded) (n : ℕ) → Room n → Avoids n (line_conditions t d)
+  line_avoids : (d : Option Command) (n : ℕ) → Room n → Avoids n (line_conditions t d)
   unfolding line_conditions call_conditions
-  line_avoids Nothing n r = ((λ y. clash y r.line), tt)
-  line_avoids (Line (Add holder e kind content)) n r = add_avoids t key_cabin under limit free holder e kind content n r
-  line_avoids (Line (Link source e second f)) n r = (
+  line_avoids None n r = ((λ y. clash y r.line), tt)
+  line_avoids (Some (Add holder e kind content)) n r = add_avoids t key_cabin under limit free holder e kind content n r
+  line_avoids (Some (Link source e second f)) n r = (
     (λ y. clash y r.sound),
     (
       (λ y. clash y r.used),
@@ -355,11 +354,11 @@ module _ (t : Table) (s : Sound t) (under : charge t key_cabin < guarantee_of t.
       ),
     ),
   )
-  line_avoids (Line (Clear i e)) n r = (
+  line_avoids (Some (Clear i e)) n r = (
     (λ y. clash y r.sound),
     ((λ y. clash y r.used), ((λ y. clash y r.exit), ((λ y. clash y r.empty), tt))),
   )
-  line_avoids (Line Count) n r = tt
+  line_avoids (Some Count) n r = tt
 
   key_room : (bs : List ℕ) (n : ℕ) → Room n → refusal_of (key_call t bs).answer ≡ n → ⊥
   unfolding key_call

@@ -11,9 +11,9 @@ use native.Mathlib.Omega.{arith}
 use lib.ListN.{length}
 use lib.Dec.{eqb, ltb}
 use borrow.Author.Tests.{eq-eqb, ne_eqb}
+use Rattle.std.specs.Prelude.{Option, Some, None}
 use Rattle.finite.proofs.Below.{le_or_lt, eq_or_ne}
-use Rattle.table.specs.declared.Answer.{Answer}
-use Rattle.table.specs.declared.Answer.TheVariants.{Refused, Given}
+use Rattle.table.specs.Said.{Answer, Refused, Given}
 use Rattle.table.specs.Table.{Table}
 use Rattle.table.specs.Sound.{Sound}
 use Rattle.table.specs.Answer.{Outcome, WriteOutcome, too_short, slip_not_accepted, first, steps_room, unless, refusal_of, second_of, tried_refusal}
@@ -38,8 +38,6 @@ use Rattle.image.proofs.Laws.{put_refusal}
 use Rattle.image.proofs.TakenBack.{slip_refused, slip_short, slip_fits, slip_cleared, slip_outcome, slip_refusal_given, accepted_taken, taken_accepted, not_taken, taken_rise, back_refusal_given, rebuilt_plan}
 use Rattle.keyline.specs.declared.Command.{Command}
 use Rattle.keyline.specs.declared.Command.TheVariants.{Add, Link, Clear, Count}
-use Rattle.keyline.specs.declared.Decoded.{Decoded}
-use Rattle.keyline.specs.declared.Decoded.TheVariants.{Line, Nothing}
 use Rattle.keyline.specs.Keys.{key_cabin, decode, perform, perform_line, key_call}
 use Rattle.history.specs.History.{Call, add, link, clear, read, trial, write, key_line, squeeze, clear_slip, take_back, preview, rung, Said, silent, number, freed, back, foreseen, spoken, Heard, said_by, list_says, command_says, line_says, row, Ran, run, is_told, PlanRow, draw_add, draw_link, plan_fall, draw_clear, draw_count, unchanged, plan_write_refusal, draw_command, draw_line, plan_row, Drawn, drawn, draw}
 
@@ -280,10 +278,10 @@ module _ {t : Table} (s : Sound t) where
   beside_command (Clear i e) = beside_clear i e
   beside_command Count = beside_count
 
-  beside_line : (d : Decoded) → Beside (ran_by (line_says d) (perform_line t d)) (drawn (plan_of t) (draw_line (plan_of t) d))
+  beside_line : (d : Option Command) → Beside (ran_by (line_says d) (perform_line t d)) (drawn (plan_of t) (draw_line (plan_of t) d))
   unfolding line_says perform_line draw_line drawn unchanged
-  beside_line Nothing = record { sound = s; plan = refl; heard = refused_heard _ _ }
-  beside_line (Line c) = beside_command c
+  beside_line None = record { sound = s; plan = refl; heard = refused_heard _ _ }
+  beside_line (Some c) = beside_command c
 
   beside_keys : (bs : List ℕ) → Beside (ran_by (line_says (decode bs)) (key_call t bs)) (drawn (plan_of t) (draw_line (plan_of t) (decode bs)))
   unfolding key_call

@@ -7,6 +7,7 @@ use Prim.Native.Nat.{ℕ}
 use lib.ListN.{length}
 use lib.Dec.{eqb}
 use borrow.Author.Tests.{eq-eqb, ne_eqb}
+use Rattle.std.specs.Prelude.{Option, Some, None}
 use Rattle.finite.proofs.Bools.{and_intro, and_left, and_right}
 use Rattle.finite.proofs.Below.{eq_or_ne}
 use Rattle.table.specs.Answer.{Outcome, first, FirstHeld, unless, refusal_of, first_of, second_of, tried_refusal, ending_of, last_of, moves_of}
@@ -27,9 +28,8 @@ use Rattle.image.specs.Convert.{convert_refusal, convert_call}
 use Rattle.image.specs.Slip.{clear_slip_refusal, take_back_refusal, take_back_call}
 use Rattle.image.proofs.Laws.{put_refused, put_refusal}
 use Rattle.image.proofs.TakenBack.{slip_refusal_given, slip_refused_as}
+use Rattle.keyline.specs.declared.Command.{Command}
 use Rattle.keyline.specs.declared.Command.TheVariants.{Add, Link, Clear, Count}
-use Rattle.keyline.specs.declared.Decoded.{Decoded}
-use Rattle.keyline.specs.declared.Decoded.TheVariants.{Line, Nothing}
 use Rattle.keyline.specs.Keys.{decode, perform, call_conditions, line_conditions, key_conditions, perform_line, key_call}
 use Rattle.history.specs.History.{fresh, load, add, link, clear, read, trial, write, key_line, squeeze, clear_slip, take_back, preview, rung, silent, Done, field_numbers, tried_numbers, changing, row, first_row}
 use Rattle.history.specs.Acts.{Act, begin, call, convert, act_row, done_by, table_kept, refused_by, conditions_of}
@@ -77,21 +77,21 @@ outcome_demand t u a o z r d f =
     (λ q. d ∙ told_refused n u o q ∙ sym (f n))
 
 -- a decoded line as one outcome: refused by the conditions of its call, or accepted
-pub record Performed (t : Table) (d : Decoded) : Type 0 where
+pub record Performed (t : Table) (d : Option Command) : Type 0 where
   pub outcome : Outcome
   pub given : refusal_of outcome.answer ≡ 0
   pub same : perform_line t d ≡ unless (first (line_conditions t d)) t outcome
   pub numbers : nonzero (line_conditions t d) ≡ true
 
-pub performed : (t : Table) (d : Decoded) → Performed t d
+pub performed : (t : Table) (d : Option Command) → Performed t d
 unfolding perform_line line_conditions call_conditions perform refusal_of unless first nonzero
-performed t Nothing = record { outcome = spoken_counts t; given = (unfold spoken_counts in refl); same = refl; numbers = refl }
-performed t (Line (Add holder e kind content)) =
+performed t None = record { outcome = spoken_counts t; given = (unfold spoken_counts in refl); same = refl; numbers = refl }
+performed t (Some (Add holder e kind content)) =
     (unfold add_call add_refusal in
     record { outcome = _; given = refl; same = refl; numbers = refl })
-performed t (Line (Link source e second f)) = (unfold link_call link_refusal in record { outcome = _; given = refl; same = refl; numbers = refl })
-performed t (Line (Clear i e)) = (unfold clear_call clear_refusal in record { outcome = cleared t i e; given = cleared_given t i e; same = refl; numbers = refl })
-performed t (Line Count) = (unfold spoken_counts in record { outcome = spoken_counts t; given = refl; same = refl; numbers = refl })
+performed t (Some (Link source e second f)) = (unfold link_call link_refusal in record { outcome = _; given = refl; same = refl; numbers = refl })
+performed t (Some (Clear i e)) = (unfold clear_call clear_refusal in record { outcome = cleared t i e; given = cleared_given t i e; same = refl; numbers = refl })
+performed t (Some Count) = (unfold spoken_counts in record { outcome = spoken_counts t; given = refl; same = refl; numbers = refl })
 
 key_demand : (t : Table) (bs : List ℕ) → Demand1 t (call (key_line bs))
 unfolding done_by conditions_of refused_by table_kept act_row row key_conditions key_call

@@ -12,7 +12,7 @@ use lib.Dec.{eqb}
 use Rattle.finite.specs.Reach.{Chain, reaches}
 use Rattle.finite.proofs.Bools.{test, and_intro, and_left, and_right, clash, refute, not_true_false}
 use Rattle.finite.proofs.Reach.{reach_sound, reach_complete}
-use Rattle.table.specs.declared.Answer.TheVariants.{Given}
+use Rattle.table.specs.Said.{Given}
 use Rattle.table.specs.Table.{Table, in_use, linked, strongly_linked, with_links}
 use Rattle.table.specs.Sound.{Sound}
 use Rattle.table.specs.Answer.{Outcome, WriteOutcome, too_short, not_accepted, needs_edition2, first, refusal_of, first_of, unless}

@@ -13,8 +13,7 @@ use Rattle.finite.proofs.Below.{count_ext}
 use Rattle.finite.proofs.Reach.{reach_below}
 use Rattle.table.specs.Table.{Table}
 use Rattle.table.specs.Sound.{Sound}
-use Rattle.table.specs.declared.Answer.{Answer}
-use Rattle.table.specs.declared.Answer.TheVariants.{Refused, Given}
+use Rattle.table.specs.Said.{Answer, Refused, Given}
 use Rattle.table.specs.Answer.{WriteOutcome, first, refusal_of, first_of}
 use Rattle.table.specs.Trial.{is_contact}
 use Rattle.table.specs.Rung.{goes_on, rung_refusal, rung_call, Entering, SomeTrial, FewestResults, list_under}

@@ -19,7 +19,7 @@
 use Rattle.std.specs.Prelude.{◌≡◌, Bool, true, false, ◌⊎◌, ◌↔◌, List, [], ◌∷◌, ◌++◌, ℕ, ◌+◌, ◌-◌, ◌*◌, ◌≤◌, ◌<◌, length, get_or, take, drop, replicate}
 use Rattle.finite.specs.Below.{count, total}
 use Rattle.finite.specs.Reach.{Chain}
-use Rattle.table.specs.declared.Answer.TheVariants.{Given}
+use Rattle.table.specs.Said.{Given}
 use Rattle.table.specs.Answer.{Outcome, WriteOutcome, full, cabin_at_limit, steps_reserved, too_short, not_accepted, needs_edition2, slip_not_accepted, first, FirstHeld, refusal_of, second_of}
 use Rattle.table.specs.Table.{Table, places, counters, cabin_count, exits_of, in_use, kind_of, content_of, cabin_of, counter_of, strong, linked, links_to, steps_in_use, StrongChain}
 use Rattle.table.specs.Cabins.{guarantee_of, sole_quotas, charge}

@@ -11,12 +11,10 @@
 --   table_after heard_by    the table that a list of calls leaves, and what is heard along it
 --   plan_after drawn_by     the same on the plan
 --   first_row first_refusal first_table first_plan   what a history begins with
-use Rattle.std.specs.Prelude.{Bool, false, ◌&&◌, cond, List, [], ◌∷◌, ◌++◌, ℕ, ◌-◌, length, eqb, ltb}
+use Rattle.std.specs.Prelude.{Bool, false, ◌&&◌, cond, List, [], ◌∷◌, ◌++◌, ℕ, ◌-◌, length, eqb, ltb, Option, Some, None}
 use Rattle.table.specs.Table.{Table}
-use Rattle.table.specs.declared.Answer.{Answer}
-use Rattle.table.specs.declared.Answer.TheVariants.{Refused, Given}
+use Rattle.table.specs.Said.{Answer, Refused, Given, Tried}
 use Rattle.table.specs.declared.Fields.{Fields}
-use Rattle.table.specs.declared.Tried.{Tried}
 use Rattle.table.specs.Cabins.{list_fits, sole_quotas}
 use Rattle.table.specs.Answer.{Outcome, WriteOutcome, too_short, not_key_line, slip_not_accepted, first, steps_room, refusal_of, first_of, second_of, tried_refusal, ending_of, last_of, moves_of}
 use Rattle.table.specs.Sound.{capacity_fits}
@@ -30,8 +28,6 @@ use Rattle.table.specs.Plan.{Plan, plan_count, plan_number, fresh_plan, plan_add
 use Rattle.image.specs.Image.{written_edition, image_size, write_conditions, write_call, load_conditions, load_call, accepted, image_plan}
 use Rattle.image.specs.Slip.{clear_slip_conditions, clear_slip_call, take_back_conditions, take_back_call, plan_taken_back}
 use Rattle.keyline.specs.declared.Command.{Command}
-use Rattle.keyline.specs.declared.Decoded.{Decoded}
-use Rattle.keyline.specs.declared.Decoded.TheVariants.{Line, Nothing}
 use Rattle.keyline.specs.declared.Command.TheVariants.{Add, Link, Clear, Count}
 use Rattle.keyline.specs.Keys.{key_cabin, decode, key_conditions, key_call}
 
@@ -82,9 +78,9 @@ command_says (Link source e second f) = λ a b. silent
 command_says (Clear i e) = λ a b. freed b
 command_says Count = λ a b. spoken a b
 
-unfoldable pub line_says : Decoded → ℕ → ℕ → Said
-line_says Nothing = λ a b. silent
-line_says (Line c) = command_says c
+unfoldable pub line_says : Option Command → ℕ → ℕ → Said
+line_says None = λ a b. silent
+line_says (Some c) = command_says c
 
 -- of a call that lists steps in a buffer
 abbrev pub list_says : WriteOutcome → Said
@@ -229,9 +225,9 @@ draw_command p (Link source e second f) = draw_link p source e second f
 draw_command p (Clear i e) = draw_clear p i e
 draw_command p Count = draw_count p
 
-unfoldable pub draw_line : Plan → Decoded → PlanRow
-draw_line p Nothing = unchanged not_key_line p
-draw_line p (Line c) = draw_command p c
+unfoldable pub draw_line : Plan → Option Command → PlanRow
+draw_line p None = unchanged not_key_line p
+draw_line p (Some c) = draw_command p c
 
 -- a call drawn from what is told of it and its arguments
 unfoldable pub plan_row : Plan → Bool → Call → PlanRow

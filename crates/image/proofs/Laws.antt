@@ -11,7 +11,7 @@ use lib.ListN.{length, drop}
 use borrow.Author.Tests.{eq-eqb, ne_eqb, lt-ltb, le-ltb}
 use Rattle.finite.specs.Below.{count}
 use Rattle.finite.proofs.Below.{eq_or_ne, count_le}
-use Rattle.table.specs.declared.Answer.TheVariants.{Refused, Given}
+use Rattle.table.specs.Said.{Refused, Given}
 use Rattle.table.specs.Table.{Table, places, in_use, steps_in_use}
 use Rattle.table.specs.Cabins.{sole_quotas}
 use Rattle.table.specs.Sound.{Sound, sound}

@@ -18,7 +18,7 @@ use Rattle.finite.specs.Below.{one, count, tabulate}
 use Rattle.finite.proofs.Bools.{test, clash, same_test, implied, imply}
 use Rattle.finite.proofs.Below.{count_pos, all_at, all_intro, all_missed, eq_or_ne, le_or_lt}
 use Rattle.finite.proofs.Select.{lowest_only, tabulate_entries}
-use Rattle.table.specs.declared.Answer.TheVariants.{Given}
+use Rattle.table.specs.Said.{Given}
 use Rattle.table.specs.Table.{Table, places, exits, exits_of, exit_places, holder_at, exit_at, counters, quota_numbers, exit_place, counter_place, in_use, kind_of, content_of, own_bit, cabin_of, target_of, link_bit, counter_of, counts_at, links_to, with_links}
 use Rattle.table.specs.Cabins.{limit_of, sole_quotas, charged, charge}
 use Rattle.table.specs.Sound.{Blank, Sound, sound}

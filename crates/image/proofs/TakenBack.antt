@@ -17,7 +17,7 @@ use Rattle.finite.specs.Below.{one, count, rounds}
 use Rattle.finite.proofs.Bools.{and_intro, and_left, and_right, clash, refute, test, not_false_true}
 use Rattle.finite.proofs.Below.{le_or_lt, below_suc}
 use Rattle.finite.proofs.Select.{same_true, same_lists}
-use Rattle.table.specs.declared.Answer.TheVariants.{Refused, Given}
+use Rattle.table.specs.Said.{Refused, Given}
 use Rattle.table.specs.Table.{Table, places, in_use, kind_of, content_of, cabin_of, target_of, steps_in_use, same_table, with_links, with_steps}
 use Rattle.table.specs.Sound.{Shape, Sound, sound}
 use Rattle.table.specs.Answer.{Outcome, too_short, slip_not_accepted, first, refusal_of, second_of, unless}

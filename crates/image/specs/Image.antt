@@ -25,8 +25,7 @@ use Rattle.std.specs.Prelude.{◌≡◌, Bool, true, ◌&&◌, ◌||◌, not, co
 use Rattle.std.proofs.Math.Option.{none, some}
 use Rattle.std.proofs.lemmas.List.Edits.{sets}
 use Rattle.finite.specs.Below.{all, one, lowest, tabulate, passes}
-use Rattle.table.specs.declared.Answer.{Answer}
-use Rattle.table.specs.declared.Answer.TheVariants.{Refused, Given}
+use Rattle.table.specs.Said.{Answer, Refused, Given}
 use Rattle.table.specs.Table.{Table, places, exits, exit_places, holder_at, exit_at, counters, quota_numbers, in_use, kind_of, content_of, own_bit, cabin_of, target_of, link_bit, links_to, steps_in_use, with_links, with_steps}
 use Rattle.table.specs.Cabins.{sole_quotas}
 use Rattle.table.specs.Sound.{sound}

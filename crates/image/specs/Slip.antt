@@ -14,8 +14,7 @@
 use Rattle.std.specs.Prelude.{Bool, ◌&&◌, not, cond, List, [], ◌∷◌, ◌++◌, ℕ, zero, suc, ◌+◌, ◌*◌, length, get_or, set, take, drop, eqb, ltb}
 use Rattle.std.proofs.Math.Option.{some}
 use Rattle.finite.specs.Below.{all, count, rounds, tabulate, same}
-use Rattle.table.specs.declared.Answer.{Answer}
-use Rattle.table.specs.declared.Answer.TheVariants.{Refused, Given}
+use Rattle.table.specs.Said.{Answer, Refused, Given}
 use Rattle.table.specs.Table.{Table, same_table}
 use Rattle.table.specs.Sound.{sound}
 use Rattle.table.specs.Answer.{Outcome, too_short, slip_not_accepted, first, refusal_of, second_of, unless}

@@ -4,25 +4,23 @@
 
 ghost use Rattle.std.specs.Prelude.{◌≡◌, true, ℕ, ◌+◌, ◌-◌, ◌≤◌, ◌<◌, length, get_or};
 ghost use Rattle.finite.specs.Below.{all};
+ghost use Rattle.table.specs.Answer.{answer_of};
 ghost use Rattle.words.specs.Words.{table_of, words_of};
 ghost use Rattle.keyline.specs.Keys.{digit, is_digit, is_line, decimal, decode, key_call};
 
-use keyline::{Command, Decoded};
-use table::Answer;
-use words::{NOT_KEY_LINE, WORDS};
+use keyline::Command;
+use table::{Answer, Refusal};
+use words::WORDS;
 
-// H in ASCII: the alarm is held.
-const HELD: u8 = 72;
-// The star in ASCII.
-const STAR: u8 = 42;
-// A in ASCII: the alarm is pressed.
-const PRESSED: u8 = 65;
-// The first digit in ASCII.
-const ZERO: u8 = 48;
-// The last digit in ASCII.
-const NINE: u8 = 57;
+// The alarm is held.
+const HELD: u8 = b'H';
 
-// The digit after the star that adds.
+const STAR: u8 = b'*';
+// The alarm is pressed.
+const PRESSED: u8 = b'A';
+
+// The digits after the star. They stay numbers: the definition of a key line asks for them as digits, and each is used once.
+// The digit that adds.
 const ADD: u8 = 1;
 // The digit that links.
 const LINK: u8 = 2;
@@ -39,27 +37,12 @@ const HEAD: usize = 3;
 // All bytes of a key line but its digits.
 const FRAME: usize = 4;
 
-// Whether a key is a digit.
-fn is_digit(key: u8) -> bool
-    ensures { result ≡ is_digit key }
-{
-    ZERO <= key && key <= NINE
-}
-
 // Whether the n bytes of a line from a place on are digits.
 fn digits(line: &[u8], from: usize, n: usize) -> bool
     requires { from + n ≤ length line.now }
     ensures { result ≡ all n (λ i. is_digit (get_or line.now (from + i) 0)) }
 {
-    let mut i = 0;
-    // Each time round: the i bytes from the place on are digits.
-    while i < n {
-        if !is_digit(line[from + i]) {
-            return false;
-        }
-        i += 1;
-    }
-    true
+    line[from..from + n].iter().all(u8::is_ascii_digit)
 }
 
 // The number that a digit spells.
@@ -67,7 +50,7 @@ fn digit_value(key: u8) -> u16
     requires { digit 0 ≤ key }
     ensures { result ≡ key - digit 0 }
 {
-    (key - ZERO) as u16
+    u16::from(key - b'0')
 }
 
 // The number that w digits of a line spell from a place on.
@@ -77,12 +60,10 @@ fn decimal(line: &[u8], from: usize, w: usize) -> u16
     requires spelt { (i : ℕ) → i < w → is_digit (get_or line.now (from + i) 0) ≡ true }
     ensures { result ≡ decimal line.now from w }
 {
-    let mut value: u16 = 0;
-    let mut i = 0;
-    // Each time round: the first i digits spell the value.
-    while i < w {
-        value = value * 10 + digit_value(line[from + i]);
-        i += 1;
+    let mut value = 0;
+    // Each time round: the digits before this one spell the value.
+    for key in &line[from..from + w] {
+        value = value * 10 + digit_value(*key);
     }
     value
 }
@@ -101,7 +82,7 @@ fn is_line(line: &[u8], call: u8, n: usize) -> bool
     if line[1] != STAR {
         return false;
     }
-    if line[2] != ZERO + call {
+    if line[2] != b'0' + call {
         return false;
     }
     if !digits(line, HEAD, n) {
@@ -110,56 +91,63 @@ fn is_line(line: &[u8], call: u8, n: usize) -> bool
     line[HEAD + n] == PRESSED
 }
 
-// The command of a key line, or nothing, for any bytes of any length. Steps and contents have three digits, exits and kinds one; the first digit
+// The command of a key line, or none, for any bytes of any length. Steps and contents have three digits, exits and kinds one; the first digit
 // stands at place 3.
-pub fn decode(line: &[u8]) -> Decoded
+pub fn decode(line: &[u8]) -> Option<Command>
     ensures { result ≡ decode line.now }
 {
     if is_line(line, ADD, 8) {
-        let holder = decimal(line, 3, 3);
-        let exit = decimal(line, 6, 1);
-        let kind = decimal(line, 7, 1);
-        let content = decimal(line, 8, 3);
-        return Decoded::Line(Command::Add(holder, exit, kind, content));
+        return Some(Command::Add {
+            holder: decimal(line, 3, 3),
+            exit: decimal(line, 6, 1),
+            kind: decimal(line, 7, 1),
+            content: decimal(line, 8, 3),
+        });
     }
     if is_line(line, LINK, 8) {
-        let source = decimal(line, 3, 3);
-        let exit = decimal(line, 6, 1);
-        let second = decimal(line, 7, 3);
-        let other = decimal(line, 10, 1);
-        return Decoded::Line(Command::Link(source, exit, second, other));
+        return Some(Command::Link {
+            source: decimal(line, 3, 3),
+            exit: decimal(line, 6, 1),
+            second: decimal(line, 7, 3),
+            other: decimal(line, 10, 1),
+        });
     }
     if is_line(line, CLEAR, 4) {
-        let step = decimal(line, 3, 3);
-        let exit = decimal(line, 6, 1);
-        return Decoded::Line(Command::Clear(step, exit));
+        return Some(Command::Clear {
+            step: decimal(line, 3, 3),
+            exit: decimal(line, 6, 1),
+        });
     }
     if is_line(line, COUNT, 0) {
-        return Decoded::Line(Command::Count);
+        return Some(Command::Count);
     }
-    Decoded::Nothing
+    None
 }
 
 // The call of a key line: the answer and the table of the call that it makes, or refusal 9. The line is decoded first; each call tests the table
 // itself, so that it is tested once.
 pub fn key_line(t: &mut [u16; WORDS], line: &[u8]) -> Answer
-    ensures answer { result ≡ (key_call (table_of t.old) line.now).answer }
+    ensures answer { answer_of result ≡ (key_call (table_of t.old) line.now).answer }
     ensures table { t.new ≡ words_of (key_call (table_of t.old) line.now).table }
 {
-    words::sized(t);
-    let Decoded::Line(command) = decode(line) else {
-        let refusal = soundness::table_refusal(t);
-        if refusal != 0 {
-            return Answer::Refused(refusal);
-        }
-        return Answer::Refused(NOT_KEY_LINE);
+    let Some(command) = decode(line) else {
+        soundness::check_table(t)?;
+        return Err(Refusal::NotKeyLine);
     };
     match command {
-        Command::Add(holder, exit, kind, content) => {
-            edits::add(t, holder, exit, kind, content, KEY_CABIN)
-        }
-        Command::Link(source, exit, second, other) => edits::link(t, source, exit, second, other),
-        Command::Clear(step, exit) => clearing::clear(t, step, exit),
+        Command::Add {
+            holder,
+            exit,
+            kind,
+            content,
+        } => edits::add(t, holder, exit, kind, content, KEY_CABIN),
+        Command::Link {
+            source,
+            exit,
+            second,
+            other,
+        } => edits::link(t, source, exit, second, other),
+        Command::Clear { step, exit } => clearing::clear(t, step, exit),
         Command::Count => edits::counts(t),
     }
 }

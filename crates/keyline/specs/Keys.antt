@@ -4,13 +4,11 @@
 --   decode bs            the command of a key line
 --   key_conditions        the conditions of its refusals with their numbers, in their order
 --   perform, key_call     the call that a command makes, and the call of a key line
-use Rattle.std.specs.Prelude.{Bool, true, ◌&&◌, cond, List, [], ◌∷◌, ◌++◌, ℕ, zero, suc, ◌+◌, ◌*◌, ◌-◌, length, get_or, eqb, leb}
+use Rattle.std.specs.Prelude.{Bool, true, ◌&&◌, cond, List, [], ◌∷◌, ◌++◌, ℕ, zero, suc, ◌+◌, ◌*◌, ◌-◌, length, get_or, eqb, leb, Option, Some, None}
 use Rattle.finite.specs.Below.{all, passes}
-use Rattle.table.specs.declared.Answer.TheVariants.{Refused}
+use Rattle.table.specs.Said.{Refused}
 use Rattle.keyline.specs.declared.Command.{Command}
 use Rattle.keyline.specs.declared.Command.TheVariants.{Add, Link, Clear, Count}
-use Rattle.keyline.specs.declared.Decoded.{Decoded}
-use Rattle.keyline.specs.declared.Decoded.TheVariants.{Line, Nothing}
 use Rattle.table.specs.Table.{Table}
 use Rattle.table.specs.Answer.{Outcome, not_key_line, first, unless}
 use Rattle.table.specs.Calls.{table_tests, add_conditions, add_call, link_conditions, link_call, spoken_counts}
@@ -49,12 +47,12 @@ decimal bs k (suc w) = 10 * decimal bs k w + (get_or bs (k + w) 0 - digit 0)
 
 -- "H*1, step, exit, kind, content, A adds; steps and contents have three digits, exits and kinds a single digit. H*2, step, exit, step, exit, A
 -- links. H*3, step, exit, A clears. H*4A counts. Nothing else is a key line."
-unfoldable pub decode : List ℕ → Decoded
+unfoldable pub decode : List ℕ → Option Command
 decode bs =
-    cond (is_line bs 1 8) (Line (Add (decimal bs 3 3) (decimal bs 6 1) (decimal bs 7 1) (decimal bs 8 3)))
-    (cond (is_line bs 2 8) (Line (Link (decimal bs 3 3) (decimal bs 6 1) (decimal bs 7 3) (decimal bs 10 1)))
-    (cond (is_line bs 3 4) (Line (Clear (decimal bs 3 3) (decimal bs 6 1)))
-    (cond (is_line bs 4 0) (Line Count) Nothing)))
+    cond (is_line bs 1 8) (Some (Add (decimal bs 3 3) (decimal bs 6 1) (decimal bs 7 1) (decimal bs 8 3)))
+    (cond (is_line bs 2 8) (Some (Link (decimal bs 3 3) (decimal bs 6 1) (decimal bs 7 3) (decimal bs 10 1)))
+    (cond (is_line bs 3 4) (Some (Clear (decimal bs 3 3) (decimal bs 6 1)))
+    (cond (is_line bs 4 0) (Some Count) None)))
 
 -- "Key lines .. add for cabin 0" (W5)
 abbrev pub key_cabin : ℕ
@@ -73,16 +71,16 @@ call_conditions t (Link source e second f) = link_conditions t source e second f
 call_conditions t (Clear i e) = clear_conditions t i e
 call_conditions t Count = []
 
-unfoldable pub line_conditions : Table → Decoded → List (Bool × ℕ)
-line_conditions t Nothing = (true, not_key_line) ∷ []
-line_conditions t (Line c) = call_conditions t c
+unfoldable pub line_conditions : Table → Option Command → List (Bool × ℕ)
+line_conditions t None = (true, not_key_line) ∷ []
+line_conditions t (Some c) = call_conditions t c
 
 unfoldable pub key_conditions : Table → List ℕ → List (Bool × ℕ)
 key_conditions t bs = table_tests t ++ line_conditions t (decode bs)
 
-unfoldable pub perform_line : Table → Decoded → Outcome
-perform_line t Nothing = record { answer = Refused not_key_line; table = t }
-perform_line t (Line c) = perform t c
+unfoldable pub perform_line : Table → Option Command → Outcome
+perform_line t None = record { answer = Refused not_key_line; table = t }
+perform_line t (Some c) = perform t c
 
 unfoldable pub key_call : Table → List ℕ → Outcome
 key_call t bs = unless (first (table_tests t)) t (perform_line t (decode bs))

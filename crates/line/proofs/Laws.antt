@@ -20,7 +20,7 @@ use borrow.Author.Tests.{eq-eqb, ne_eqb, eqb-true, leb-true, leb-false, ltb-true
 use Rattle.finite.specs.Below.{any}
 use Rattle.finite.proofs.Bools.{test, clash, not_true_false, not_false_true, refute}
 use Rattle.finite.proofs.Below.{le_or_lt, eq_or_ne, any_at, any_none, walk, find_reaches, find_place, find_keeps}
-use Rattle.table.specs.declared.Answer.TheVariants.{Given}
+use Rattle.table.specs.Said.{Given}
 use Rattle.table.specs.Answer.{first, FirstHeld, none, some, refusal_of}
 use Rattle.table.proofs.Edits.{get_or_zeros}
 use Rattle.table.proofs.Calls.{nonzero}

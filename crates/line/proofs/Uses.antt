@@ -16,7 +16,7 @@ use lib.ListN.{length, get_or}
 use lib.Seq.{ext_get_or}
 use Rattle.finite.proofs.Bools.{clash}
 use Rattle.finite.proofs.Below.{eq_or_ne}
-use Rattle.table.specs.declared.Answer.TheVariants.{Given}
+use Rattle.table.specs.Said.{Given}
 use Rattle.table.specs.Answer.{refusal_of}
 use Rattle.line.specs.Line.{Dispatcher, waits, LineCall, fresh, raise, withdraw, next, LineOutcome, left_by, line_call, dispatcher_after, served_by}
 use Rattle.line.specs.Demands.{LineDemand1, RefusingCabin, Refusing, LineFits, FreshDemand, RaiseDemand, WithdrawDemand, NextDemand, Staying, ServedDemand}

@@ -8,7 +8,7 @@
 --   Staying c ks        a list of calls in which cabin c does not withdraw
 --   ServedDemand d c ks    cabin c is served within 16 accepted "next" calls
 use Rattle.std.specs.Prelude.{◌≡◌, true, false, ◌⊎◌, List, ℕ, ◌≤◌, ◌<◌, length, get_or}
-use Rattle.table.specs.declared.Answer.TheVariants.{Given}
+use Rattle.table.specs.Said.{Given}
 use Rattle.table.specs.Answer.{refusal_of, FirstHeld}
 use Rattle.line.specs.Line.{Dispatcher, waits, LineCall, fresh, raise, withdraw, next, line_row, LineOutcome, left_by, line_call, served_by}
 

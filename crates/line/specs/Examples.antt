@@ -5,8 +5,7 @@
 --   everyone        all sixteen wait, and 15 was served last; sixteen_nexts, as many calls; busy_calls, with other calls among them
 use Rattle.std.specs.Prelude.{◌≡◌, ℕ, replicate}
 use mathlib.Core.List.{List, [], ◌∷◌, flatten}
-use Rattle.table.specs.declared.Answer.{Answer}
-use Rattle.table.specs.declared.Answer.TheVariants.{Refused, Given}
+use Rattle.table.specs.Said.{Answer, Refused, Given}
 use Rattle.line.specs.Line.{Dispatcher, LineCall, fresh, raise, withdraw, next, line_call, dispatcher_after}
 
 pub data LineEntry : Type 0 where

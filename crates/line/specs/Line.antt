@@ -12,8 +12,7 @@
 --   dispatcher_words dispatcher_of line_words_of   the dispatcher as it stands in memory
 use Rattle.std.specs.Prelude.{Bool, not, cond, List, [], ◌∷◌, ◌++◌, ℕ, ◌+◌, get_or, set, take, replicate, eqb, leb, ltb}
 use Rattle.finite.specs.Below.{any, find}
-use Rattle.table.specs.declared.Answer.{Answer}
-use Rattle.table.specs.declared.Answer.TheVariants.{Refused, Given}
+use Rattle.table.specs.Said.{Answer, Refused, Given}
 use Rattle.table.specs.Answer.{not_sound, no_such_cabin, nobody_waits, first}
 
 -- "A cabin, 0 to 15"

@@ -6,20 +6,21 @@
 --   filled_table_lem         past the last record, with the counters, it is the image's table
 --   filled_accepted      and the image is accepted where that table is sound
 --   ..-refused           each case in which the image is not accepted
+--   Left bs t left size   that, up to the place where what is left of the bytes begins, in parts of the size of a record
 use mathlib.Core.Path.{◌≡◌, refl, sym, ◌∙◌, ap}
-use mathlib.Core.Bool.{Bool, true, false, ◌&&◌}
+use mathlib.Core.Bool.{true, false, ◌&&◌}
 use mathlib.Core.Logic.{⊎_elim}
 use mathlib.Core.List.{List, [], ◌∷◌}
 use Prim.Native.Nat.{ℕ, suc, ◌+◌, ◌/◌, ◌%◌, ◌^◌, ◌≤◌, ◌<◌}
 use native.Mathlib.Omega.{arith}
-use lib.ListN.{length, get_or, set, replicate, get_or-eq_default}
+use lib.ListN.{length, get_or, set, drop, replicate, length-drop, get_or-eq_default}
 use lib.Seq.{sets}
 use lib.Dec.{eqb}
 use borrow.Author.Tests.{eq-eqb}
 use Rattle.finite.specs.Below.{one, tabulate}
 use Rattle.finite.proofs.Bools.{refute, same_test, test, clash, and_left, and_right, and_intro}
 use Rattle.finite.proofs.Below.{le_or_lt, below_suc, any_intro, get_or_tabulate, length_tabulate, tabulate_ext}
-use Rattle.table.specs.declared.Answer.TheVariants.{Refused, Given}
+use Rattle.table.specs.Said.{Refused, Given}
 use Rattle.table.specs.Table.{Table, places, exit_places, holder_at, exit_at, counts_at, links_to, with_numbers, with_links, with_steps}
 use Rattle.table.specs.Sound.{sound}
 use Rattle.table.specs.Answer.{first, unless}
@@ -28,6 +29,7 @@ use Rattle.words.specs.Words.{blank_table}
 use Rattle.image.specs.Image.{Edition, edition1, edition2, header_field_count, step_field_count, record_size, image_size, edition_in, step_place, capacity_in, last_in, count_in, quotas_by, quotas_in, number_in, kind_in, content_in, bits_in, target_in, cabin_by, cabin_in, bit_in, record_of, has_record, record_field, with_record, counted, image_table, contents_sayable, accepted, load_call}
 use Rattle.image.proofs.Words.{image_next}
 use Rattle.image.proofs.Loaded.{test_accepted, accepted_test, accepted_capacity, record_below, record_number, said_record, said_none, has_record_any}
+use Rattle.records.specs.declared.Header.{Header}
 use Rattle.records.specs.declared.StepRecord.{StepRecord}
 use Rattle.records.specs.Records.{edition_of, added, record_fields, cabin_at, step_read}
 use Rattle.recording.proofs.Counting.{zeros}
@@ -81,6 +83,12 @@ pub record Filled (bs : List ℕ) (t : Table) (at : ℕ) : Type 0 where
   pub distinct : (j k : ℕ) → j < k → k < done → number_in bs j ≡ number_in bs k → ⊥
   pub table : t ≡ filled_table bs done
 
+pub record Left (bs : List ℕ) (t : Table) (left : List ℕ) (size : ℕ) : Type 0 where
+  pub at : ℕ
+  pub filled : Filled bs t at
+  pub rest : left ≡ drop at bs
+  pub each : size ≡ record_size (step_field_count (edition_in bs))
+
 module _ (bs : List ℕ) where
   -- before the first record
   filled_blank : with_numbers (blank_table (capacity_in bs) (last_in bs)) (capacity_in bs) (last_in bs) (quotas_in bs) ≡ filled_table bs 0
@@ -101,11 +109,11 @@ module _ (bs : List ℕ) where
         quotas = quotas_in bs;
       }
 
-  pub filled_none : (newer : Bool) (capacity last at : ℕ) (t : Table) →
-      t ≡ with_numbers (blank_table capacity last) capacity last (quotas_by (edition_of newer) bs) → HeaderSays bs newer capacity last →
-      at ≡ record_size (header_field_count (edition_of newer)) → Filled bs t at
+  pub filled_none : (x : Header) (at : ℕ) (t : Table) →
+      t ≡ with_numbers (blank_table x.capacity x.last) x.capacity x.last (quotas_by (edition_of x.edition) bs) → HeaderSays bs x →
+      at ≡ record_size (header_field_count (edition_of x.edition)) → Filled bs t at
   unfolding step_place quotas_in
-  filled_none newer capacity last at t e s h =
+  filled_none x at t e s h =
       let v = header_edition s in
       let z : at ≡ record_size (header_field_count (edition_in bs)) = h ∙ ap (λ (v : Edition). record_size (header_field_count v)) v in
       record {
@@ -324,6 +332,17 @@ module _ (bs : List ℕ) where
   next_below : (t : Table) (at : ℕ) (f : Filled bs t at) → HeaderFits bs → at < length bs → f.done < count_in bs
   unfolding step_place
   next_below t at f h l = place_below (edition_in bs) f.done (count_in bs) (omega (arith, f.place, h.size))
+
+  -- where less than a record is left, nothing is left
+  pub none_left : (t : Table) (at : ℕ) (f : Filled bs t at) → HeaderFits bs → length (drop at bs) < record_size (step_field_count (edition_in bs)) →
+      length bs ≤ at
+  unfolding step_place
+  none_left t at f h l =
+      ⊎_elim (λ (o : length bs ≤ at). o)
+      (λ (o : at < length bs).
+      absurd
+      (omega (arith, place_room (edition_in bs) f.done (count_in bs) (next_below t at f h o), f.place, h.size, length-drop at bs, l)))
+      (le_or_lt (length bs) at)
 
   pub nothing_refused : (t : Table) (at : ℕ) → Filled bs t at → HeaderFits bs → at < length bs → (StepFits (edition_in bs) bs at → ⊥) →
       accepted bs ≡ false

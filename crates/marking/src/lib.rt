@@ -7,23 +7,14 @@ ghost use Rattle.finite.specs.Below.{count, those};
 ghost use Rattle.table.specs.Table.{places};
 ghost use Rattle.words.specs.Marks.{is_marked};
 
-use words::PLACES;
+use words::{PLACES, passing};
 
 // The number of marked steps below n.
 pub fn count_marks(n: usize, marks: &[u16; PLACES]) -> u16
     requires { n ≤ places }
     ensures { result ≡ count n (is_marked marks.now) }
 {
-    let mut number: u16 = 0;
-    let mut k = 0;
-    // `number` is the number of marked steps below k.
-    while k < n {
-        if marks[k] == 1 {
-            number += 1;
-        }
-        k += 1;
-    }
-    number
+    passing(0, n, |k| marks[k] == 1)
 }
 
 // Writes the numbers of the marked steps below n to the start of the buffer, ascending, a byte each; the bytes behind them stay. Gives back how many
@@ -35,14 +26,12 @@ pub fn list_marks(n: usize, marks: &[u16; PLACES], buffer: &mut [u8]) -> u16
         those n (is_marked marks.now) ++ drop (count n (is_marked marks.now)) buffer.old }
 {
     let mut at = 0usize;
-    let mut k = 0;
     // The numbers of the marked steps below k stand in the first `at` bytes.
-    while k < n {
-        if marks[k] == 1 {
+    for (k, mark) in marks[..n].iter().enumerate() {
+        if *mark == 1 {
             buffer[at] = k as u8;
             at += 1;
         }
-        k += 1;
     }
     at as u16
 }

@@ -4,8 +4,7 @@
 
 #![tactic(auto)]
 
-ghost use Rattle.std.specs.Prelude.{◌≡◌, true, not, ℕ, ◌+◌, ◌*◌, ◌<◌, ◌≤◌, get_or, replicate};
-ghost use Rattle.finite.specs.Below.{one};
+ghost use Rattle.std.specs.Prelude.{◌≡◌, true, ℕ, ◌+◌, ◌*◌, ◌<◌, ◌≤◌, get_or, replicate};
 ghost use Rattle.table.specs.Table.{places, counters};
 ghost use Rattle.table.specs.Sound.{sound};
 ghost use Rattle.image.specs.Image.{edition1, edition2, step_fields_of, with_record, counted, old_content, contents_sayable};
@@ -53,7 +52,7 @@ pub fn put_record(t: &mut [u16; WORDS], r: StepRecord)
     requires { r.number < places }
     ensures { Becomes t.old t.new (with_record (table_of t.old) (record_fields edition2 r)) }
 {
-    let i = words::wide(r.number);
+    let i = usize::from(r.number);
     let bits = r.bits;
     words::put_step(t, i, 1, r.kind, r.content, bits / 16 % 2, r.cabin);
     let targets = [r.first, r.second, r.third, r.fourth];
@@ -68,16 +67,14 @@ pub fn count_links(t: &mut [u16; WORDS])
         ((table_of t.old).counts ≡ replicate (places * counters) 0) }
     ensures { Becomes t.old t.new (counted (table_of t.old)) }
 {
-    let n = words::exit_places(words::wide(words::capacity(t)));
-    let mut p: usize = 0;
+    let n = words::exit_places(usize::from(words::capacity(t)));
     // The links in the exits before the place p are counted.
-    while p < n {
+    for p in 0..n {
         let target = words::target_in(t, p);
-        if words::wide(target) < words::PLACES {
+        if usize::from(target) < words::PLACES {
             let bit = words::bit_in(t, p);
             words::raise(t, target, bit);
         }
-        p += 1;
     }
 }
 
@@ -90,11 +87,11 @@ pub fn recount(t: &mut [u16; WORDS])
     count_links(t);
 }
 
-// 1 for a contact above 99, which an old telephone does not take, else 0.
-fn larger_contact(kind: u16, content: u16) -> u16
-    ensures { result ≡ one (not (old_content kind content)) }
+// Whether an old telephone takes a content: all but a contact above 99. Both numbers are looked at, without a branch, since that counts quicker.
+fn old_content(kind: u16, content: u16) -> bool
+    ensures { result ≡ old_content kind content }
 {
-    if kind != 1 || content <= 99 { 0 } else { 1 }
+    (kind != 1) | (content <= 99)
 }
 
 // Whether edition 1 can say the contents of a table.
@@ -102,13 +99,10 @@ pub fn has_old_contents(t: &[u16; WORDS]) -> bool
     requires { (table_of t.now).capacity ≤ places }
     ensures { result ≡ contents_sayable edition1 (table_of t.now) }
 {
-    let n = words::wide(words::capacity(t));
-    let mut found: u16 = 0;
-    let mut i: usize = 0;
-    // found is the number of larger contacts among the steps below i.
-    while i < n {
-        found += larger_contact(words::kind_at(t, i), words::content_at(t, i));
-        i += 1;
-    }
-    found == 0
+    let larger = words::passing(
+        0,
+        usize::from(words::capacity(t)),
+        |i| !old_content(words::kind_at(t, i), words::content_at(t, i)),
+    );
+    larger == 0
 }

@@ -1,5 +1,5 @@
 -- What the functions of this crate give back; the records themselves are defined in the crate image. Assumes nothing.
---   edition_of newer     the edition that a bool says; newer_in bs, whether the header says edition 2
+--   edition_of e         the edition that the code's type says; newer_in bs, whether the header says edition 2; edition_read bs, the edition that it says
 --   put_words bs at ns   the bytes with numbers from a place on, two bytes each
 --   added e l           what edition 2 has after the old fields, and edition 1 has not
 --   record_fields e r    the fields of a step record of the edition, in their order
@@ -7,21 +7,24 @@
 --   step_read e bs at    its fields; cabin_at e bs at, its cabin
 --   read_step e bs       what the record reader finds at the start of the bytes
 --   read_header bs       what the header reader finds
-use Rattle.std.specs.Prelude.{Bool, ◌&&◌, cond, List, [], ◌∷◌, ℕ, length, eqb, leb, ltb}
+use Rattle.std.specs.Prelude.{Bool, ◌&&◌, cond, Option, Some, None, List, [], ◌∷◌, ℕ, length, eqb, leb, ltb}
 use Rattle.std.proofs.lemmas.List.Edits.{sets}
 use Rattle.table.specs.Table.{places}
 use Rattle.image.specs.Image.{Edition, edition1, edition2, words, header_kind_of, header_field_count, step_kind_of, step_field_count, record_size, word_at, record_at, field_at, step_place, edition_in, capacity_in, last_in, count_in}
+use Rattle.records.specs.declared.Edition.{Edition as Said}
+use Rattle.records.specs.declared.Edition.TheVariants.{One, Two}
 use Rattle.records.specs.declared.StepRecord.{StepRecord}
-use Rattle.records.specs.declared.Read.{Read}
-use Rattle.records.specs.declared.Read.TheVariants.{Step, Nothing}
 use Rattle.records.specs.declared.Header.{Header}
-use Rattle.records.specs.declared.Header.TheVariants.{Fits, Unfit}
 
-abbrev pub edition_of : Bool → Edition
-edition_of newer = cond newer edition2 edition1
+abbrev pub edition_of : Said → Edition
+edition_of One = edition1
+edition_of Two = edition2
 
 unfoldable pub newer_in : List ℕ → Bool
 newer_in bs = eqb (word_at bs 2) (header_kind_of edition2)
+
+unfoldable pub edition_read : List ℕ → Said
+edition_read bs = cond (newer_in bs) Two One
 
 unfoldable pub put_words : List ℕ → ℕ → List ℕ → List ℕ
 put_words bs at ns = sets bs at (words ns)
@@ -56,14 +59,14 @@ step_read e bs at =
       cabin = cabin_at e bs at;
     }
 
-unfoldable pub read_step : Edition → List ℕ → Read
-read_step e bs = cond (leb (record_size (step_field_count e)) (length bs) && fits_at e bs 0) (Step (step_read e bs 0)) Nothing
+unfoldable pub read_step : Edition → List ℕ → Option StepRecord
+read_step e bs = cond (leb (record_size (step_field_count e)) (length bs) && fits_at e bs 0) (Some (step_read e bs 0)) None
 
 -- the edition, the capacity and the last number given, where the header is one, the length is right and a table has the capacity
-unfoldable pub read_header : List ℕ → Header
+unfoldable pub read_header : List ℕ → Option Header
 read_header bs =
     cond
     (eqb (length bs) (step_place bs (count_in bs)) &&
     (record_at bs 0 (header_kind_of (edition_in bs)) (header_field_count (edition_in bs)) && leb (capacity_in bs) places))
-    (Fits (newer_in bs) (capacity_in bs) (last_in bs))
-    Unfit
+    (Some (record { edition = edition_read bs; capacity = capacity_in bs; last = last_in bs }))
+    None

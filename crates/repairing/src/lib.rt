@@ -19,7 +19,7 @@ fn weaken_exit(t: &mut [u16; WORDS], k: usize, e: usize)
 {
     let target = words::target_at(t, k, e);
     let b = words::bit_at(t, k, e);
-    let j = words::wide(target);
+    let j = usize::from(target);
     if j == 0 {
         return;
     }
@@ -35,17 +35,15 @@ fn restore_step(t: &mut [u16; WORDS], k: usize)
     ensures { Becomes t.old t.new (restored (table_of t.old) k) }
 {
     words::flip(t, k);
-    let n = words::exits_of(k);
-    let mut e = 0;
     // The links in the exits below e are weak.
-    while e < n {
+    for e in 0..words::exits_of(k) {
         weaken_exit(t, k, e);
-        e += 1;
     }
 }
 
 // Step i becomes a candidate where it is a doubtful step; 0 stands for no step. Gives back the low mark: i where it is a candidate below `low`,
 // else `low`.
+// `doubt` and `wanted` stay two parameters, here and below: a struct of both would be no plainer, since `doubt` is only read where `wanted` grows.
 fn want_step(i: usize, low: usize, doubt: &[u16; PLACES], wanted: &mut [u16; PLACES]) -> usize
     requires { (i < places) × (length wanted.old ≡ places) }
     ensures { Added (meant i) doubt.now wanted.old wanted.new low result }
@@ -74,13 +72,10 @@ fn want_targets(
     requires { (k < places) × (length wanted.old ≡ places) × Formed (table_of t.now) }
     ensures { Added (linked (table_of t.now) k) doubt.now wanted.old wanted.new low result }
 {
-    let n = words::exits_of(k);
     let mut mark = low;
-    let mut e = 0;
     // The doubtful steps that the exits below e lead to are candidates, and none below `mark` is new.
-    while e < n {
-        mark = want_step(words::wide(words::target_at(t, k, e)), mark, doubt, wanted);
-        e += 1;
+    for e in 0..words::exits_of(k) {
+        mark = want_step(usize::from(words::target_at(t, k, e)), mark, doubt, wanted);
     }
     mark
 }
@@ -119,6 +114,7 @@ pub fn repair_steps(
 {
     let mut low = 0;
     // `wanted` has the candidates, and none is below `low`.
+    // It stays a `while`: it jumps back to the lowest new candidate, and a `for` with such jumps would be no plainer.
     while low < n {
         if wanted[low] == 1 {
             restore_step(t, low);
@@ -138,6 +134,7 @@ pub fn keep_steps(t: &[u16; WORDS], n: usize, doubt: &mut [u16; PLACES], wanted:
 {
     let mut next = 0;
     // `wanted` has the candidates, and none is below `next`.
+    // It stays a `while`: it jumps back to the lowest new candidate, and a `for` with such jumps would be no plainer.
     while next < n {
         if wanted[next] == 1 {
             next = keep_step(t, next, doubt, wanted);
@@ -152,12 +149,9 @@ fn unlink_step(t: &mut [u16; WORDS], k: usize)
     requires { Standing (table_of t.old) k }
     ensures { Becomes t.old t.new (unlinked (table_of t.old) k) }
 {
-    let n = words::exits_of(k);
-    let mut e = 0;
     // The exits below e are empty.
-    while e < n {
+    for e in 0..words::exits_of(k) {
         words::relink(t, k, e, 0, 0);
-        e += 1;
     }
 }
 
@@ -168,13 +162,11 @@ fn unlink_steps(t: &mut [u16; WORDS], n: usize, doubt: &[u16; PLACES])
         (each_doubtful (as_marks n doubt.now) unlinked (table_of t.old)) }
     ensures able { Repairable (table_of t.new) n doubt.now }
 {
-    let mut k = 0;
     // The doubtful steps below k hold no link.
-    while k < n {
+    for k in 0..n {
         if doubt[k] == 1 {
             unlink_step(t, k);
         }
-        k += 1;
     }
 }
 
@@ -185,12 +177,10 @@ pub fn free_steps(t: &mut [u16; WORDS], n: usize, doubt: &[u16; PLACES])
     ensures { Becomes t.old t.new (release (table_of t.old) (as_marks n doubt.now)) }
 {
     unlink_steps(t, n, doubt);
-    let mut k = 0;
     // The records of the doubtful steps below k are zero.
-    while k < n {
+    for k in 0..n {
         if doubt[k] == 1 {
             words::blank_step(t, k);
         }
-        k += 1;
     }
 }

@@ -23,8 +23,7 @@ use Rattle.finite.proofs.Bools.{and_intro, and_left, and_right, or_left, or_righ
 use Rattle.finite.proofs.Below.{eq_or_ne, any_at, any_intro, any_ext, count_ext, count_le, count_more, count_change}
 use Rattle.finite.proofs.Reach.{chain_keeps, reach_sound, reach_start, reach_closed, reach_below}
 use Rattle.finite.proofs.Those.{length_those, those_ext, those_count}
-use Rattle.table.specs.declared.Answer.{Answer}
-use Rattle.table.specs.declared.Answer.TheVariants.{Refused, Given}
+use Rattle.table.specs.Said.{Answer, Refused, Given}
 use Rattle.table.specs.Table.{Table, places, exits, kind_of, target_of, holds, leads}
 use Rattle.table.specs.Sound.{Sound}
 use Rattle.table.specs.Answer.{WriteOutcome, too_short, first, steps_room}
@@ -39,6 +38,7 @@ use Rattle.words.specs.Marks.{is_marked}
 use Rattle.words.proofs.Refusals.{table_stopped}
 use Rattle.marking.specs.Marking.{meant, linked_within}
 use Rattle.marking.proofs.Laws.{one_marked, not_marked, marked_one, marked_place}
+use Rattle.ringing.specs.declared.Met.{Met}
 use Rattle.ringing.specs.Row.{Row, Grown, rung_of}
 
 or_none : (b : Bool) → b ≡ (b || false)
@@ -63,118 +63,117 @@ module _ (l : List ℕ) (j v : ℕ) where
   unfolding is_marked
   marked_other k d = let z : get_or (set l j v) k 0 ≡ get_or l k 0 = get_or-set_other l j k v 0 d in rw z
 
-module _ {seen row : List ℕ} {end : ℕ} (r : Row seen row end) where
+module _ {met : Met} (r : Row met) where
   -- nothing joins
-  same_row : (p : ℕ → Bool) → ((k : ℕ) → p k ≡ true → is_marked seen k ≡ true) → Grown p seen row end seen row end
+  same_row : (p : ℕ → Bool) → ((k : ℕ) → p k ≡ true → is_marked met.seen k ≡ true) → Grown p met met
   same_row p f =
       record {
-        marks = λ k. same_test _ _ (λ h. or_left (is_marked seen k) (p k) h) (λ h. ⊎_elim (λ x. x) (f k) (or_elim (is_marked seen k) (p k) h));
+        marks = λ k. same_test _ _ (λ h. or_left (is_marked met.seen k) (p k) h) (λ h. ⊎_elim (λ x. x) (f k) (or_elim (is_marked met.seen k) (p k) h));
         kept = λ m l. refl;
         more = omega arith;
         joined = r;
       }
 
-  pub row_most : end ≤ places
-  row_most = let c = count_le places (is_marked seen) in let q = r.counted in omega arith
+  pub row_most : met.end ≤ places
+  row_most = let c = count_le places (is_marked met.seen) in let q = r.counted in omega arith
 
-  pub row_place : (m : ℕ) → m < end → get_or row m 0 < places
-  row_place m l = let h = marked_place seen (get_or row m 0) (r.entries m l) in let q = r.size in omega arith
+  pub row_place : (m : ℕ) → m < met.end → get_or met.row m 0 < places
+  row_place m l = let h = marked_place met.seen (get_or met.row m 0) (r.entries m l) in let q = r.size in omega arith
 
   module _ (j : ℕ) where
-    pub joins_nothing : j ≡ 0 → Grown (meant j) seen row end seen row end
+    pub joins_nothing : j ≡ 0 → Grown (meant j) met met
     unfolding meant
     joins_nothing z = same_row (meant j) (λ k h. clash (and_left (not (eqb j 0)) _ h) (ap not (eq-eqb j 0 z)))
 
-    pub joins_again : get_or seen j 0 ≡ 1 → Grown (meant j) seen row end seen row end
-    joins_again h = same_row (meant j) (λ k x. subst (λ (i : ℕ). is_marked seen i ≡ true) (meant_is j k x) (one_marked seen j h))
+    pub joins_again : get_or met.seen j 0 ≡ 1 → Grown (meant j) met met
+    joins_again h = same_row (meant j) (λ k x. subst (λ (i : ℕ). is_marked met.seen i ≡ true) (meant_is j k x) (one_marked met.seen j h))
 
-    module _ (l : j < places) (d : get_or seen j 0 ≡ 1 → ⊥) where
+    module _ (l : j < places) (d : get_or met.seen j 0 ≡ 1 → ⊥) where
       -- there is room for it
-      pub row_room : end < places
+      pub row_room : met.end < places
       row_room =
-          let c = count_more places (is_marked seen) (λ k. true) (λ k b h. refl) j l (not_marked seen j d) refl in
+          let c = count_more places (is_marked met.seen) (λ k. true) (λ k b h. refl) j l (not_marked met.seen j d) refl in
           let m = count_le places (λ k. true) in
           let q = r.counted in
           omega arith
 
-      pub joins_new : (j ≡ 0 → ⊥) → Grown (meant j) seen row end (set seen j 1) (set row end j) (end + 1)
+      pub joins_new : (j ≡ 0 → ⊥) → Grown (meant j) met (record { seen = set met.seen j 1; row = set met.row met.end j; end = met.end + 1 })
       joins_new z =
           record {
             marks = λ k. ⊎_elim (λ (q : k ≡ j). at_new k q) (λ n. elsewhere k n) (eq_or_ne k j);
-            kept = λ m b. get_or-set_other row end m j 0 (λ q. omega arith);
+            kept = λ m b. get_or-set_other met.row met.end m j 0 (λ q. omega arith);
             more = omega arith;
             joined =
                 record {
-                  size = length-set seen j 1 ∙ r.size;
-                  room = length-set row end j ∙ r.room;
+                  size = length-set met.seen j 1 ∙ r.size;
+                  room = length-set met.row met.end j ∙ r.room;
                   counted = counted';
                   entries = entries';
                   found = found';
                 };
           }
         where
-          here : is_marked (set seen j 1) j ≡ true
-          here = marked_here seen j 1 (rw r.size l)
+          here : is_marked (set met.seen j 1) j ≡ true
+          here = marked_here met.seen j 1 (rw r.size l)
 
-          in_row : get_or (set row end j) end 0 ≡ j
-          in_row = get_or-set_same row end j 0 (rw r.room row_room)
+          in_row : get_or (set met.row met.end j) met.end 0 ≡ j
+          in_row = get_or-set_same met.row met.end j 0 (rw r.room row_room)
 
           meant_here : meant j j ≡ true
           meant_here = unfold meant in and_intro (ap not (ne_eqb j 0 z)) (eq-eqb j j refl)
 
-          at_new : (k : ℕ) → k ≡ j → is_marked (set seen j 1) k ≡ (is_marked seen k || meant j k)
-          at_new k q = rw q (here ∙ sym (or_right (is_marked seen j) (meant j j) meant_here))
+          at_new : (k : ℕ) → k ≡ j → is_marked (set met.seen j 1) k ≡ (is_marked met.seen k || meant j k)
+          at_new k q = rw q (here ∙ sym (or_right (is_marked met.seen j) (meant j j) meant_here))
 
-          elsewhere : (k : ℕ) → (k ≡ j → ⊥) → is_marked (set seen j 1) k ≡ (is_marked seen k || meant j k)
+          elsewhere : (k : ℕ) → (k ≡ j → ⊥) → is_marked (set met.seen j 1) k ≡ (is_marked met.seen k || meant j k)
           elsewhere k n =
               let no : meant j k ≡ false = refute _ (λ h. n (sym (meant_is j k h))) in
-              marked_other seen j 1 k n ∙ rw no (or_none (is_marked seen k))
+              marked_other met.seen j 1 k n ∙ rw no (or_none (is_marked met.seen k))
 
-          counted' : end + 1 ≡ count places (is_marked (set seen j 1))
+          counted' : met.end + 1 ≡ count places (is_marked (set met.seen j 1))
           counted' =
-              let c = count_change places (is_marked seen) (is_marked (set seen j 1)) j l (λ k b n. marked_other seen j 1 k n) in
-              let x : one (is_marked seen j) ≡ 0 = ap one (not_marked seen j d) in
-              let y : one (is_marked (set seen j 1) j) ≡ 1 = ap one here in
+              let c = count_change places (is_marked met.seen) (is_marked (set met.seen j 1)) j l (λ k b n. marked_other met.seen j 1 k n) in
+              let x : one (is_marked met.seen j) ≡ 0 = ap one (not_marked met.seen j d) in
+              let y : one (is_marked (set met.seen j 1) j) ≡ 1 = ap one here in
               let q = r.counted in
               omega arith
 
-          entries' : (m : ℕ) → m < end + 1 → is_marked (set seen j 1) (get_or (set row end j) m 0) ≡ true
+          entries' : (m : ℕ) → m < met.end + 1 → is_marked (set met.seen j 1) (get_or (set met.row met.end j) m 0) ≡ true
           entries' m b =
               ⊎_elim
-              (λ (q : m ≡ end). rw (q, in_row) here)
-              (λ (n : m ≡ end → ⊥).
-              let was : get_or (set row end j) m 0 ≡ get_or row m 0 = get_or-set_other row end m j 0 n in
+              (λ (q : m ≡ met.end). rw (q, in_row) here)
+              (λ (n : m ≡ met.end → ⊥).
+              let was : get_or (set met.row met.end j) m 0 ≡ get_or met.row m 0 = get_or-set_other met.row met.end m j 0 n in
               let marked = r.entries m (omega arith) in
-              rw was (marked_other seen j 1 (get_or row m 0) (λ q. d (marked_one seen j (rw q at marked))) ∙ marked))
-              (eq_or_ne m end)
+              rw was (marked_other met.seen j 1 (get_or met.row m 0) (λ q. d (marked_one met.seen j (rw q at marked))) ∙ marked))
+              (eq_or_ne m met.end)
 
-          found' : (k : ℕ) → is_marked (set seen j 1) k ≡ true → (m : ℕ) × (m < end + 1) × (get_or (set row end j) m 0 ≡ k)
+          found' : (k : ℕ) → is_marked (set met.seen j 1) k ≡ true → (m : ℕ) × (m < met.end + 1) × (get_or (set met.row met.end j) m 0 ≡ k)
           found' k h =
               ⊎_elim
-              (λ (q : k ≡ j). (end, omega arith, in_row ∙ sym q))
+              (λ (q : k ≡ j). (met.end, omega arith, in_row ∙ sym q))
               (λ (n : k ≡ j → ⊥).
-              let f = r.found k (sym (marked_other seen j 1 k n) ∙ h) in
-              (f.0, omega (arith, f.1), get_or-set_other row end f.0 j 0 (λ q. omega (arith, f.1)) ∙ f.2))
+              let f = r.found k (sym (marked_other met.seen j 1 k n) ∙ h) in
+              (f.0, omega (arith, f.1), get_or-set_other met.row met.end f.0 j 0 (λ q. omega (arith, f.1)) ∙ f.2))
               (eq_or_ne k j)
 
-grown_more : {p q : ℕ → Bool} {seen row seen' row' seen'' row'' : List ℕ} {end end' end'' : ℕ} → Grown p seen row end seen' row' end' →
-    Grown q seen' row' end' seen'' row'' end'' → Grown (λ k. p k || q k) seen row end seen'' row'' end''
-grown_more {p} {q} {seen} a b =
+grown_more : {p q : ℕ → Bool} {before between after : Met} → Grown p before between → Grown q between after → Grown (λ k. p k || q k) before after
+grown_more {p} {q} {before} a b =
     record {
-      marks = λ k. b.marks k ∙ ap (λ (x : Bool). x || q k) (a.marks k) ∙ or_twice (is_marked seen k) (p k) (q k);
+      marks = λ k. b.marks k ∙ ap (λ (x : Bool). x || q k) (a.marks k) ∙ or_twice (is_marked before.seen k) (p k) (q k);
       kept = λ m l. b.kept m (omega (arith, a.more)) ∙ a.kept m l;
       more = omega (arith, a.more, b.more);
       joined = b.joined;
     }
 
 -- The exits of a step, one after the other.
-module _ (t : Table) (i : ℕ) {seen row : List ℕ} {end : ℕ} where
-  pub grown_start : Row seen row end → Grown (linked_within 0 t i) seen row end seen row end
+module _ (t : Table) (i : ℕ) {met : Met} where
+  pub grown_start : Row met → Grown (linked_within 0 t i) met met
   unfolding linked_within any
   grown_start r = same_row r (λ k. false) (λ k h. clash h refl)
 
-  pub grown_exit : {seen' row' seen'' row'' : List ℕ} {end' end'' : ℕ} (e : ℕ) → Grown (linked_within e t i) seen row end seen' row' end' →
-      Grown (meant (target_of t i e)) seen' row' end' seen'' row'' end'' → Grown (linked_within (e + 1) t i) seen row end seen'' row'' end''
+  pub grown_exit : {between after : Met} (e : ℕ) → Grown (linked_within e t i) met between → Grown (meant (target_of t i e)) between after →
+      Grown (linked_within (e + 1) t i) met after
   unfolding linked_within any leads holds meant
   grown_exit e a b = rw (add-one e) (grown_more a b)
 
@@ -207,84 +206,92 @@ module _ (t : Table) (i : ℕ) where
       (and_left (holds t i x.0) _ x.2)
       (eqb-true _ j (and_right (holds t i x.0) _ x.2)))
 
+-- Step 0 alone.
+abbrev alone : Met
+alone = record { seen = set (replicate places 0) 0 1; row = replicate places 0; end = 1 }
+
+begun : is_marked alone.seen 0 ≡ true
+unfolding is_marked
+begun = refl
+
+pub alone_marked : (k : ℕ) → is_marked alone.seen k ≡ eqb k 0
+alone_marked k =
+    ⊎_elim (λ (z : k ≡ 0). rw z (begun ∙ sym (eq-eqb 0 0 refl)))
+    (λ (d : k ≡ 0 → ⊥).
+    let none : get_or (replicate places 0) k 0 ≡ 0 = get_or_zeros places k in
+    marked_other (replicate places 0) 0 1 k d ∙ not_marked (replicate places 0) k (λ o. omega arith) ∙ sym (ne_eqb k 0 d))
+    (eq_or_ne k 0)
+
+pub alone_row : Row alone
+alone_row =
+    record {
+      size = refl;
+      room = refl;
+      counted = (unfold count is_marked in refl);
+      entries = λ m l. rw (get_or_zeros places m) begun;
+      found = λ k h. (0, omega arith, sym (eqb-true k 0 (sym (alone_marked k) ∙ h)));
+    }
+
 -- The search on its way.
-pub record Searching (t : Table) (seen row : List ℕ) (end at : ℕ) : Type 0 where
-  pub row_of : Row seen row end
-  pub within : at ≤ end
-  pub alarm : is_marked seen 0 ≡ true
-  pub reached : (k : ℕ) → is_marked seen k ≡ true → reaches (goes_on t) t.capacity 0 k ≡ true
-  pub closed : (m : ℕ) → m < at → (j : ℕ) → goes_on t (get_or row m 0) j ≡ true → is_marked seen j ≡ true
+pub record Searching (t : Table) (met : Met) (at : ℕ) : Type 0 where
+  pub row_of : Row met
+  pub within : at ≤ met.end
+  pub alarm : is_marked met.seen 0 ≡ true
+  pub reached : (k : ℕ) → is_marked met.seen k ≡ true → reaches (goes_on t) t.capacity 0 k ≡ true
+  pub closed : (m : ℕ) → m < at → (j : ℕ) → goes_on t (get_or met.row m 0) j ≡ true → is_marked met.seen j ≡ true
 
 module _ {t : Table} (s : Sound t) where
-  pub searching_begins : (zeros : List ℕ) → zeros ≡ replicate places 0 → Searching t (set zeros 0 1) (replicate places 0) 1 0
-  searching_begins zeros q =
+  pub searching_begins : {met : Met} → Row met → ((k : ℕ) → is_marked met.seen k ≡ eqb k 0) → Searching t met 0
+  searching_begins r f =
       record {
-        row_of =
-            record {
-              size = rw q;
-              room = refl;
-              counted = rw q (unfold count is_marked in refl);
-              entries = λ m l. rw (get_or_zeros places m) begun;
-              found = λ k h. (0, omega arith, sym (only k h));
-            };
+        row_of = r;
         within = omega arith;
-        alarm = begun;
-        reached = λ k h. rw (only k h) (reach_start (goes_on t) t.capacity 0 s.formed.least);
+        alarm = f 0 ∙ eq-eqb 0 0 refl;
+        reached = λ k h. rw (eqb-true k 0 (sym (f k) ∙ h)) (reach_start (goes_on t) t.capacity 0 s.formed.least);
         closed = λ m l. absurd (omega arith);
       }
-    where
-      begun : is_marked (set zeros 0 1) 0 ≡ true
-      begun = rw q (unfold is_marked in refl)
 
-      only : (k : ℕ) → is_marked (set zeros 0 1) k ≡ true → k ≡ 0
-      only k h =
-          ⊎_elim (λ z. z)
-          (λ (d : k ≡ 0 → ⊥).
-          let none : get_or zeros k 0 ≡ 0 = rw q (get_or_zeros places k) in
-          clash (sym (marked_other zeros 0 1 k d) ∙ h) (not_marked zeros k (λ o. omega arith)))
-          (eq_or_ne k 0)
-
-  module _ {seen row : List ℕ} {end at : ℕ} (x : Searching t seen row end at) where
-    pub searching_turn : {seen' row' : List ℕ} {end' : ℕ} → at < end → {p : ℕ → Bool} → ((j : ℕ) → goes_on t (get_or row at 0) j ≡ p j) →
-        Grown p seen row end seen' row' end' → Searching t seen' row' end' (at + 1)
-    searching_turn {seen'} {row'} {end'} l {p} f g =
+  module _ {met : Met} {at : ℕ} (x : Searching t met at) where
+    pub searching_turn : {after : Met} → at < met.end → {p : ℕ → Bool} → ((j : ℕ) → goes_on t (get_or met.row at 0) j ≡ p j) →
+        Grown p met after → Searching t after (at + 1)
+    searching_turn l {p} f g =
         record {
           row_of = g.joined;
           within = omega (arith, g.more);
-          alarm = g.marks 0 ∙ or_left (is_marked seen 0) (p 0) x.alarm;
+          alarm = g.marks 0 ∙ or_left (is_marked met.seen 0) (p 0) x.alarm;
           reached =
               λ k h.
               ⊎_elim (x.reached k)
               (λ y.
               let goes = f k ∙ y in
-              let i = x.reached (get_or row at 0) (x.row_of.entries at l) in
-              reach_closed (goes_on t) t.capacity 0 s.formed.least (get_or row at 0) k (reach_below (goes_on t) t.capacity 0 _ i)
+              let i = x.reached (get_or met.row at 0) (x.row_of.entries at l) in
+              reach_closed (goes_on t) t.capacity 0 s.formed.least (get_or met.row at 0) k (reach_below (goes_on t) t.capacity 0 _ i)
               (goes_below s _ k goes)
               i
               goes)
-              (or_elim (is_marked seen k) (p k) (sym (g.marks k) ∙ h));
+              (or_elim (is_marked met.seen k) (p k) (sym (g.marks k) ∙ h));
           closed =
               λ m b j y.
               let same = g.kept m (omega arith) in
-              let goes : goes_on t (get_or row m 0) j ≡ true = rw same at y in
+              let goes : goes_on t (get_or met.row m 0) j ≡ true = rw same at y in
               ⊎_elim
-              (λ (q : m ≡ at). g.marks j ∙ or_right (is_marked seen j) (p j) (sym (f j) ∙ (rw q at goes)))
-              (λ (d : m ≡ at → ⊥). g.marks j ∙ or_left (is_marked seen j) (p j) (x.closed m (omega arith) j goes))
+              (λ (q : m ≡ at). g.marks j ∙ or_right (is_marked met.seen j) (p j) (sym (f j) ∙ (rw q at goes)))
+              (λ (d : m ≡ at → ⊥). g.marks j ∙ or_left (is_marked met.seen j) (p j) (x.closed m (omega arith) j goes))
               (eq_or_ne m at);
         }
 
-    pub entered_marks : end ≤ at → (k : ℕ) → is_marked (set seen 0 0) k ≡ entered t k
+    pub entered_marks : met.end ≤ at → (k : ℕ) → is_marked (set met.seen 0 0) k ≡ entered t k
     entered_marks l k =
         ⊎_elim
-        (λ (z : k ≡ 0). rw z (marked_here seen 0 0 (marked_place seen 0 x.alarm) ∙ (unfold is_entered in refl)))
+        (λ (z : k ≡ 0). rw z (marked_here met.seen 0 0 (marked_place met.seen 0 x.alarm) ∙ (unfold is_entered in refl)))
         (λ (d : k ≡ 0 → ⊥).
-        marked_other seen 0 0 k d
+        marked_other met.seen 0 0 k d
         ∙ same_test _ _
         (λ h. reached_entered s k d (x.reached k h))
-        (λ h. chain_keeps (λ i. is_marked seen i ≡ true) goes_in x.alarm (reach_sound (goes_on t) t.capacity 0 k (entered_reached s k h)).1))
+        (λ h. chain_keeps (λ i. is_marked met.seen i ≡ true) goes_in x.alarm (reach_sound (goes_on t) t.capacity 0 k (entered_reached s k h)).1))
         (eq_or_ne k 0)
       where
-        goes_in : (i j : ℕ) → is_marked seen i ≡ true → goes_on t i j ≡ true → is_marked seen j ≡ true
+        goes_in : (i j : ℕ) → is_marked met.seen i ≡ true → goes_on t i j ≡ true → is_marked met.seen j ≡ true
         goes_in i j h g = let f = x.row_of.found i h in x.closed f.0 (omega (arith, f.1)) j (rw f.2 g)
 
 -- The list and the counts from the marks.

@@ -2,9 +2,9 @@
 
 #![tactic(auto)]
 
-ghost use Rattle.std.specs.Prelude.{◌≡◌, ◌&&◌, ℕ, ◌≤◌, ◌<◌, length, replicate};
+ghost use Rattle.std.specs.Prelude.{◌≡◌, ◌&&◌, ℕ, ◌≤◌, ◌<◌, length, eqb, Ok};
 ghost use Rattle.finite.specs.Below.{count};
-ghost use Rattle.table.specs.Answer.{steps_room};
+ghost use Rattle.table.specs.Answer.{steps_room, answer_of};
 ghost use Rattle.table.specs.Table.{places, exits};
 ghost use Rattle.table.specs.Sound.{Sound, Formed};
 ghost use Rattle.table.specs.Trial.{is_contact};
@@ -14,45 +14,55 @@ ghost use Rattle.words.specs.Marks.{is_marked};
 ghost use Rattle.marking.specs.Marking.{meant, linked_within};
 ghost use Rattle.ringing.specs.Row.{Row, Grown, rung_of};
 
-use table::Answer;
-use words::{CONTACT, EXITS, PLACES, STEPS_ROOM, WORDS, wide};
+use table::{Answer, Refusal};
+use words::{CONTACT, EXITS, PLACES, STEPS_ROOM, WORDS, passing};
 
-// Step j, which a step goes on to, joins the row at its end, unless it is there; 0 stands for no step. Gives back the new end.
-fn enter_step(j: usize, end: usize, seen: &mut [u16; PLACES], row: &mut [u16; PLACES]) -> usize
-    requires { (j < places) × Row seen.old row.old end }
-    ensures { Grown (meant j) seen.old row.old end seen.new row.new result }
-{
-    if j == 0 {
-        return end;
-    }
-    if seen[j] == 1 {
-        return end;
-    }
-    seen[j] = 1;
-    row[end] = j as u16;
-    end + 1
+// The steps met so far: a mark for each, and a row of their numbers in the order in which they were met, in its places before `end`.
+#[derive(Drop)]
+struct Met {
+    seen: [u16; PLACES],
+    row: [u16; PLACES],
+    end: usize,
 }
 
-// The steps that the first m exits of step i lead to join the row. Gives back the new end.
-fn enter_targets(
-    t: &[u16; WORDS],
-    i: usize,
-    m: usize,
-    end: usize,
-    seen: &mut [u16; PLACES],
-    row: &mut [u16; PLACES],
-) -> usize
-    requires { Formed (table_of t.now) × (i < places) × (m ≤ exits) × Row seen.old row.old end }
-    ensures { Grown (linked_within m (table_of t.now) i) seen.old row.old end seen.new row.new result }
-{
-    let mut last = end;
-    let mut e = 0;
-    // The steps that the exits below e lead to have joined.
-    while e < m {
-        last = enter_step(wide(words::target_at(t, i, e)), last, seen, row);
-        e += 1;
+impl Met {
+    // Step 0 alone, where every trial starts.
+    fn start() -> Self
+        ensures row { Row result }
+        ensures alone { (k : ℕ) → is_marked result.seen k ≡ eqb k 0 }
+    {
+        let mut seen = [0u16; PLACES];
+        seen[0] = 1;
+        let row = [0u16; PLACES];
+        Met { seen, row, end: 1 }
     }
-    last
+
+    // Step j, which a step goes on to, joins the row at its end, unless it is there; 0 stands for no step.
+    fn enter_step(&mut self, j: usize)
+        requires { (j < places) × Row self.old }
+        ensures { Grown (meant j) self.old self.new }
+    {
+        if j == 0 {
+            return;
+        }
+        if self.seen[j] == 1 {
+            return;
+        }
+        self.seen[j] = 1;
+        self.row[self.end] = j as u16;
+        self.end += 1;
+    }
+
+    // The steps that the first m exits of step i lead to join the row.
+    fn enter_targets(&mut self, t: &[u16; WORDS], i: usize, m: usize)
+        requires { Formed (table_of t.now) × (i < places) × (m ≤ exits) × Row self.old }
+        ensures { Grown (linked_within m (table_of t.now) i) self.old self.new }
+    {
+        // The steps that the exits below e lead to have joined.
+        for e in 0..m {
+            self.enter_step(usize::from(words::target_at(t, i, e)));
+        }
+    }
 }
 
 // How many exits step i can go on by, from its first: a contact has a line result for each, any other step takes the answered one.
@@ -67,23 +77,23 @@ fn ways(t: &[u16; WORDS], i: usize) -> usize
     1
 }
 
-// Marks the steps that some trial of a sound table enters. The row has the steps met so far, step 0 first, and each is asked once where it goes on to.
-fn mark_entered(t: &[u16; WORDS], seen: &mut [u16; PLACES])
-    requires { Sound (table_of t.now) × (seen.old ≡ replicate places 0) }
-    ensures { (k : ℕ) → is_marked seen.new k ≡ is_entered (goes_on (table_of t.now)) (table_of t.now).capacity k }
+// The marks of the steps that some trial of a sound table enters. Each step met, step 0 first, is asked once where it goes on to.
+fn marks_entered(t: &[u16; WORDS]) -> [u16; PLACES]
+    requires { Sound (table_of t.now) }
+    ensures { (k : ℕ) → is_marked result k ≡ is_entered (goes_on (table_of t.now)) (table_of t.now).capacity k }
 {
-    let mut row = [0u16; PLACES];
-    seen[0] = 1;
-    let mut end = 1;
+    let mut met = Met::start();
     let mut at = 0;
     // The steps of the row before `at` go on to steps of the row alone.
-    while at < end {
-        let i = wide(row[at]);
+    // It stays a `while`: the row grows while it is read, and a `for` over all places with a way out would be no plainer.
+    while at < met.end {
+        let i = usize::from(met.row[at]);
         let m = ways(t, i);
-        end = enter_targets(t, i, m, end, seen, &mut row);
+        met.enter_targets(t, i, m);
         at += 1;
     }
-    seen[0] = 0;
+    met.seen[0] = 0;
+    met.seen
 }
 
 // How many of the marked steps below n are contacts.
@@ -91,46 +101,31 @@ fn count_contacts(t: &[u16; WORDS], n: usize, seen: &[u16; PLACES]) -> u16
     requires { n ≤ places }
     ensures { result ≡ count n (λ k. is_marked seen.now k && is_contact (table_of t.now) k) }
 {
-    let mut contacts: u16 = 0;
-    let mut k = 0;
-    // `contacts` is the number of marked contacts below k.
-    while k < n {
-        if seen[k] == 1 {
-            if words::kind_at(t, k) == CONTACT {
-                contacts += 1;
-            }
-        }
-        k += 1;
-    }
-    contacts
+    passing(0, n, |k| seen[k] == 1 && words::kind_at(t, k) == CONTACT)
 }
 
 // Lists the steps that some trial of a sound table enters, in a buffer with the room. Gives back how many there are, and how many of them are contacts.
-fn list_entered(t: &[u16; WORDS], buffer: &mut [u8]) -> Answer
+fn list_entered(t: &[u16; WORDS], buffer: &mut [u8]) -> (u16, u16)
     requires { Sound (table_of t.now) × (steps_room ≤ length buffer.old) }
-    ensures answer { result ≡ (rung_of (table_of t.now) buffer.old).answer }
+    ensures answer { answer_of (Ok result) ≡ (rung_of (table_of t.now) buffer.old).answer }
     ensures written { buffer.new ≡ (rung_of (table_of t.now) buffer.old).buffer }
 {
-    let mut seen = [0u16; PLACES];
-    mark_entered(t, &mut seen);
-    let n = wide(words::capacity(t));
+    let seen = marks_entered(t);
+    let n = usize::from(words::capacity(t));
     let contacts = count_contacts(t, n, &seen);
     let steps = marking::list_marks(n, &seen, buffer);
-    Answer::Given(steps, contacts)
+    (steps, contacts)
 }
 
 // Tells who can be rung: the numbers of the steps that some trial enters are written to the start of the buffer, ascending, a byte each. The answer has how
 // many there are, and how many of them are contacts. A refused call writes nothing.
 pub fn rung(t: &[u16; WORDS], buffer: &mut [u8]) -> Answer
-    ensures answer { result ≡ (rung_call (table_of t.now) buffer.old).answer }
+    ensures answer { answer_of result ≡ (rung_call (table_of t.now) buffer.old).answer }
     ensures written { buffer.new ≡ (rung_call (table_of t.now) buffer.old).buffer }
 {
-    let unsound = soundness::table_refusal(t);
-    if unsound != 0 {
-        return Answer::Refused(unsound);
-    }
+    soundness::check_table(t)?;
     if buffer.len() < STEPS_ROOM {
-        return Answer::Refused(words::TOO_SHORT);
+        return Err(Refusal::TooShort);
     }
-    list_entered(t, buffer)
+    Ok(list_entered(t, buffer))
 }

@@ -13,17 +13,17 @@ use lib.ListN.{length, take, length-append}
 use lib.Seq.{take_all, take-append-le, length-take-le}
 use lib.Dec.{eqb}
 use borrow.Author.Tests.{lt-ltb, le-ltb, ne_eqb}
+use Rattle.std.specs.Prelude.{None}
 use Rattle.finite.proofs.Bools.{test}
 use Rattle.finite.proofs.Below.{le_or_lt}
 use Rattle.table.specs.Answer.{Outcome}
 use Rattle.table.specs.Table.{Table}
-use Rattle.keyline.specs.declared.Decoded.TheVariants.{Nothing}
 use Rattle.keyline.specs.Keys.{is_line, decode, key_call}
 use Rattle.keying.proofs.Laws.{not_line, decode_nothing}
 use Rattle.session.specs.Session.{keys_table, line_end, kept_most, State, lines_from, lines_of, printed, answers, keys_output, keep, push, line_output, push_output, feed, fed_output, finish_output, blocks_output, first_state}
 
 -- a line of 13 bytes or more is no key line
-decode_long : (l : List ℕ) → kept_most ≤ length l → decode l ≡ Nothing
+decode_long : (l : List ℕ) → kept_most ≤ length l → decode l ≡ None
 decode_long l h =
     sym
     (decode_nothing l (other 1 8 (omega arith)) (other 2 8 (omega arith)) (other 3 4 (omega arith)) (other 4 0 (omega arith)))

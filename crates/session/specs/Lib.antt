@@ -1,2 +1,3 @@
 -- What the program `keys` writes, and how it works in blocks (document 01, "Keys").
+pub mod Puts
 pub mod Session

@@ -11,8 +11,8 @@
 --   finish_output s    what is written at the end of input
 --   blocks_output s bs   what is written for the blocks bs and the end of input
 --   first_state, state_of   the state at the start, and that of the words and the bytes kept
-use Rattle.std.specs.Prelude.{cond, List, [], ◌∷◌, ◌++◌, ℕ, zero, suc, ◌/◌, ◌%◌, length, take, eqb, ltb}
-use Rattle.table.specs.declared.Answer.{Answer}
+use Rattle.std.specs.Prelude.{cond, List, [], ◌∷◌, ◌++◌, ℕ, zero, suc, ◌/◌, ◌%◌, length, eqb, ltb}
+use Rattle.table.specs.Said.{Answer}
 use Rattle.table.specs.Table.{Table, places}
 use Rattle.table.specs.Answer.{refusal_of, first_of, second_of}
 use Rattle.table.specs.Cabins.{sole_quotas}
@@ -106,6 +106,6 @@ blocks_output s (b ∷ bs) = fed_output s b ++ blocks_output (feed s b) bs
 unfoldable pub first_state : State
 first_state = record { table = keys_table; kept = [] }
 
--- the state that the words of a table, and `kept` bytes of a line begun, stand for
-unfoldable pub state_of : List ℕ → List ℕ → ℕ → State
-state_of w line kept = record { table = table_of w; kept = take kept line }
+-- the state that the words of a table, and the bytes kept of the line begun, stand for
+unfoldable pub state_of : List ℕ → List ℕ → State
+state_of w line = record { table = table_of w; kept = line }

@@ -2,177 +2,197 @@
 
 #![tactic(auto)]
 
-ghost use Rattle.std.specs.Prelude.{◌≡◌, List, [], ◌∷◌, ℕ, ◌+◌, ◌*◌, ◌≤◌, ◌<◌, length, take};
+ghost use Rattle.std.specs.Prelude.{◌≡◌, List, [], ◌∷◌, ℕ, ◌+◌, ◌*◌, ◌≤◌, ◌<◌, ◌↔◌, length, take, IsTrue};
 ghost use Rattle.std.proofs.lemmas.List.Edits.{sets};
+ghost use Rattle.table.specs.Answer.{answer_of};
 ghost use Rattle.words.specs.Words.{table_of};
-ghost use Rattle.keyline.specs.Keys.{digit, key_call};
+ghost use Rattle.keyline.specs.Keys.{key_call};
+ghost use Rattle.session.specs.Puts.{Puts};
 ghost use Rattle.session.specs.Session.{kept_most, spelled, number_then, three_numbers, printed, keep, feed, fed_output, finish_output, first_state, state_of};
 
+use itoa::Buffer;
+use std::marker::Model;
 use table::Answer;
 use words::WORDS;
 
 // The byte that ends a line.
-const LINE_END: u8 = 10;
+const LINE_END: u8 = b'\n';
 // The blank between two numbers.
-const BLANK: u8 = 32;
-// The first digit in ASCII.
-const ZERO: u8 = 48;
+const BLANK: u8 = b' ';
 // The bytes that are kept of a line: one more than the longest key line has.
-pub const KEPT: usize = 13;
+const KEPT: usize = 13;
 // The capacity of the table.
 const CAPACITY: u16 = 128;
 
-// After a block: how many bytes of the line begun are kept, and how many bytes of output were written.
+// What is kept of the line begun. A clause sees the bytes; there are none where no line is begun.
 #[derive(Drop)]
-pub struct Fed {
-    pub kept: usize,
-    pub end: usize,
+pub struct Line {
+    bytes: [u8; KEPT],
+    kept: usize,
 }
 
-// Puts a byte into the output, and answers the place after it.
-fn put_byte(out: &mut [u8], at: usize, byte: u8) -> usize
-    requires { at < length out.old }
-    ensures { (result ≡ at + 1) × (out.new ≡ sets out.old at (byte ∷ [])) }
-{
-    out[at] = byte;
-    at + 1
+impl Model for Line {
+    ghost Value = { List ℕ };
+
+    ghost view = { λ l. take l.kept l.bytes };
+
+    ghost invariant = { λ l. l.kept ≤ kept_most };
 }
 
-// Puts the digit of a number below ten into the output, and answers the place after it.
-fn put_digit(out: &mut [u8], at: usize, n: u16) -> usize
-    requires { (at < length out.old) × (n < 10) }
-    ensures { (result ≡ at + 1) × (out.new ≡ sets out.old at (digit n ∷ [])) }
-{
-    put_byte(out, at, ZERO + n as u8)
-}
-
-// Puts the decimal digits of a number into the output, and answers the place after them.
-fn put_number(out: &mut [u8], at: usize, n: u16) -> usize
-    requires { at + length (spelled n) ≤ length out.old }
-    ensures { (result ≡ at + length (spelled n)) × (out.new ≡ sets out.old at (spelled n)) }
-{
-    if n < 10 {
-        return put_digit(out, at, n);
+impl Line {
+    // No line is begun.
+    pub fn new() -> Self
+        ensures { result ≡ [] }
+    {
+        Line {
+            bytes: [0; KEPT],
+            kept: 0,
+        }
     }
-    let last = put_number(out, at, n / 10);
-    put_digit(out, last, n % 10)
-}
 
-// Puts a number and the byte after it into the output, and answers the place after both.
-fn put_number_then(out: &mut [u8], at: usize, n: u16, byte: u8) -> usize
-    requires { at + 6 ≤ length out.old }
-    ensures { ((result ≡ at + length (number_then n byte)) × (out.new ≡ sets out.old at (number_then n byte))) × (result ≤ at + 6) }
-{
-    let end = put_number(out, at, n);
-    put_byte(out, end, byte)
-}
+    // Keeps a byte, where fewer than 13 are kept.
+    pub fn keep(&mut self, byte: u8)
+        ensures { self.new ≡ keep self.old byte }
+    {
+        if self.kept < KEPT {
+            self.bytes[self.kept] = byte;
+            self.kept += 1;
+        }
+    }
 
-// Puts three numbers into the output as a line, and answers the place after it.
-fn put_numbers(out: &mut [u8], at: usize, refusal: u16, first: u16, second: u16) -> usize
-    requires { at + 18 ≤ length out.old }
-    ensures { ((result ≡ at + length (three_numbers refusal first second)) × (out.new ≡ sets out.old at (three_numbers refusal first second))) × (result ≤ at + 18) }
-{
-    let a = put_number_then(out, at, refusal, BLANK);
-    let b = put_number_then(out, a, first, BLANK);
-    put_number_then(out, b, second, LINE_END)
-}
+    // The line is ended: none is begun.
+    pub fn clear(&mut self)
+        ensures { self.new ≡ [] }
+    {
+        self.kept = 0;
+    }
 
-// Puts the line of an answer into the output, and answers the place after it.
-fn put_answer(out: &mut [u8], at: usize, answer: Answer) -> usize
-    requires { at + 18 ≤ length out.old }
-    ensures { ((result ≡ at + length (printed answer)) × (out.new ≡ sets out.old at (printed answer))) × (result ≤ at + 18) }
-{
-    match answer {
-        Answer::Refused(n) => put_numbers(out, at, n, 0, 0),
-        Answer::Given(first, second) => put_numbers(out, at, 0, first, second),
+    pub fn is_empty(&self) -> bool
+        ensures { IsTrue result ↔ (self.now ≡ []) }
+    {
+        self.kept == 0
+    }
+
+    // The bytes that are kept, in their order.
+    pub fn as_bytes(&self) -> &[u8]
+        ensures { result.now ≡ self.now }
+    {
+        &self.bytes[..self.kept]
     }
 }
 
-// The call of a line; the place after the line that answers, which is put into the output.
-fn end_line(t: &mut [u16; WORDS], line: &[u8], out: &mut [u8], at: usize) -> usize
-    requires { at + 18 ≤ length out.old }
-    ensures table { table_of t.new ≡ (key_call (table_of t.old) line.now).table }
-    ensures place { result ≡ at + length (printed (key_call (table_of t.old) line.now).answer) }
-    ensures text { out.new ≡ sets out.old at (printed (key_call (table_of t.old) line.now).answer) }
-    ensures room { result ≤ at + 18 }
-{
-    words::sized(t);
-    let answer = keying::key_line(t, line);
-    put_answer(out, at, answer)
+// The output of a block or of the end of input: the bytes lent for it, and the place after those that are put.
+#[derive(Drop)]
+struct Writer<'a> {
+    bytes: &'a mut [u8],
+    at: usize,
 }
 
-// Says how many bytes of a line have a place; no machine code comes of it.
-fn sized(line: &[u8; KEPT])
-    ensures { length line.now ≡ kept_most }
-{
-    let _all = &line[..];
-}
-
-// Keeps a byte of the line begun, where fewer than 13 are kept, and answers how many are.
-fn keep_byte(line: &mut [u8; KEPT], kept: usize, byte: u8) -> usize
-    requires { (kept ≤ kept_most) × (length line.old ≡ kept_most) }
-    ensures { ((result ≤ kept_most) × (length line.new ≡ kept_most)) × (take result line.new ≡ keep (take kept line.old) byte) }
-{
-    if kept < KEPT {
-        line[kept] = byte;
-        return kept + 1;
+impl<'a> Writer<'a> {
+    // Puts a byte.
+    fn put_byte(&mut self, byte: u8)
+        requires { self.old.at < length self.old.bytes.now }
+        ensures { Puts self.old self.new (byte ∷ []) }
+    {
+        self.bytes[self.at] = byte;
+        self.at += 1;
     }
-    kept
+
+    // Puts the decimal digits of a number.
+    fn put_number(&mut self, n: u16)
+        requires { self.old.at + length (spelled n) ≤ length self.old.bytes.now }
+        ensures { Puts self.old self.new (spelled n) }
+    {
+        let mut buffer = Buffer::new();
+        let digits = buffer.format(n).as_bytes();
+        let end = self.at + digits.len();
+        self.bytes[self.at..end].copy_from_slice(digits);
+        self.at = end;
+    }
+
+    // Puts a number and the byte after it.
+    fn put_number_then(&mut self, n: u16, byte: u8)
+        requires { self.old.at + 6 ≤ length self.old.bytes.now }
+        ensures { Puts self.old self.new (number_then n byte) × (self.new.at ≤ self.old.at + 6) }
+    {
+        self.put_number(n);
+        self.put_byte(byte);
+    }
+
+    // Puts three numbers as a line.
+    fn put_numbers(&mut self, refusal: u16, first: u16, second: u16)
+        requires { self.old.at + 18 ≤ length self.old.bytes.now }
+        ensures { Puts self.old self.new (three_numbers refusal first second) × (self.new.at ≤ self.old.at + 18) }
+    {
+        self.put_number_then(refusal, BLANK);
+        self.put_number_then(first, BLANK);
+        self.put_number_then(second, LINE_END);
+    }
+
+    // Puts the line of an answer.
+    fn put_answer(&mut self, answer: Answer)
+        requires { self.old.at + 18 ≤ length self.old.bytes.now }
+        ensures { Puts self.old self.new (printed (answer_of answer)) × (self.new.at ≤ self.old.at + 18) }
+    {
+        match answer {
+            Err(why) => self.put_numbers(why.into(), 0, 0),
+            Ok((first, second)) => self.put_numbers(0, first, second),
+        }
+    }
+
+    // The call of a line, and the line that answers it, which is put.
+    fn end_line(&mut self, t: &mut [u16; WORDS], line: &[u8])
+        requires { self.old.at + 18 ≤ length self.old.bytes.now }
+        ensures table { table_of t.new ≡ (key_call (table_of t.old) line.now).table }
+        ensures text { Puts self.old self.new (printed (key_call (table_of t.old) line.now).answer) }
+        ensures room { self.new.at ≤ self.old.at + 18 }
+    {
+        let answer = keying::key_line(t, line);
+        self.put_answer(answer);
+    }
 }
 
 // The table that `keys` begins with; no line is begun.
 pub fn start(t: &mut [u16; WORDS])
-    ensures { (line : List ℕ) → state_of t.new line 0 ≡ first_state }
+    ensures { state_of t.new [] ≡ first_state }
 {
     let quotas = cabins::sole_quotas(CAPACITY);
     steps::fresh_table(t, CAPACITY, &quotas);
 }
 
-// A block of input, with `kept` bytes of the line begun: the lines ended in it are called on the table, and the lines that answer them put at the
-// start of the output.
-pub fn feed(
-    t: &mut [u16; WORDS],
-    line: &mut [u8; KEPT],
-    kept: usize,
-    block: &[u8],
-    out: &mut [u8],
-) -> Fed
-    requires { (kept ≤ kept_most) × (18 * length block.now ≤ length out.old) }
-    ensures kept { result.kept ≤ kept_most }
-    ensures state { state_of t.new line.new result.kept ≡ feed (state_of t.old line.old kept) block.now }
-    ensures place { result.end ≡ length (fed_output (state_of t.old line.old kept) block.now) }
-    ensures text { out.new ≡ sets out.old 0 (fed_output (state_of t.old line.old kept) block.now) }
-    ensures room { (result.end ≤ length out.new) × (result.end ≡ length (take result.end out.new)) }
+// A block of input: the lines ended in it are called on the table, and the lines that answer them put at the start of the output. The answer is the
+// place after them.
+pub fn feed(t: &mut [u16; WORDS], line: &mut Line, block: &[u8], out: &mut [u8]) -> usize
+    requires { 18 * length block.now ≤ length out.old }
+    ensures state { state_of t.new line.new ≡ feed (state_of t.old line.old) block.now }
+    ensures place { result ≡ length (fed_output (state_of t.old line.old) block.now) }
+    ensures text { out.new ≡ sets out.old 0 (fed_output (state_of t.old line.old) block.now) }
+    ensures room { (result ≤ length out.new) × (result ≡ length (take result out.new)) }
 {
-    sized(line);
-    let mut kept = kept;
-    let mut end: usize = 0;
-    let mut i: usize = 0;
-    // Each time round: the table and the line begun are those after the first i bytes, and their answers end at `end`.
-    while i < block.len() {
-        let byte = block[i];
-        i += 1;
-        if byte == LINE_END {
-            let all = &line[..];
-            end = end_line(t, &all[..kept], out, end);
-            kept = 0;
+    let mut writer = Writer { bytes: out, at: 0 };
+    // Each time round: the table and the line begun are those after the bytes before this one, and their answers are put.
+    for byte in block {
+        if *byte == LINE_END {
+            writer.end_line(t, line.as_bytes());
+            line.clear();
         } else {
-            kept = keep_byte(line, kept, byte);
+            line.keep(*byte);
         }
     }
-    Fed { kept, end }
+    writer.at
 }
 
 // The end of input: a line begun is answered at the start of the output. The answer is the place after it.
-pub fn finish(t: &mut [u16; WORDS], line: &[u8; KEPT], kept: usize, out: &mut [u8]) -> usize
-    requires { (kept ≤ kept_most) × (18 ≤ length out.old) }
-    ensures place { result ≡ length (finish_output (state_of t.old line.now kept)) }
-    ensures text { out.new ≡ sets out.old 0 (finish_output (state_of t.old line.now kept)) }
+pub fn finish(t: &mut [u16; WORDS], line: &Line, out: &mut [u8]) -> usize
+    requires { 18 ≤ length out.old }
+    ensures place { result ≡ length (finish_output (state_of t.old line.now)) }
+    ensures text { out.new ≡ sets out.old 0 (finish_output (state_of t.old line.now)) }
     ensures room { (result ≤ length out.new) × (result ≡ length (take result out.new)) }
 {
-    if kept == 0 {
+    if line.is_empty() {
         return 0;
     }
-    let all = &line[..];
-    end_line(t, &all[..kept], out, 0)
+    let mut writer = Writer { bytes: out, at: 0 };
+    writer.end_line(t, line.as_bytes());
+    writer.at
 }

@@ -3,7 +3,13 @@
 --   Checked t        what it has tested before the search
 --   checked_ranged   so the search can be made
 --   checked_spans    and its answer is that of the test of soundness
---   unsound          a table that is not checked is not sound
+--   refused_first refused_unsound passed_sound   the refusal of a table that is not sound, of one that is not checked, and of one that is sound
+--   sound_found      whether a refusal was found is whether the table is sound
+use Rattle.std.specs.Prelude.{Result, Ok, Err, is_ok}
+use Rattle.table.specs.declared.Refusal.{Refusal}
+use Rattle.table.specs.Answer.{refused, first}
+use Rattle.table.specs.Calls.{table_tests}
+use Rattle.table.proofs.Calls.{number_not_zero}
 use mathlib.Core.Path.{◌≡◌, refl, sym, ◌∙◌, ap, ap₂, subst}
 use mathlib.Core.Bool.{Bool, true, false, ◌&&◌, not}
 use mathlib.Core.Logic.{◌⊎◌, inl, ⊎_elim}
@@ -543,6 +549,23 @@ pub checked_spans : (t : Table) → Checked t → (r : Bool) → Spans t r → r
 checked_spans t k r w =
     same_test r (sound t) (λ y. sound_test t (facts_sound (checked_facts k) r w y)) (λ y. sound_spans (test_sound t y) r w)
 
--- a table that is not checked is not sound
-pub unsound : (t : Table) → (Checked t → ⊥) → false ≡ sound t
-unsound t f = sym (refute (sound t) (λ h. f (facts_checked (sound_facts (test_sound t h)))))
+-- a table that is not sound is refused, and so is one that is not checked
+pub refused_first : (t : Table) → sound t ≡ false → ◌≡◌ {A = ℕ} 1 (first (table_tests t))
+unfolding first
+refused_first t h = rw h
+
+pub refused_unsound : (t : Table) → (Checked t → ⊥) → ◌≡◌ {A = ℕ} 1 (first (table_tests t))
+refused_unsound t f = refused_first t (refute (sound t) (λ h. f (facts_checked (sound_facts (test_sound t h)))))
+
+-- one that is sound is not
+pub passed_sound : (t : Table) → sound t ≡ true → ◌≡◌ {A = ℕ} 0 (first (table_tests t))
+unfolding first
+passed_sound t h = rw h
+
+-- whether a refusal was found is whether the table is sound
+pub sound_found : (t : Table) {A : Type 0} (r : Result A Refusal) → refused r ≡ first (table_tests t) → is_ok r ≡ sound t
+unfolding first
+sound_found t (Ok a) e =
+    ⊎_elim (λ (h : sound t ≡ true). sym h) (λ (h : sound t ≡ false). let q : ◌≡◌ {A = ℕ} 0 1 = rw h at e in absurd (omega arith)) (test (sound t))
+sound_found t (Err why) e =
+    ⊎_elim (λ (h : sound t ≡ true). absurd (number_not_zero why (rw h at e))) (λ (h : sound t ≡ false). sym h) (test (sound t))

@@ -1,18 +1,17 @@
--- Faults and totals: loops that count what does not pass, and sums. Assumes nothing.
+-- Faults and totals: counts of what does not pass, and sums. Assumes nothing.
 --   no_faults one_fault       no fault exactly where all pass, and one where one must not
---   faults_none faults_pass faults_fail   a loop that counts what does not pass: at the start, each time round
 --   total_landing   every link lands in one counter: the totals of landings and of links are the same
 use mathlib.Core.Path.{◌≡◌, refl, sym, ◌∙◌, ap}
 use mathlib.Core.Bool.{Bool, true, false, not}
 use mathlib.Core.Logic.{⊎_elim}
-use Prim.Native.Nat.{ℕ, ◌+◌, ◌≤◌, ◌<◌}
+use Prim.Native.Nat.{ℕ, ◌+◌, ◌<◌}
 use native.Mathlib.Omega.{arith}
 use lib.Dec.{eqb}
 use borrow.Author.Tests.{eqb-true, eq-eqb, ne_eqb}
 use Rattle.finite.specs.Below.{one, all, count, total}
 use Rattle.finite.proofs.Bools.{refute, same_test}
-use Rattle.finite.proofs.Below.{eq_or_ne, count_le, count_change, count_none}
-use Rattle.finite.proofs.Loops.{count_zero, count_hit, count_miss, none_fail}
+use Rattle.finite.proofs.Below.{eq_or_ne, count_change}
+use Rattle.finite.proofs.Loops.{none_fail}
 use Rattle.finite.proofs.Totals.{total_none, total_one, total_count}
 use Rattle.withdraw.specs.Search.{lands}
 use Rattle.withdraw.proofs.Slots.{lands_target, lands_intro}
@@ -22,14 +21,6 @@ use Rattle.soundness.specs.Tests.{faults}
 pub no_faults : (n : ℕ) (p : ℕ → Bool) (x : ℕ) → x ≡ faults n p → eqb x 0 ≡ all n p
 unfolding faults
 no_faults n p x e = rw e (none_fail n p)
-
-pub faults_zero : (n : ℕ) (p : ℕ → Bool) → ((k : ℕ) → k < n → p k ≡ true) → faults n p ≡ 0
-unfolding faults
-faults_zero n p h = count_none n _ (λ k l. ap not (h k l))
-
-pub faults_none : (p : ℕ → Bool) → faults 0 p ≡ 0
-unfolding faults
-faults_none p = count_zero _
 
 -- one fault that must be: all others pass
 pub one_fault : (n : ℕ) (p q : ℕ → Bool) (k : ℕ) → k < n → p k ≡ false → q k ≡ true → ((i : ℕ) → (i ≡ k → ⊥) → p i ≡ q i) →
@@ -44,20 +35,6 @@ one_fault n p q k l f y same x e =
     (λ t. let z = eqb-true x 1 t in eq-eqb (faults n q) 0 (omega arith))
     (λ t. let z = eqb-true (faults n q) 0 t in eq-eqb x 1 (omega arith))
     ∙ no_faults n q (faults n q) refl
-
--- no more faults than numbers
-pub faults_le : (n : ℕ) (p : ℕ → Bool) → faults n p ≤ n
-unfolding faults
-faults_le n p = count_le n _
-
--- one number more: it passes and 0 is added, or it does not and 1 is
-pub faults_pass : (i : ℕ) (p : ℕ → Bool) (n x : ℕ) → n ≡ faults i p → p i ≡ true → x ≡ 0 → n + x ≡ faults (i + 1) p
-unfolding faults
-faults_pass i p n x e t z = let h = count_miss i (λ k. not (p k)) (ap not t) in omega arith
-
-pub faults_fail : (i : ℕ) (p : ℕ → Bool) (n x : ℕ) → n ≡ faults i p → p i ≡ false → x ≡ 1 → n + x ≡ faults (i + 1) p
-unfolding faults
-faults_fail i p n x e f o = let h = count_hit i (λ k. not (p k)) (ap not f) in omega arith
 
 -- one link: it lands in the counter of its slot, or in none
 total_lands : (n : ℕ) (h : ℕ → ℕ) (p : ℕ) → h p < n → total n (λ q. one (lands h p q)) ≡ one (not (eqb (h p) 0))

@@ -2,34 +2,22 @@
 
 #![tactic(auto)]
 
-ghost use Rattle.std.specs.Prelude.{◌≡◌, false, true, not, ◌&&◌, ◌*◌, ◌-◌, ◌≤◌, get_or, set, eqb};
-ghost use Rattle.finite.specs.Below.{one, total, tabulate};
+ghost use Rattle.std.specs.Prelude.{◌≡◌, false, true, IfOk, ◌&&◌, ◌*◌, ◌-◌, ◌≤◌, get_or, set, eqb};
+ghost use Rattle.finite.specs.Below.{total, tabulate};
 ghost use Rattle.table.specs.Table.{places, exit_places, counters, cabin_count};
 ghost use Rattle.table.specs.Cabins.{charge};
 ghost use Rattle.table.specs.Sound.{capacity_fits, content_fits, sound};
-ghost use Rattle.table.specs.Answer.{first};
+ghost use Rattle.table.specs.Answer.{refused, first};
 ghost use Rattle.table.specs.Calls.{table_tests};
 ghost use Rattle.words.specs.Words.{table_of};
 ghost use Rattle.soundness.specs.Tests.{numbers_fit, alarm_fits, fields_fit, link_fits, counts_fit, fields_at, exit_fits, counters_fit, free_above, arrays_fit, empty_at, faults, cabin_steps, quotas_hold};
 
-use words::{CABINS, WORDS};
+use std::array;
+use table::Refusal;
+use words::{CABINS, COUNTS, LINKS, PLACES, WORDS, passing};
 
-// What one pass over the steps finds: how many do not fit as every step but 0 must, and of each cabin how many are in use, step 0 among those of
-// cabin 0.
-#[derive(Drop)]
-struct Pass {
-    faults: u16,
-    cabins: [u16; CABINS],
-}
-
-// What the soundness test finds: whether the table is sound and, where it is, what each cabin is charged.
-#[derive(Drop)]
-pub struct Checked {
-    pub sound: bool,
-    pub charges: [u16; CABINS],
-}
-
-// The contents that each kind may hold: 1 contact, 2 spoken message, 3 wait; no other kind can be added.
+// The contents that each kind may hold: 1 contact, 2 spoken message, 3 wait; no other kind can be added. Kinds stay numbers: document 01 names this
+// form, one match over kind numbers with an arm for all others.
 pub fn content_fits(kind: u16, content: u16) -> bool
     ensures { result ≡ content_fits kind content }
 {
@@ -52,64 +40,44 @@ fn fields_fit(used: u16, kind: u16, content: u16, own: u16, cabin: u16) -> bool
     }
 }
 
-// 1 for a step that does not fit, else 0.
-fn step_fault(used: u16, kind: u16, content: u16, own: u16, cabin: u16) -> u16
-    ensures { result ≡ one (not (fields_fit used kind content own cabin)) }
+// The steps that do not fit as every step but 0 must.
+fn step_faults(t: &[u16; WORDS]) -> u16
+    ensures { result ≡ faults places (fields_at (table_of t.now)) }
 {
-    if fields_fit(used, kind, content, own, cabin) {
-        0
-    } else {
-        1
-    }
+    passing(0, PLACES, |i| {
+        !fields_fit(
+            words::used_at(t, i),
+            words::kind_at(t, i),
+            words::content_at(t, i),
+            words::own_at(t, i),
+            words::cabin_at(t, i),
+        )
+    })
 }
 
-// 1 for a step in use of cabin c, else 0.
-fn step_of_cabin(used: u16, cabin: u16, c: u16) -> u16
-    ensures { result ≡ one (eqb used 1 && eqb cabin c) }
+// A step in use of cabin c.
+fn in_cabin(used: u16, cabin: u16, c: u16) -> bool
+    ensures { result ≡ (eqb used 1 && eqb cabin c) }
 {
-    if used != 1 {
-        return 0;
-    }
-    if cabin == c { 1 } else { 0 }
+    used == 1 && cabin == c
 }
 
-// One pass over the steps: their faults, and the steps of each cabin.
-fn step_pass(t: &[u16; WORDS]) -> Pass
-    ensures faults { result.faults ≡ faults places (fields_at (table_of t.now)) }
-    ensures cabins { result.cabins ≡ tabulate cabin_count (cabin_steps (table_of t.now)) }
+// The steps in use of cabin c, step 0 among those of cabin 0.
+fn steps_of(t: &[u16; WORDS], c: u16) -> u16
+    ensures { result ≡ cabin_steps (table_of t.now) c }
 {
-    let mut n = 0u16;
-    let mut c0 = 0u16;
-    let mut c1 = 0u16;
-    let mut c2 = 0u16;
-    let mut c3 = 0u16;
-    let mut c4 = 0u16;
-    let mut c5 = 0u16;
-    let mut c6 = 0u16;
-    let mut c7 = 0u16;
-    let mut i = 0usize;
-    // Of the steps below i, n do not fit, and c0 to c7 are in use of cabins 0 to 7.
-    while i < words::PLACES {
-        let used = words::used_at(t, i);
-        let kind = words::kind_at(t, i);
-        let content = words::content_at(t, i);
-        let own = words::own_at(t, i);
-        let cabin = words::cabin_at(t, i);
-        n += step_fault(used, kind, content, own, cabin);
-        c0 += step_of_cabin(used, cabin, 0);
-        c1 += step_of_cabin(used, cabin, 1);
-        c2 += step_of_cabin(used, cabin, 2);
-        c3 += step_of_cabin(used, cabin, 3);
-        c4 += step_of_cabin(used, cabin, 4);
-        c5 += step_of_cabin(used, cabin, 5);
-        c6 += step_of_cabin(used, cabin, 6);
-        c7 += step_of_cabin(used, cabin, 7);
-        i += 1;
-    }
-    Pass {
-        faults: n,
-        cabins: [c0, c1, c2, c3, c4, c5, c6, c7],
-    }
+    passing(
+        0,
+        PLACES,
+        |i| in_cabin(words::used_at(t, i), words::cabin_at(t, i), c),
+    )
+}
+
+// The steps in use of each cabin.
+fn cabin_steps(t: &[u16; WORDS]) -> [u16; CABINS]
+    ensures { result ≡ tabulate cabin_count (cabin_steps (table_of t.now)) }
+{
+    array::from_fn(|c| steps_of(t, c as u16))
 }
 
 // An exit alone: empty with bit 0, or a target that is a place, and a bit.
@@ -127,18 +95,11 @@ fn link_fits(target: u16, bit: u16) -> bool
 fn link_faults(t: &[u16; WORDS]) -> u16
     ensures { result ≡ faults (exit_places places) (exit_fits (table_of t.now)) }
 {
-    let mut n = 0u16;
-    let mut p = 0usize;
-    // n exits below place p do not fit.
-    while p < words::LINKS {
-        n += if link_fits(words::target_in(t, p), words::bit_in(t, p)) {
-            0
-        } else {
-            1
-        };
-        p += 1;
-    }
-    n
+    passing(
+        0,
+        LINKS,
+        |p| !link_fits(words::target_in(t, p), words::bit_in(t, p)),
+    )
 }
 
 // Both counters of a step that is not in use are zero.
@@ -152,22 +113,13 @@ fn counts_fit(used: u16, a: u16, b: u16) -> bool
 fn count_faults(t: &[u16; WORDS]) -> u16
     ensures { result ≡ faults places (counters_fit (table_of t.now)) }
 {
-    let mut n = 0u16;
-    let mut i = 0usize;
-    // n steps below i have counters that do not fit.
-    while i < words::PLACES {
-        n += if counts_fit(
+    passing(0, PLACES, |i| {
+        !counts_fit(
             words::used_at(t, i),
             words::counter_at(t, i, 0),
             words::counter_at(t, i, 1),
-        ) {
-            0
-        } else {
-            1
-        };
-        i += 1;
-    }
-    n
+        )
+    })
 }
 
 // The steps from the capacity on that are in use.
@@ -175,28 +127,14 @@ fn used_above(t: &[u16; WORDS], capacity: usize) -> u16
     requires { capacity ≤ places }
     ensures { result ≡ faults places (free_above (table_of t.now) capacity) }
 {
-    let mut n = 0u16;
-    let mut i = capacity;
-    // n steps from the capacity on, below i, are in use.
-    while i < words::PLACES {
-        n += if words::used_at(t, i) == 0 { 0 } else { 1 };
-        i += 1;
-    }
-    n
+    passing(capacity, PLACES, |i| words::used_at(t, i) != 0)
 }
 
 // The exits that hold a link.
 fn filled(t: &[u16; WORDS]) -> u16
     ensures { result ≡ faults (exit_places places) (empty_at (table_of t.now)) }
 {
-    let mut n = 0u16;
-    let mut p = 0usize;
-    // n exits below place p hold a link.
-    while p < words::LINKS {
-        n += if words::target_in(t, p) == 0 { 0 } else { 1 };
-        p += 1;
-    }
-    n
+    passing(0, LINKS, |p| words::target_in(t, p) != 0)
 }
 
 // The sum of the counters.
@@ -204,11 +142,9 @@ fn counted(t: &[u16; WORDS]) -> u32
     ensures { result ≡ total (places * counters) (λ q. get_or (table_of t.now).counts q 0) }
 {
     let mut n = 0u32;
-    let mut q = 0usize;
     // n is the sum of the counters below place q.
-    while q < words::COUNTS {
-        n += words::count_in(t, q) as u32;
-        q += 1;
+    for q in 0..COUNTS {
+        n += u32::from(words::count_in(t, q));
     }
     n
 }
@@ -234,13 +170,13 @@ fn alarm_fits(used: u16, kind: u16, content: u16, own: u16, count: u16, cabin: u
     used == 1 && kind == 0 && content == 0 && own < 2 && count == 0 && cabin == 0
 }
 
-// All steps, exits and counters fit, each alone, where a pass has found so many faults of steps. Step 0 has been looked at: it is the alarm, so it is the
-// one step that must not fit as the others, of which none is of kind 0.
-fn arrays_fit(t: &[u16; WORDS], found: u16) -> bool
-    requires { ((table_of t.now).capacity ≤ places) × (fields_at (table_of t.now) 0 ≡ false) × (found ≡ faults places (fields_at (table_of t.now))) }
+// All steps, exits and counters fit, each alone. Step 0 has been looked at: it is the alarm, so it is the one step that must not fit as the others, of
+// which none is of kind 0.
+fn arrays_fit(t: &[u16; WORDS]) -> bool
+    requires { ((table_of t.now).capacity ≤ places) × (fields_at (table_of t.now) 0 ≡ false) }
     ensures { result ≡ arrays_fit (table_of t.now) }
 {
-    if found != 1 {
+    if step_faults(t) != 1 {
         return false;
     }
     if link_faults(t) != 0 {
@@ -249,7 +185,7 @@ fn arrays_fit(t: &[u16; WORDS], found: u16) -> bool
     if count_faults(t) != 0 {
         return false;
     }
-    used_above(t, words::wide(words::capacity(t))) == 0
+    used_above(t, usize::from(words::capacity(t))) == 0
 }
 
 // What each cabin is charged: its steps, without step 0, which is no cabin's.
@@ -272,24 +208,13 @@ fn quotas_hold(t: &[u16; WORDS], charges: &[u16; CABINS]) -> bool
     cabins::quotas_fit(capacity, &quotas) && cabins::shares_fit(capacity, &quotas, charges)
 }
 
-// Nothing was found: the table is not sound.
-fn unsound() -> Checked
-    ensures { result.sound ≡ false }
+// What the cabins of a table are charged, where it is sound, whatever stands in its words; it is refused where it is not.
+pub fn charges(t: &[u16; WORDS]) -> Result<[u16; CABINS], Refusal>
+    ensures sound { refused result ≡ first (table_tests (table_of t.now)) }
+    ensures charges { IfOk result (λ charges. charges ≡ tabulate cabin_count (charge (table_of t.now))) }
 {
-    Checked {
-        sound: false,
-        charges: [0u16; CABINS],
-    }
-}
-
-// Whether a table is sound, whatever stands in its words, and what its cabins are charged.
-pub fn check(t: &[u16; WORDS]) -> Checked
-    ensures sound { result.sound ≡ sound (table_of t.now) }
-    ensures charges { result.sound ≡ true → result.charges ≡ tabulate cabin_count (charge (table_of t.now)) }
-{
-    words::sized(t);
     if !numbers_fit(words::capacity(t), words::last(t)) {
-        return unsound();
+        return Err(Refusal::NotSound);
     }
     if !alarm_fits(
         words::used_at(t, 0),
@@ -299,37 +224,35 @@ pub fn check(t: &[u16; WORDS]) -> Checked
         words::count_in(t, 0),
         words::cabin_at(t, 0),
     ) {
-        return unsound();
+        return Err(Refusal::NotSound);
     }
-    let pass = step_pass(t);
-    if !arrays_fit(t, pass.faults) {
-        return unsound();
+    if !arrays_fit(t) {
+        return Err(Refusal::NotSound);
     }
-    if counted(t) != filled(t) as u32 {
-        return unsound();
+    if counted(t) != u32::from(filled(t)) {
+        return Err(Refusal::NotSound);
     }
-    let cabins = pass.cabins;
-    let charges = charges_of(cabins);
+    let charges = charges_of(cabin_steps(t));
     if !quotas_hold(t, &charges) {
-        return unsound();
+        return Err(Refusal::NotSound);
     }
-    Checked {
-        sound: withdraw::spans(t),
-        charges,
+    if !withdraw::spans(t) {
+        return Err(Refusal::NotSound);
     }
+    Ok(charges)
 }
 
 // Whether a table is sound.
 pub fn is_sound(t: &[u16; WORDS]) -> bool
     ensures { result ≡ sound (table_of t.now) }
 {
-    let found = check(t);
-    found.sound
+    charges(t).is_ok()
 }
 
-// The refusal of a table that is not sound, or 0.
-pub fn table_refusal(t: &[u16; WORDS]) -> u16
-    ensures { result ≡ first (table_tests (table_of t.now)) }
+// A table that is not sound is refused.
+pub fn check_table(t: &[u16; WORDS]) -> Result<(), Refusal>
+    ensures { refused result ≡ first (table_tests (table_of t.now)) }
 {
-    if is_sound(t) { 0 } else { words::NOT_SOUND }
+    charges(t)?;
+    Ok(())
 }

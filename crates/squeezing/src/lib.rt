@@ -3,17 +3,18 @@
 
 #![tactic(auto)]
 
-ghost use Rattle.std.specs.Prelude.{◌≡◌, ◌<◌, get_or};
+ghost use Rattle.std.specs.Prelude.{◌≡◌, get_or};
 ghost use Rattle.finite.specs.Below.{tabulate};
 ghost use Rattle.table.specs.Table.{places};
 ghost use Rattle.table.specs.Sound.{Sound};
 ghost use Rattle.table.specs.Calls.{fields_of};
+ghost use Rattle.table.specs.Answer.{refused, answer_of};
 ghost use Rattle.table.specs.Squeeze.{new_number, squeeze_refusal, squeeze_call};
 ghost use Rattle.words.specs.Words.{table_of, words_of, Becomes};
 ghost use Rattle.squeezing.specs.Moves.{followed, moved_step, squeezed_steps, Movable};
 
-use table::{Answer, Fields};
-use words::{PLACES, QUOTAS, WORDS, wide};
+use table::{Answer, Fields, Refusal};
+use words::{PLACES, QUOTAS, WORDS};
 
 // The new number of each step in use: how many of them stand before it.
 fn new_numbers(t: &[u16; WORDS]) -> [u16; PLACES]
@@ -21,24 +22,14 @@ fn new_numbers(t: &[u16; WORDS]) -> [u16; PLACES]
 {
     let mut numbers = [0u16; PLACES];
     let mut next: u16 = 0;
-    let mut i: usize = 0;
     // The places below i have their numbers, and `next` of the steps below i are in use.
-    while i < PLACES {
+    for i in 0..PLACES {
         numbers[i] = next;
         if words::in_use(t, i) {
             next += 1;
         }
-        i += 1;
     }
     numbers
-}
-
-// The new number of step j.
-fn number_at(numbers: &[u16; PLACES], j: u16) -> u16
-    requires { j < places }
-    ensures { result ≡ get_or numbers.now j 0 }
-{
-    numbers[wide(j)]
 }
 
 // The fields of step i with its targets under their new numbers. An empty exit stays empty: the new number of step 0 is 0.
@@ -46,25 +37,12 @@ fn moved_fields(t: &[u16; WORDS], i: usize, numbers: &[u16; PLACES]) -> Fields
     requires { Movable numbers.now (table_of t.now) i }
     ensures { result ≡ followed (λ j. get_or numbers.now j 0) (fields_of (table_of t.now) i) }
 {
-    let f = steps::fields_of(t, i);
-    let old = f.targets;
-    let targets = [
-        number_at(numbers, old[0]),
-        number_at(numbers, old[1]),
-        number_at(numbers, old[2]),
-        number_at(numbers, old[3]),
-    ];
-    let bits = f.bits;
-    let counts = f.counts;
-    Fields {
-        kind: f.kind,
-        content: f.content,
-        own: f.own,
-        targets,
-        bits,
-        counts,
-        cabin: f.cabin,
+    let mut moved = steps::fields_of(t, i);
+    // The targets before this one have their new numbers.
+    for target in &mut moved.targets {
+        *target = numbers[usize::from(*target)];
     }
+    moved
 }
 
 // Step i, in use, is moved to its new number with all its fields, and its old place is emptied.
@@ -72,7 +50,7 @@ fn move_step(t: &mut [u16; WORDS], i: usize, numbers: &[u16; PLACES])
     requires { Movable numbers.now (table_of t.old) i }
     ensures { Becomes t.old t.new (moved_step (λ j. get_or numbers.now j 0) i (table_of t.old)) }
 {
-    let k = wide(numbers[i]);
+    let k = usize::from(numbers[i]);
     let f = moved_fields(t, i, numbers);
     words::put_fields(t, i, 0, steps::no_fields());
     words::put_fields(t, k, 1, f);
@@ -83,55 +61,42 @@ fn move_steps(t: &mut [u16; WORDS])
     requires { Sound (table_of t.old) }
     ensures { Becomes t.old t.new (squeezed_steps (table_of t.old)) }
 {
-    words::sized(t);
     let numbers = new_numbers(t);
-    let n = wide(words::capacity(t));
-    let mut i: usize = 0;
     // The steps in use below i are moved, the places left behind them are empty, and those from i on are as they were.
-    while i < n {
+    for i in 0..usize::from(words::capacity(t)) {
         if words::in_use(t, i) {
             move_step(t, i, &numbers);
         }
-        i += 1;
     }
 }
 
-// The refusal of squeeze, in its order, or 0.
-fn squeeze_refusal(t: &[u16; WORDS], capacity: u16, quotas: &[u16; QUOTAS]) -> u16
-    ensures { result ≡ squeeze_refusal (table_of t.now) capacity quotas.now }
+// What squeeze asks, in its order.
+fn check_squeeze(t: &[u16; WORDS], capacity: u16, quotas: &[u16; QUOTAS]) -> Result<(), Refusal>
+    ensures { refused result ≡ squeeze_refusal (table_of t.now) capacity quotas.now }
 {
-    words::listed(quotas);
-    let found = soundness::check(t);
-    if !found.sound {
-        return words::NOT_SOUND;
-    }
+    let charges = soundness::charges(t)?;
     if !soundness::capacity_fits(capacity) {
-        return words::BAD_CAPACITY;
+        return Err(Refusal::BadCapacity);
     }
     if !cabins::quotas_fit(capacity, quotas) {
-        return words::BAD_CABINS;
+        return Err(Refusal::BadCabins);
     }
-    let charges = found.charges;
     if !cabins::shares_fit(capacity, quotas, &charges) {
-        return words::DOES_NOT_FIT;
+        return Err(Refusal::DoesNotFit);
     }
-    0
+    Ok(())
 }
 
 // Squeeze: the steps in use are renumbered from 0 upward in their old order, and the table gets the capacity and the quotas given. A refused one leaves
 // the table as it was.
 pub fn squeeze(t: &mut [u16; WORDS], capacity: u16, quotas: &[u16; QUOTAS]) -> Answer
-    ensures answer { result ≡ (squeeze_call (table_of t.old) capacity quotas.now).answer }
+    ensures answer { answer_of result ≡ (squeeze_call (table_of t.old) capacity quotas.now).answer }
     ensures table { t.new ≡ words_of (squeeze_call (table_of t.old) capacity quotas.now).table }
 {
-    words::sized(t);
-    let refusal = squeeze_refusal(t, capacity, quotas);
-    if refusal != 0 {
-        return Answer::Refused(refusal);
-    }
+    check_squeeze(t, capacity, quotas)?;
     let steps = steps::count_used(t);
     move_steps(t);
     words::put_numbers(t, capacity, steps - 1);
     words::put_quotas(t, quotas);
-    Answer::Given(0, 0)
+    Ok((0, 0))
 }

@@ -5,14 +5,14 @@
 
 ghost use Rattle.std.specs.Prelude.{◌≡◌, true, ◌≤◌, ◌<◌};
 ghost use Rattle.table.specs.Table.{places, exits, in_use, holds, steps_in_use};
+ghost use Rattle.table.specs.Answer.{refused};
 ghost use Rattle.table.specs.Calls.{fresh_table, refused_table, fields_of, no_fields};
 ghost use Rattle.words.specs.Words.{table_of, words_of};
 ghost use Rattle.steps.specs.Refusals.{exit_refusal, hold_refusal, fill_refusal};
 
-use table::Fields;
-use words::{
-    BAD_EXIT, COUNTERS, EXIT_EMPTY, EXIT_FILLED, EXITS, NOT_IN_USE, PLACES, QUOTAS, WORDS, wide,
-};
+use std::array;
+use table::{Fields, Refusal};
+use words::{COUNTERS, EXITS, PLACES, QUOTAS, WORDS};
 
 // A table of that capacity with step 0 alone in use, all bits 0, last number 0 and these quotas.
 pub fn fresh_table(t: &mut [u16; WORDS], capacity: u16, quotas: &[u16; QUOTAS])
@@ -35,25 +35,21 @@ pub fn refused_table(t: &mut [u16; WORDS])
 pub fn in_use(t: &[u16; WORDS], step: u16) -> bool
     ensures { result ≡ in_use (table_of t.now) step }
 {
-    words::sized(t);
-    let i = wide(step);
-    if PLACES <= i {
-        return false;
-    }
-    words::in_use(t, i)
+    let i = usize::from(step);
+    i < PLACES && words::in_use(t, i)
 }
 
-// The refusal of a step that is not in use, then of an exit above 3, or 0.
-fn exit_refusal(t: &[u16; WORDS], step: u16, exit: u16) -> u16
-    ensures { result ≡ exit_refusal (table_of t.now) step exit }
+// A step that is not in use is refused, then an exit above 3.
+fn check_exit(t: &[u16; WORDS], step: u16, exit: u16) -> Result<(), Refusal>
+    ensures { refused result ≡ exit_refusal (table_of t.now) step exit }
 {
     if !in_use(t, step) {
-        return NOT_IN_USE;
+        return Err(Refusal::NotInUse);
     }
-    if EXITS <= wide(exit) {
-        return BAD_EXIT;
+    if EXITS <= usize::from(exit) {
+        return Err(Refusal::BadExit);
     }
-    0
+    Ok(())
 }
 
 // Whether an exit of a step in use holds a link.
@@ -61,36 +57,29 @@ fn holds_link(t: &[u16; WORDS], step: u16, exit: u16) -> bool
     requires { (in_use (table_of t.now) step ≡ true) × (exit < exits) }
     ensures { result ≡ holds (table_of t.now) step exit }
 {
-    words::sized(t);
-    words::target_at(t, wide(step), wide(exit)) != 0
+    words::target_at(t, usize::from(step), usize::from(exit)) != 0
 }
 
-// The refusal of a step and its exit to be copied or cleared: the same, then of an empty exit, or 0.
-pub fn hold_refusal(t: &[u16; WORDS], step: u16, exit: u16) -> u16
-    ensures { result ≡ hold_refusal (table_of t.now) step exit }
+// A step and its exit to be copied or cleared: refused are the same, then an empty exit.
+pub fn check_hold(t: &[u16; WORDS], step: u16, exit: u16) -> Result<(), Refusal>
+    ensures { refused result ≡ hold_refusal (table_of t.now) step exit }
 {
-    let refusal = exit_refusal(t, step, exit);
-    if refusal != 0 {
-        return refusal;
-    }
+    check_exit(t, step, exit)?;
     if !holds_link(t, step, exit) {
-        return EXIT_EMPTY;
+        return Err(Refusal::ExitEmpty);
     }
-    0
+    Ok(())
 }
 
-// The refusal of a step and its exit to be filled: the same, then of an exit that holds a link, or 0.
-pub fn fill_refusal(t: &[u16; WORDS], step: u16, exit: u16) -> u16
-    ensures { result ≡ fill_refusal (table_of t.now) step exit }
+// A step and its exit to be filled: refused are the same, then an exit that holds a link.
+pub fn check_fill(t: &[u16; WORDS], step: u16, exit: u16) -> Result<(), Refusal>
+    ensures { refused result ≡ fill_refusal (table_of t.now) step exit }
 {
-    let refusal = exit_refusal(t, step, exit);
-    if refusal != 0 {
-        return refusal;
-    }
+    check_exit(t, step, exit)?;
     if holds_link(t, step, exit) {
-        return EXIT_FILLED;
+        return Err(Refusal::ExitFilled);
     }
-    0
+    Ok(())
 }
 
 // All fields of step i.
@@ -98,31 +87,14 @@ pub fn fields_of(t: &[u16; WORDS], i: usize) -> Fields
     requires { i < places }
     ensures { result ≡ fields_of (table_of t.now) i }
 {
-    let kind = words::kind_at(t, i);
-    let content = words::content_at(t, i);
-    let own = words::own_at(t, i);
-    let targets = [
-        words::target_at(t, i, 0),
-        words::target_at(t, i, 1),
-        words::target_at(t, i, 2),
-        words::target_at(t, i, 3),
-    ];
-    let bits = [
-        words::bit_at(t, i, 0),
-        words::bit_at(t, i, 1),
-        words::bit_at(t, i, 2),
-        words::bit_at(t, i, 3),
-    ];
-    let counts = [words::counter_at(t, i, 0), words::counter_at(t, i, 1)];
-    let cabin = words::cabin_at(t, i);
     Fields {
-        kind,
-        content,
-        own,
-        targets,
-        bits,
-        counts,
-        cabin,
+        kind: words::kind_at(t, i),
+        content: words::content_at(t, i),
+        own: words::own_at(t, i),
+        targets: array::from_fn(|e| words::target_at(t, i, e)),
+        bits: array::from_fn(|e| words::bit_at(t, i, e)),
+        counts: array::from_fn(|b| words::counter_at(t, i, b)),
+        cabin: words::cabin_at(t, i),
     }
 }
 
@@ -146,15 +118,5 @@ pub fn count_used(t: &[u16; WORDS]) -> u16
     requires { (table_of t.now).capacity ≤ places }
     ensures { result ≡ steps_in_use (table_of t.now) }
 {
-    let n = wide(words::capacity(t));
-    let mut i: usize = 0;
-    let mut found: u16 = 0;
-    // found is the number in use of the steps below i.
-    while i < n {
-        if words::in_use(t, i) {
-            found += 1;
-        }
-        i += 1;
-    }
-    found
+    words::passing(0, usize::from(words::capacity(t)), |i| words::in_use(t, i))
 }

@@ -1,6 +1,9 @@
 -- Each call on a sound table, for any arguments: it is refused as its plan says, and where it is accepted the table handed back is sound and
 -- its plan is the plan's call. Assumes nothing.
 --   Passed xs       no condition of the order xs holds; first_passed, where its refusal is 0
+--   number_not_zero no refusal has the number 0
+--   passed_on       what a `?` passes on
+--   none_found one_found   whether a refusal was found
 --   first_append    two orders, one after the other
 --   table_fits exit_fits_lem hold_fits fill_fits   what the conditions that calls share say where none holds, and that the rest of the order is passed
 --   add_refusal_lem link_refusal_lem clear_refusal_lem read_refusal_lem trial_refusal_lem   the table's refusal is the plan's
@@ -18,15 +21,17 @@ use native.Mathlib.Omega.{arith}
 use lib.ListN.{length, set, drop, replicate}
 use lib.Dec.{eqb}
 use borrow.Author.Tests.{eqb-false, eq-eqb, ne_eqb, leb-false, lt-leb}
-use Rattle.finite.proofs.Bools.{and_left, and_right, refute, test, not_true_false, not_false_true}
+use Rattle.finite.proofs.Bools.{and_left, and_right, clash, refute, test, not_true_false, not_false_true}
 use Rattle.finite.proofs.Below.{eq_or_ne, find_ext}
-use Rattle.table.specs.declared.Answer.{Answer}
-use Rattle.table.specs.declared.Answer.TheVariants.{Given, Refused}
-use Rattle.table.specs.declared.Tried.TheVariants.{Refused as TrialRefused}
+use Rattle.std.specs.Prelude.{Result, Ok, Err, is_err, IsErrAnd}
+use Rattle.std.proofs.lemmas.Result.{err_from_is_err_and}
+use Rattle.table.specs.declared.Refusal.{Refusal}
+use Rattle.table.specs.declared.Refusal.TheVariants.{NotSound, BadCapacity, NotInUse, BadExit, ExitFilled, ExitEmpty, BadKind, Full, NotKeyLine, BadResult, TooShort, NotAccepted, DoesNotFit, CabinAtLimit, StepsReserved, BadCabins, NeedsEdition2, SlipNotAccepted, NoSuchCabin, NobodyWaits}
+use Rattle.table.specs.Said.{Answer, Refused, Given, TrialRefused}
 use Rattle.table.specs.Table.{Table, exits, exits_of, cabin_count, in_use, target_of, holds, steps_in_use}
 use Rattle.table.specs.Cabins.{at_limit, none_to_spare, charge, free_steps}
 use Rattle.table.specs.Sound.{Sound, sound, content_fits}
-use Rattle.table.specs.Answer.{Outcome, WriteOutcome, not_sound, not_in_use, too_short, first, refusal_of, second_of, unless, listing}
+use Rattle.table.specs.Answer.{Outcome, WriteOutcome, not_sound, not_in_use, too_short, number, refused, first, refusal_of, second_of, unless, listing}
 use Rattle.table.specs.Calls.{table_tests, exit_tests, fill_tests, hold_tests, HoldFits, number_given, add_conditions, add_refusal, with_step, add_table, link_conditions, link_refusal, weak_bit, link_table, no_fields, read_conditions, read_refusal, read_call}
 use Rattle.table.specs.Trial.{try_from, trial_refusal, trial_call}
 use Rattle.table.specs.Clear.{emptied, stops, repair_of, repaired, clear_conditions, cleared, clear_refusal, clear_call}
@@ -51,6 +56,42 @@ first_same (next {c} {c'} {n} {xs} {ys} q f) = go c c' q (λ z. first_same (f z)
     go : (c c' : Bool) → c ≡ c' → (c ≡ false → first xs ≡ first ys) → cond c n (first xs) ≡ cond c' n (first ys)
     go true c' q g = rw (sym q)
     go false c' q g = rw (sym q) (g refl)
+
+-- no refusal has the number 0
+pub number_not_zero : (why : Refusal) → number why ≡ 0 → ⊥
+number_not_zero NotSound z = omega arith
+number_not_zero BadCapacity z = omega arith
+number_not_zero NotInUse z = omega arith
+number_not_zero BadExit z = omega arith
+number_not_zero ExitFilled z = omega arith
+number_not_zero ExitEmpty z = omega arith
+number_not_zero BadKind z = omega arith
+number_not_zero Full z = omega arith
+number_not_zero NotKeyLine z = omega arith
+number_not_zero BadResult z = omega arith
+number_not_zero TooShort z = omega arith
+number_not_zero NotAccepted z = omega arith
+number_not_zero DoesNotFit z = omega arith
+number_not_zero CabinAtLimit z = omega arith
+number_not_zero StepsReserved z = omega arith
+number_not_zero BadCabins z = omega arith
+number_not_zero NeedsEdition2 z = omega arith
+number_not_zero SlipNotAccepted z = omega arith
+number_not_zero NoSuchCabin z = omega arith
+number_not_zero NobodyWaits z = omega arith
+
+-- a refusal that a `?` passes on is the one that was found
+pub passed_on : {A : Type 0} (r : Result A Refusal) (why : Refusal) {n : ℕ} → IsErrAnd r (λ y. y ≡ why) → number why ≡ n → refused r ≡ n
+passed_on r why h e = let p = err_from_is_err_and r h in rw (p.1, p.2) e
+
+-- whether a refusal was found
+pub none_found : {A : Type 0} (r : Result A Refusal) → is_err r ≡ false → refused r ≡ 0
+none_found (Ok a) h = refl
+none_found (Err why) h = clash refl h
+
+pub one_found : {A : Type 0} (r : Result A Refusal) → is_err r ≡ true → refused r ≡ 0 → ⊥
+one_found (Ok a) h z = clash h refl
+one_found (Err why) h z = number_not_zero why z
 
 -- no number of an order is 0
 unfoldable pub nonzero : List (Bool × ℕ) → Bool

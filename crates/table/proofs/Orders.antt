@@ -12,7 +12,7 @@ use native.Mathlib.Omega.{arith}
 use Rattle.finite.proofs.Bools.{clash, refute, test, same_test}
 use Rattle.finite.proofs.Below.{le_or_lt, eq_or_ne}
 use Rattle.finite.proofs.Reach.{chain_keeps, reach_sound}
-use Rattle.table.specs.declared.Answer.TheVariants.{Refused}
+use Rattle.table.specs.Said.{Refused}
 use Rattle.table.specs.Table.{Table, exits, exits_of, in_use, kind_of, content_of, cabin_of, target_of, holds, linked, steps_in_use, with_links}
 use Rattle.table.specs.Sound.{Sound, sound}
 use Rattle.table.specs.Answer.{Outcome, refusal_of, second_of}

@@ -19,7 +19,7 @@ use Rattle.finite.specs.Reach.{marked, reaches}
 use Rattle.finite.proofs.Bools.{and_left, and_right, and_intro, same_test, refute, clash, test, not_true_false}
 use Rattle.finite.proofs.Below.{eq_or_ne, any_ext, count_ext, count_le, count_pos, count_split}
 use Rattle.finite.proofs.Those.{length_those, those_none}
-use Rattle.table.specs.declared.Answer.TheVariants.{Refused}
+use Rattle.table.specs.Said.{Refused}
 use Rattle.table.specs.Table.{Table, exits_of, in_use, target_of, holds, leads, linked, strongly_linked, steps_in_use, with_links}
 use Rattle.table.specs.Sound.{Sound}
 use Rattle.table.specs.Answer.{Outcome, too_short, steps_room, refusal_of, second_of}

@@ -15,8 +15,7 @@ use lib.Seq.{length-take-le, drop-cons, set_at, append_snoc, take-suc-set, drop-
 use borrow.Author.Tests.{eqb-false}
 use Rattle.finite.proofs.Bools.{test}
 use Rattle.finite.proofs.Below.{eq_or_ne}
-use Rattle.table.specs.declared.Tried.{Tried}
-use Rattle.table.specs.declared.Tried.TheVariants.{Refused, Ended}
+use Rattle.table.specs.Said.{Tried, TrialRefused, Ended}
 use Rattle.table.specs.Table.{Table, exits, exits_of, in_use, kind_of, target_of, holds}
 use Rattle.table.specs.Sound.{Sound}
 use Rattle.table.specs.Answer.{moves_of}
@@ -156,7 +155,7 @@ under_same o =
     }
   where
     tried_same : (x : Tried) → tried_under (λ i. i) x ≡ x
-    tried_same (Refused n) = unfold tried_under in refl
+    tried_same (TrialRefused n) = unfold tried_under in refl
     tried_same (Ended e last moves) = unfold tried_under in refl
 
 -- the plan has all that a trial looks at

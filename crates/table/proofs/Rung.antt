@@ -23,7 +23,7 @@ use Rattle.finite.proofs.Reach.{within, chain_head, chain_first, reach_sound, re
 use Rattle.finite.proofs.Select.{lowest_most}
 use Rattle.table.specs.Table.{Table, places, exits, in_use, kind_of, target_of, holds, leads, linked}
 use Rattle.table.specs.Sound.{Sound, kind_fits}
-use Rattle.table.specs.declared.Answer.TheVariants.{Refused, Given}
+use Rattle.table.specs.Said.{Refused, Given}
 use Rattle.table.specs.Answer.{not_sound, first, refusal_of, moves_of, last_of, steps_room}
 use Rattle.table.specs.Trial.{TrialOutcome, answered, is_contact, exit_of, results_after, no_result, try_from, results_fit, trial_refusal, trial_call, step_after, used_up, spent_after, exit_after, TrialDemand}
 use Rattle.table.specs.Rung.{goes_by, goes_on, is_entered, rung_by, rung_conditions, rung_refusal, rung_call, Entering, FewestResults}

@@ -2,8 +2,7 @@
 use mathlib.Core.Path.{◌≡◌, sym, ap, ap₂}
 use Prim.Native.Nat.{◌-◌}
 use Rattle.table.specs.Table.{Table}
-use Rattle.table.specs.declared.Answer.{Answer}
-use Rattle.table.specs.declared.Answer.TheVariants.{Given}
+use Rattle.table.specs.Said.{Answer, Given}
 use Rattle.table.specs.Sound.{Sound}
 use Rattle.table.specs.Plan.{plan_of, plan_count}
 use Rattle.table.proofs.Links.{sound_wired}

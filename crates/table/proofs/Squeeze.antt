@@ -20,7 +20,7 @@ use Rattle.finite.proofs.Below.{eq_or_ne, length_tabulate, tabulate_ext}
 use Rattle.finite.proofs.Packed.{tabulate_next, tabulate_past, take_tabulate, map_tabulate, map_append}
 use Rattle.finite.specs.Below.{tabulate, tabulate_from}
 use Rattle.finite.specs.Reach.{Chain}
-use Rattle.table.specs.declared.Answer.TheVariants.{Given}
+use Rattle.table.specs.Said.{Given}
 use Rattle.table.specs.Table.{Table, places, exits_of, cabin_count, quota_numbers, in_use, kind_of, content_of, own_bit, cabin_of, target_of, link_bit, counter_of, holds, strongly_linked, links_to, steps_in_use, StrongChain}
 use Rattle.table.specs.Cabins.{quotas_fit, list_fits, charges_fit, charged, charge, free_steps}
 use Rattle.table.specs.Sound.{Blank, Sound, capacity_fits, content_fits, kind_fits, sound}

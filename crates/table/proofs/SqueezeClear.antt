@@ -12,7 +12,7 @@ use borrow.Author.Tests.{leb-false}
 use Rattle.finite.specs.Below.{count}
 use Rattle.finite.proofs.Bools.{and_left}
 use Rattle.finite.proofs.Below.{eq_or_ne}
-use Rattle.table.specs.declared.Answer.TheVariants.{Given, Refused}
+use Rattle.table.specs.Said.{Refused, Given}
 use Rattle.table.specs.Table.{Table, places, exits, exits_of, in_use, own_bit, target_of, link_bit, steps_in_use, with_links}
 use Rattle.table.specs.Sound.{Sound}
 use Rattle.table.specs.Calls.{HoldFits, relink}

@@ -1,4 +1,6 @@
 -- Refusals and answers by the paper's numbers (document 01, "Reasons for no"; document 02). Assumes nothing.
+--   number why      the number of a refusal that the code names
+--   refused r answer_of r tried_of r   what a function of the code gives back, as the documents say it: the refusal or 0; an answer; a trial's
 --   first tests     the number of the first condition that holds, in the order listed; 0 where none does
 --   FirstHeld cs n  the same said of the conditions, each by its place
 --   Outcome         the answer of a call, and the table handed back; WriteOutcome, the answer, and a lent buffer as it is left
@@ -7,14 +9,14 @@
 --   unless n t o    the outcome o where n is 0, else refusal n with the table t
 --   steps_room       the bytes that a lent buffer has to have where steps are listed in it
 --   listing n a numbers buffer   the answer a with the numbers listed in the buffer where n is 0, else refusal n with the buffer as it was
-use Rattle.std.specs.Prelude.{◌≡◌, Bool, true, false, cond, List, [], ◌∷◌, ◌++◌, ℕ, ◌<◌, length, get_or, drop, eqb}
+use Rattle.std.specs.Prelude.{◌≡◌, Bool, true, false, cond, List, [], ◌∷◌, ◌++◌, ℕ, ◌<◌, length, get_or, drop, eqb, Result, Ok, Err}
 use Rattle.table.specs.Table.{Table}
-use Rattle.table.specs.declared.Answer.{Answer}
-use Rattle.table.specs.declared.Answer.TheVariants.{Refused, Given}
+use Rattle.table.specs.Said.{Answer, Refused, Given, Tried, TrialRefused, Ended}
+use Rattle.table.specs.declared.End.{End}
 use Rattle.table.specs.declared.Ending.{Ending}
 use Rattle.table.specs.declared.Ending.TheVariants.{Open, Spent, Stopped}
-use Rattle.table.specs.declared.Tried.{Tried}
-use Rattle.table.specs.declared.Tried.TheVariants.{Refused as TrialRefused, Ended}
+use Rattle.table.specs.declared.Refusal.{Refusal}
+use Rattle.table.specs.declared.Refusal.TheVariants.{NotSound, BadCapacity, NotInUse, BadExit, ExitFilled, ExitEmpty, BadKind, Full, NotKeyLine, BadResult, TooShort, NotAccepted, DoesNotFit, CabinAtLimit, StepsReserved, BadCabins, NeedsEdition2, SlipNotAccepted, NoSuchCabin, NobodyWaits}
 
 -- the numbers of the table "Reasons for no"
 abbrev pub not_sound : ℕ
@@ -82,6 +84,43 @@ no_such_cabin = 20
 
 abbrev pub nobody_waits : ℕ
 nobody_waits = 21
+
+-- the number of a refusal that the code names
+abbrev pub number : Refusal → ℕ
+number NotSound = not_sound
+number BadCapacity = bad_capacity
+number NotInUse = not_in_use
+number BadExit = bad_exit
+number ExitFilled = exit_filled
+number ExitEmpty = exit_empty
+number BadKind = bad_kind
+number Full = full
+number NotKeyLine = not_key_line
+number BadResult = bad_result
+number TooShort = too_short
+number NotAccepted = not_accepted
+number DoesNotFit = does_not_fit
+number CabinAtLimit = cabin_at_limit
+number StepsReserved = steps_reserved
+number BadCabins = bad_cabins
+number NeedsEdition2 = needs_edition2
+number SlipNotAccepted = slip_not_accepted
+number NoSuchCabin = no_such_cabin
+number NobodyWaits = nobody_waits
+
+-- what a function of the code found: the number of the refusal, or 0
+abbrev pub refused : {A : Type 0} → Result A Refusal → ℕ
+refused (Ok a) = 0
+refused (Err why) = number why
+
+-- what it answers, as the documents say it
+abbrev pub answer_of : Result (ℕ × ℕ) Refusal → Answer
+answer_of (Ok told) = Given told.0 told.1
+answer_of (Err why) = Refused (number why)
+
+abbrev pub tried_of : Result End Refusal → Tried
+tried_of (Ok end) = Ended end.ending end.last end.moves
+tried_of (Err why) = TrialRefused (number why)
 
 unfoldable pub first : List (Bool × ℕ) → ℕ
 first [] = 0

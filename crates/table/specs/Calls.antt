@@ -9,17 +9,17 @@
 --   refused_table    what a refused fresh or load hands back
 --   relink t i e j b   exit e of step i gets a link to j with bit b, or is emptied where j is 0; the counters follow
 --   number_given     the number that add gives: the first free one of a circle; on a full table, where add is refused, it is not used
---   fresh_call add_call link_call read_call   the calls
+--   fresh_call add_call link_call read_call   the calls; reading_of, what the code's read gives back
 --   spoken_counts t  steps in use and free ones, as H*4A speaks them; counts_call, the call that answers them
-use Rattle.std.specs.Prelude.{◌≡◌, Bool, true, not, cond, List, [], ◌∷◌, ◌++◌, ℕ, ◌+◌, ◌*◌, ◌-◌, ◌<◌, get_or, set, replicate, eqb, leb, ltb}
+use Rattle.std.specs.Prelude.{◌≡◌, Bool, true, not, cond, List, [], ◌∷◌, ◌++◌, ℕ, ◌+◌, ◌*◌, ◌-◌, ◌<◌, get_or, set, replicate, eqb, leb, ltb, Result, Ok, Err}
 use Rattle.finite.specs.Below.{find, tabulate}
-use Rattle.table.specs.declared.Answer.TheVariants.{Given}
+use Rattle.table.specs.Said.{Given, Reading}
 use Rattle.table.specs.declared.Fields.{Fields}
-use Rattle.table.specs.declared.Reading.{Reading}
+use Rattle.table.specs.declared.Refusal.{Refusal}
 use Rattle.table.specs.Table.{Table, places, exits, exits_of, exit_places, counters, cabin_count, exit_place, counter_place, in_use, kind_of, content_of, own_bit, cabin_of, target_of, link_bit, counter_of, holds, steps_in_use, with_links, with_steps}
 use Rattle.table.specs.Cabins.{list_fits, sole_quotas, at_limit, none_to_spare, charge, free_steps}
 use Rattle.table.specs.Sound.{capacity_fits, content_fits, sound}
-use Rattle.table.specs.Answer.{Outcome, not_sound, bad_capacity, not_in_use, bad_exit, exit_filled, exit_empty, bad_kind, full, cabin_at_limit, steps_reserved, bad_cabins, first, unless}
+use Rattle.table.specs.Answer.{Outcome, not_sound, bad_capacity, not_in_use, bad_exit, exit_filled, exit_empty, bad_kind, full, cabin_at_limit, steps_reserved, bad_cabins, number, first, unless}
 
 -- what is asked of the table itself, before all else: that it is sound
 abbrev pub table_tests : Table → List (Bool × ℕ)
@@ -190,6 +190,11 @@ unfoldable pub read_call : Table → ℕ → Reading
 read_call t i =
     let n = read_refusal t i in
     record { refusal = n; fields = cond (eqb n 0) (fields_of t i) no_fields }
+
+-- what the code's read gives back, as the documents say it
+abbrev pub reading_of : Result Fields Refusal → Reading
+reading_of (Ok fields) = record { refusal = 0; fields = fields }
+reading_of (Err why) = record { refusal = number why; fields = no_fields }
 
 -- "in use and free for H*4" (document 01, "Keys")
 unfoldable pub spoken_counts : Table → Outcome

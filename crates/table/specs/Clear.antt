@@ -12,7 +12,7 @@
 use Rattle.std.specs.Prelude.{Bool, true, false, ◌&&◌, ◌||◌, not, cond, List, ◌++◌, ℕ, zero, suc, ◌-◌, set, ltb}
 use Rattle.finite.specs.Below.{any, count, lowest, rounds, tabulate}
 use Rattle.finite.specs.Reach.{marked, reach}
-use Rattle.table.specs.declared.Answer.TheVariants.{Given}
+use Rattle.table.specs.Said.{Given}
 use Rattle.table.specs.Table.{Table, exits_of, counter_place, in_use, own_bit, target_of, counter_of, strong, linked, strongly_linked, with_links, with_steps}
 use Rattle.table.specs.Answer.{Outcome, first, unless}
 use Rattle.table.specs.Calls.{table_tests, hold_tests, relink, weak_bit}

@@ -3,6 +3,7 @@
 pub mod Table
 pub mod Cabins
 pub mod Sound
+pub mod Said
 pub mod Answer
 pub mod Calls
 pub mod Clear

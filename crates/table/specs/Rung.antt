@@ -10,7 +10,7 @@
 use Rattle.std.specs.Prelude.{◌≡◌, Bool, ◌&&◌, ◌||◌, not, List, [], ◌∷◌, ◌++◌, map, ℕ, ◌≤◌, ◌<◌, length, get_or, take, drop, eqb, ltb}
 use Rattle.finite.specs.Below.{any, count, those}
 use Rattle.finite.specs.Reach.{marked, reach}
-use Rattle.table.specs.declared.Answer.TheVariants.{Given}
+use Rattle.table.specs.Said.{Given}
 use Rattle.table.specs.Table.{Table, exits, leads}
 use Rattle.table.specs.Answer.{WriteOutcome, too_short, first, first_of, moves_of, steps_room, listing}
 use Rattle.table.specs.Calls.{table_tests}

@@ -9,7 +9,7 @@
 --   ClearsAlike t o p   two clearings with one answer, that keep the same steps
 use Rattle.std.specs.Prelude.{◌≡◌, Bool, true, ◌&&◌, ◌||◌, not, cond, List, [], ◌∷◌, ◌++◌, ℕ, ◌*◌, ◌-◌, ◌/◌, ◌%◌, ◌<◌, eqb, ltb}
 use Rattle.finite.specs.Below.{count, lowest, tabulate}
-use Rattle.table.specs.declared.Answer.TheVariants.{Given}
+use Rattle.table.specs.Said.{Given}
 use Rattle.table.specs.Table.{Table, places, exits_of, exit_places, holder_at, exit_at, counters, in_use, kind_of, content_of, own_bit, cabin_of, target_of, link_bit, counter_of, steps_in_use}
 use Rattle.table.specs.Cabins.{list_fits}
 use Rattle.table.specs.Sound.{capacity_fits, sound}

@@ -14,8 +14,7 @@ use Rattle.std.specs.Prelude.{◌≡◌, Bool, true, false, ◌&&◌, not, cond,
 use Rattle.finite.specs.Below.{all, count}
 use Rattle.table.specs.declared.Ending.{Ending}
 use Rattle.table.specs.declared.Ending.TheVariants.{Open, Spent, Stopped}
-use Rattle.table.specs.declared.Tried.{Tried}
-use Rattle.table.specs.declared.Tried.TheVariants.{Refused, Ended}
+use Rattle.table.specs.Said.{Tried, TrialRefused, Ended}
 use Rattle.table.specs.Table.{Table, exits, kind_of, target_of, holds}
 use Rattle.table.specs.Answer.{bad_result, too_short, first, tried_refusal, ending_of, last_of, moves_of}
 use Rattle.table.specs.Calls.{table_tests}
@@ -80,7 +79,7 @@ trial_refusal t limit results trace = first (trial_conditions t limit results tr
 unfoldable pub trial_call : Table → ℕ → List ℕ → List ℕ → TrialOutcome
 trial_call t limit results trace =
     let n = trial_refusal t limit results trace in
-    cond (eqb n 0) (try_from t 0 0 limit trace results) (record { answer = Refused n; trace = trace })
+    cond (eqb n 0) (try_from t 0 0 limit trace results) (record { answer = TrialRefused n; trace = trace })
 
 -- What a trace says: the step after so many moves; the results used up on the way there, one at each contact; whether a contact with no result left
 -- stands there; the exit that is taken there
@@ -136,7 +135,7 @@ pub record LongerDemand (o p : TrialOutcome) : Type 0 where
 
 -- the last step, and each step entered, under another number
 unfoldable pub tried_under : (ℕ → ℕ) → Tried → Tried
-tried_under f (Refused n) = Refused n
+tried_under f (TrialRefused n) = TrialRefused n
 tried_under f (Ended e last moves) = Ended e (f last) moves
 
 unfoldable pub under_numbers : (ℕ → ℕ) → TrialOutcome → TrialOutcome

@@ -5,10 +5,8 @@
 --   trial_reply a   the refusal or 0, how the trial ended, the last step, the moves
 --   write_reply a   the refusal or 0, and the image's length
 use Rattle.std.specs.Prelude.{ℕ}
-use Rattle.table.specs.declared.Answer.{Answer}
-use Rattle.table.specs.declared.Reading.{Reading}
-use Rattle.table.specs.declared.Tried.{Tried}
-use Rattle.table.specs.Answer.{first, refusal_of, first_of, second_of, tried_refusal, ending_of, last_of, moves_of}
+use Rattle.table.specs.Said.{Answer, Reading, Tried}
+use Rattle.table.specs.Answer.{refusal_of, first_of, second_of, tried_refusal, ending_of, last_of, moves_of}
 use Rattle.telephone.specs.declared.Reply.{Reply}
 use Rattle.telephone.specs.declared.ReadReply.{ReadReply}
 use Rattle.telephone.specs.declared.TrialReply.{TrialReply}

@@ -7,8 +7,8 @@
 ghost use Rattle.std.specs.Prelude.{◌≡◌, cond, ◌≤◌};
 ghost use Rattle.table.specs.Cabins.{sole_quotas};
 ghost use Rattle.table.specs.Sound.{sound};
-ghost use Rattle.table.specs.Answer.{ending_number, moves_of};
-ghost use Rattle.table.specs.Calls.{fresh_call, add_call, link_call, read_call, counts_call};
+ghost use Rattle.table.specs.Answer.{answer_of, tried_of, moves_of};
+ghost use Rattle.table.specs.Calls.{fresh_call, add_call, link_call, read_call, reading_of, counts_call};
 ghost use Rattle.table.specs.Clear.{clear_call};
 ghost use Rattle.table.specs.Preview.{preview_call};
 ghost use Rattle.table.specs.Rung.{rung_call};
@@ -23,7 +23,7 @@ ghost use Rattle.line.specs.Line.{fresh, raise, withdraw, next, line_call, dispa
 ghost use Rattle.telephone.specs.Replies.{edition, reply_of, read_reply, trial_reply, write_reply};
 
 use dispatching::LINE_WORDS;
-use table::{Answer, Ending, Reading, Tried};
+use table::{Answer, End, Fields, Refusal};
 use words::{QUOTAS, WORDS};
 
 // The number of this edition of the interface. In edition 1 a table was passed and handed back by value, in edition 2 a trial had no limit, in edition
@@ -72,81 +72,84 @@ pub struct WriteReply {
 }
 
 // An answer, by number.
-fn reply_of(a: Answer) -> Reply
-    ensures { result ≡ reply_of a }
-{
-    match a {
-        Answer::Refused(refusal) => Reply {
-            refusal,
-            first: 0,
-            second: 0,
-        },
-        Answer::Given(first, second) => Reply {
-            refusal: 0,
-            first,
-            second,
-        },
-    }
-}
+impl From<Answer> for Reply {
+    ghost from_gives = { λ answer reply. reply ≡ reply_of (answer_of answer) };
 
-// The number of an ending.
-fn ending_number(e: Ending) -> u16
-    ensures { result ≡ ending_number e }
-{
-    match e {
-        Ending::Open => 0,
-        Ending::Spent => 1,
-        Ending::Stopped => 2,
+    fn from(answer: Answer) -> Reply {
+        match answer {
+            Ok((first, second)) => Reply {
+                refusal: 0,
+                first,
+                second,
+            },
+            Err(why) => Reply {
+                refusal: why.into(),
+                first: 0,
+                second: 0,
+            },
+        }
     }
 }
 
 // The answer of a trial, by number.
-fn trial_reply(a: Tried) -> TrialReply
-    ensures { result ≡ trial_reply a }
-{
-    match a {
-        Tried::Refused(refusal) => TrialReply {
+impl From<Result<End, Refusal>> for TrialReply {
+    ghost from_gives = { λ tried reply. reply ≡ trial_reply (tried_of tried) };
+
+    fn from(tried: Result<End, Refusal>) -> TrialReply {
+        match tried {
+            Ok(end) => TrialReply {
+                refusal: 0,
+                ending: end.ending.into(),
+                last: end.last,
+                moves: end.moves,
+            },
+            Err(why) => TrialReply {
+                refusal: why.into(),
+                ending: 0,
+                last: 0,
+                moves: 0,
+            },
+        }
+    }
+}
+
+// The answer of a call that writes an image, by number.
+impl From<Answer> for WriteReply {
+    ghost from_gives = { λ answer reply. reply ≡ write_reply (answer_of answer) };
+
+    fn from(answer: Answer) -> WriteReply {
+        match answer {
+            Ok((length, _)) => WriteReply { refusal: 0, length },
+            Err(why) => WriteReply {
+                refusal: why.into(),
+                length: 0,
+            },
+        }
+    }
+}
+
+// The answer of read with the fields beside the refusal, zero where it is refused.
+impl From<Result<Fields, Refusal>> for ReadReply {
+    ghost from_gives = { λ reading reply. reply ≡ read_reply (reading_of reading) };
+
+    fn from(reading: Result<Fields, Refusal>) -> ReadReply {
+        let (refusal, fields) = match reading {
+            Ok(fields) => (0, fields),
+            Err(why) => (why.into(), steps::no_fields()),
+        };
+        let targets = fields.targets;
+        let bits = fields.bits;
+        let counts = fields.counts;
+        ReadReply {
             refusal,
-            ending: 0,
-            last: 0,
-            moves: 0,
-        },
-        Tried::Ended(e, last, moves) => TrialReply {
-            refusal: 0,
-            ending: ending_number(e),
-            last,
-            moves,
-        },
-    }
-}
-
-// The answer of such a call, by number.
-fn write_reply(a: Answer) -> WriteReply
-    ensures { result ≡ write_reply a }
-{
-    match a {
-        Answer::Refused(refusal) => WriteReply { refusal, length: 0 },
-        Answer::Given(length, _) => WriteReply { refusal: 0, length },
-    }
-}
-
-// The answer of read with the fields beside the refusal.
-fn read_reply(r: Reading) -> ReadReply
-    ensures { result ≡ read_reply r }
-{
-    let fields = r.fields;
-    let targets = fields.targets;
-    let bits = fields.bits;
-    let counts = fields.counts;
-    ReadReply {
-        refusal: r.refusal,
-        kind: fields.kind,
-        content: fields.content,
-        own: fields.own,
-        targets,
-        bits,
-        counts,
-        cabin: fields.cabin,
+            kind: fields.kind,
+            content: fields.content,
+            own: fields.own,
+            targets,
+            bits,
+            counts,
+            cabin: fields.cabin,
+        }
     }
 }
 
@@ -177,7 +180,7 @@ pub fn plan_fresh(t: &mut [u16; WORDS], capacity: u16, quotas: &[u16; QUOTAS]) -
     ensures answer { result ≡ reply_of (fresh_call capacity quotas.now).answer }
     ensures table { t.new ≡ words_of (fresh_call capacity quotas.now).table }
 {
-    reply_of(edits::fresh(t, capacity, quotas))
+    edits::fresh(t, capacity, quotas).into()
 }
 
 // Add: a new step of a cabin in an exit of its holder. First is its number. Refusals: 1, 16, 3, 4, 5, 7, 8, 14, 15.
@@ -192,7 +195,7 @@ pub fn plan_add(
     ensures answer { result ≡ reply_of (add_call (table_of t.old) holder exit kind content cabin).answer }
     ensures table { t.new ≡ words_of (add_call (table_of t.old) holder exit kind content cabin).table }
 {
-    reply_of(edits::add(t, holder, exit, kind, content, cabin))
+    edits::add(t, holder, exit, kind, content, cabin).into()
 }
 
 // Link: the source's target is copied into an exit of the second step. Refusals: 1, source 3, 4, 6, second 3, 4, 5.
@@ -200,7 +203,7 @@ pub fn plan_link(t: &mut [u16; WORDS], source: u16, from: u16, second: u16, into
     ensures answer { result ≡ reply_of (link_call (table_of t.old) source from second into).answer }
     ensures table { t.new ≡ words_of (link_call (table_of t.old) source from second into).table }
 {
-    reply_of(edits::link(t, source, from, second, into))
+    edits::link(t, source, from, second, into).into()
 }
 
 // Clear: an exit is emptied. First is the steps made doubtful, second the steps freed. Refusals: 1, 3, 4, 6.
@@ -208,7 +211,7 @@ pub fn plan_clear(t: &mut [u16; WORDS], step: u16, exit: u16) -> Reply
     ensures answer { result ≡ reply_of (clear_call (table_of t.old) step exit).answer }
     ensures table { t.new ≡ words_of (clear_call (table_of t.old) step exit).table }
 {
-    reply_of(clearing::clear(t, step, exit))
+    clearing::clear(t, step, exit).into()
 }
 
 // Clear with slip: the same, and the slip of the clearing at the start of the buffer; no other byte is written. Refusals: 1, 3, 4, 6, 11.
@@ -217,7 +220,7 @@ pub fn plan_clear_with_slip(t: &mut [u16; WORDS], step: u16, exit: u16, buffer: 
     ensures table { t.new ≡ words_of (clear_slip_call (table_of t.old) step exit buffer.old).table }
     ensures written { buffer.new ≡ (clear_slip_call (table_of t.old) step exit buffer.old).buffer }
 {
-    reply_of(slips::clear_with_slip(t, step, exit, buffer))
+    slips::clear_with_slip(t, step, exit, buffer).into()
 }
 
 // Take back: a clearing is taken back by its slip. First is the steps that are back in use. Refusals: 1, 18.
@@ -225,7 +228,7 @@ pub fn plan_take_back(t: &mut [u16; WORDS], bytes: &[u8]) -> Reply
     ensures answer { result ≡ reply_of (take_back_call (table_of t.old) bytes.now).answer }
     ensures table { t.new ≡ words_of (take_back_call (table_of t.old) bytes.now).table }
 {
-    reply_of(slips::take_back(t, bytes))
+    slips::take_back(t, bytes).into()
 }
 
 // Preview a clearing: the numbers of the steps that it would free, a byte each. First is the steps that it would make doubtful, second those that it would
@@ -234,7 +237,7 @@ pub fn plan_preview_clear(t: &[u16; WORDS], step: u16, exit: u16, buffer: &mut [
     ensures answer { result ≡ reply_of (preview_call (table_of t.now) step exit buffer.old).answer }
     ensures written { buffer.new ≡ (preview_call (table_of t.now) step exit buffer.old).buffer }
 {
-    reply_of(clearing::preview_clear(t, step, exit, buffer))
+    clearing::preview_clear(t, step, exit, buffer).into()
 }
 
 // Who can be rung: the numbers of the steps that some trial enters, a byte each. First is how many there are, second how many of them are contacts. Refusals:
@@ -243,7 +246,7 @@ pub fn plan_rung(t: &[u16; WORDS], buffer: &mut [u8]) -> Reply
     ensures answer { result ≡ reply_of (rung_call (table_of t.now) buffer.old).answer }
     ensures written { buffer.new ≡ (rung_call (table_of t.now) buffer.old).buffer }
 {
-    reply_of(ringing::rung(t, buffer))
+    ringing::rung(t, buffer).into()
 }
 
 // Squeeze: the steps in use get the lowest numbers, in their old order, and the table the capacity and the quotas given. Refusals: 1, 2, 16, 13.
@@ -251,21 +254,21 @@ pub fn plan_squeeze(t: &mut [u16; WORDS], capacity: u16, quotas: &[u16; QUOTAS])
     ensures answer { result ≡ reply_of (squeeze_call (table_of t.old) capacity quotas.now).answer }
     ensures table { t.new ≡ words_of (squeeze_call (table_of t.old) capacity quotas.now).table }
 {
-    reply_of(squeezing::squeeze(t, capacity, quotas))
+    squeezing::squeeze(t, capacity, quotas).into()
 }
 
 // Counts: first is the steps in use, second the free ones. Refusal: 1.
 pub fn plan_counts(t: &[u16; WORDS]) -> Reply
     ensures { result ≡ reply_of (counts_call (table_of t.now)).answer }
 {
-    reply_of(edits::counts(t))
+    edits::counts(t).into()
 }
 
 // Read: all fields of a step. Refusals: 1, 3.
 pub fn plan_read(t: &[u16; WORDS], step: u16) -> ReadReply
     ensures { result ≡ read_reply (read_call (table_of t.now) step) }
 {
-    read_reply(edits::read(t, step))
+    edits::read(t, step).into()
 }
 
 // Trial: the plan is followed within a limit of moves, a contact by its line result and all else by the answered exit. The steps entered are written
@@ -276,14 +279,14 @@ pub fn plan_trial(t: &[u16; WORDS], limit: u16, results: &[u8], trace: &mut [u8]
     ensures moves { result.moves ≡ moves_of (trial_call (table_of t.now) limit results.now trace.old).answer }
     ensures most { result.moves ≤ limit }
 {
-    trial_reply(trials::trial(t, limit, results, trace))
+    trials::trial(t, limit, results, trace).into()
 }
 
 // Image length: the length of the image that write image would write, which is the room that it needs. Refusal: 1.
 pub fn plan_image_length(t: &[u16; WORDS]) -> WriteReply
     ensures { result ≡ write_reply (length_call (table_of t.now)) }
 {
-    write_reply(writing::image_length(t))
+    writing::image_length(t).into()
 }
 
 // Write image: the image, of edition 2, at the start of the buffer, and its length; no other byte is written. Refusals: 1, 11.
@@ -291,7 +294,7 @@ pub fn plan_write_image(t: &[u16; WORDS], buffer: &mut [u8]) -> WriteReply
     ensures answer { result ≡ write_reply (write_call (table_of t.now) buffer.old).answer }
     ensures written { buffer.new ≡ (write_call (table_of t.now) buffer.old).buffer }
 {
-    write_reply(writing::write_image(t, buffer))
+    writing::write_image(t, buffer).into()
 }
 
 // Load image: the table of an accepted image of edition 1 or 2. Refusal: 12, with a fresh table of capacity 1.
@@ -299,7 +302,7 @@ pub fn plan_load_image(t: &mut [u16; WORDS], bytes: &[u8]) -> Reply
     ensures answer { result ≡ reply_of (load_call bytes.now).answer }
     ensures table { t.new ≡ words_of (load_call bytes.now).table }
 {
-    reply_of(loading::load_image(t, bytes))
+    loading::load_image(t, bytes).into()
 }
 
 // Convert up: an image of edition 1 as one of edition 2 at the start of the buffer, and its length; no other byte is written. Refusals: 12, 11.
@@ -307,7 +310,7 @@ pub fn plan_convert_up(bytes: &[u8], buffer: &mut [u8]) -> WriteReply
     ensures answer { result ≡ write_reply (convert_call edition2 bytes.now buffer.old).answer }
     ensures written { buffer.new ≡ (convert_call edition2 bytes.now buffer.old).buffer }
 {
-    write_reply(converting::convert_up(bytes, buffer))
+    converting::convert_up(bytes, buffer).into()
 }
 
 // Convert down: an image of edition 2 as one of edition 1 at the start of the buffer, and its length; no other byte is written. Refusals: 12, 17, 11.
@@ -315,7 +318,7 @@ pub fn plan_convert_down(bytes: &[u8], buffer: &mut [u8]) -> WriteReply
     ensures answer { result ≡ write_reply (convert_call edition1 bytes.now buffer.old).answer }
     ensures written { buffer.new ≡ (convert_call edition1 bytes.now buffer.old).buffer }
 {
-    write_reply(converting::convert_down(bytes, buffer))
+    converting::convert_down(bytes, buffer).into()
 }
 
 // Key line: the call that its bytes make. First and second are the two numbers that the program `keys` prints. Refusals: 1, 9, then its call's.
@@ -323,7 +326,7 @@ pub fn plan_key_line(t: &mut [u16; WORDS], line: &[u8]) -> Reply
     ensures answer { result ≡ reply_of (key_call (table_of t.old) line.now).answer }
     ensures table { t.new ≡ words_of (key_call (table_of t.old) line.now).table }
 {
-    reply_of(keying::key_line(t, line))
+    keying::key_line(t, line).into()
 }
 
 // Fresh dispatcher: nobody waits, and cabin 15 counts as last served. It is not refused.
@@ -331,7 +334,7 @@ pub fn plan_line_fresh(d: &mut [u16; LINE_WORDS]) -> Reply
     ensures answer { result ≡ reply_of (line_call (dispatcher_of d.old) fresh).answer }
     ensures words { d.new ≡ line_words_of (line_call (dispatcher_of d.old) fresh).dispatcher }
 {
-    reply_of(dispatching::fresh(d))
+    dispatching::fresh(d).into()
 }
 
 // Raise: a cabin waits for the line. Refusals: 1, 20.
@@ -339,7 +342,7 @@ pub fn plan_line_raise(d: &mut [u16; LINE_WORDS], cabin: u16) -> Reply
     ensures answer { result ≡ reply_of (line_call (dispatcher_of d.old) (raise cabin)).answer }
     ensures words { d.new ≡ line_words_of (line_call (dispatcher_of d.old) (raise cabin)).dispatcher }
 {
-    reply_of(dispatching::raise(d, cabin))
+    dispatching::raise(d, cabin).into()
 }
 
 // Withdraw: a cabin does not wait any more. Refusals: 1, 20.
@@ -347,7 +350,7 @@ pub fn plan_line_withdraw(d: &mut [u16; LINE_WORDS], cabin: u16) -> Reply
     ensures answer { result ≡ reply_of (line_call (dispatcher_of d.old) (withdraw cabin)).answer }
     ensures words { d.new ≡ line_words_of (line_call (dispatcher_of d.old) (withdraw cabin)).dispatcher }
 {
-    reply_of(dispatching::withdraw(d, cabin))
+    dispatching::withdraw(d, cabin).into()
 }
 
 // Next: the first waiting cabin after the one last served, going round, is served. First is the cabin. Refusals: 1, 21.
@@ -355,5 +358,5 @@ pub fn plan_line_next(d: &mut [u16; LINE_WORDS]) -> Reply
     ensures answer { result ≡ reply_of (line_call (dispatcher_of d.old) next).answer }
     ensures words { d.new ≡ line_words_of (line_call (dispatcher_of d.old) next).dispatcher }
 {
-    reply_of(dispatching::next(d))
+    dispatching::next(d).into()
 }

@@ -9,8 +9,7 @@ use native.Mathlib.Omega.{arith}
 use lib.ListN.{length, get_or, set, drop, length-set}
 use borrow.Author.Tests.{eq-eqb, ne_eqb, le-leb, lt-leb, lt-ltb, le-ltb}
 use Rattle.table.specs.declared.Ending.TheVariants.{Open, Spent, Stopped}
-use Rattle.table.specs.declared.Tried.{Tried}
-use Rattle.table.specs.declared.Tried.TheVariants.{Refused}
+use Rattle.table.specs.Said.{Tried, TrialRefused}
 use Rattle.table.specs.Table.{Table, places, exits, kind_of, target_of, holds}
 use Rattle.table.specs.Sound.{Sound}
 use Rattle.table.specs.Answer.{bad_result, too_short, first, moves_of}
@@ -110,7 +109,7 @@ module _ {t : Table} {limit : ℕ} {results trace₀ trace : List ℕ} {step mov
 module _ (t : Table) (limit : ℕ) (results lent : List ℕ) where
   -- a refused trial leaves the trace as it was lent
   abbrev refused : ℕ → TrialOutcome
-  refused n = record { answer = Refused n; trace = lent }
+  refused n = record { answer = TrialRefused n; trace = lent }
 
   pub trial_stopped : (first (table_tests t) ≡ 0 → ⊥) → trial_call t limit results lent ≡ refused (first (table_tests t))
   unfolding trial_call

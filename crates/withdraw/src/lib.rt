@@ -12,23 +12,20 @@ ghost use Rattle.words.specs.Words.{table_of};
 ghost use Rattle.withdraw.specs.Search.{slot_at, at, rest, Ranged, Pending, Withdrawn, still_linked, Spans};
 ghost use Rattle.withdraw.specs.Withdraw.{Losing, candidate};
 
-use words::{COUNTERS, COUNTS, PLACES, WORDS};
+use words::{COUNTERS, COUNTS, PLACES, WORDS, passing};
 
 // Withdraws the exits of step i, which is marked. Source paper 001 searches by nested calls too, but flips bits and makes links weak on its way;
 // document 01 decides, and only marks steps here: bits, links and stored counters stay.
 #[cycle(withdraw_exit_withdraw_step)]
-fn withdraw_step(t: &[u16; WORDS], left: &mut [u16; 256], marks: &mut [u16; 128], i: usize)
+fn withdraw_step(t: &[u16; WORDS], left: &mut [u16; COUNTS], marks: &mut [u16; PLACES], i: usize)
     requires { (i < places) × Ranged (table_of t.now) ×
         ((counts : List ℕ) × Pending (table_of t.now) counts left.old marks.old (rest (slot_at (table_of t.now)) i 0)) }
     ensures { Withdrawn (table_of t.now) left.old marks.old left.new marks.new
         (rest (slot_at (table_of t.now)) i 0) }
 {
-    let n = words::exits_of(i);
-    let mut e = 0usize;
     // The exits below e are withdrawn.
-    while e < n {
+    for e in 0..words::exits_of(i) {
         withdraw_exit(t, left, marks, i, e);
-        e += 1;
     }
 }
 
@@ -38,8 +35,8 @@ fn withdraw_step(t: &[u16; WORDS], left: &mut [u16; 256], marks: &mut [u16; 128]
 #[cycle(withdraw_exit_withdraw_step)]
 fn withdraw_exit(
     t: &[u16; WORDS],
-    left: &mut [u16; 256],
-    marks: &mut [u16; 128],
+    left: &mut [u16; COUNTS],
+    marks: &mut [u16; PLACES],
     i: usize,
     e: usize,
 )
@@ -48,12 +45,12 @@ fn withdraw_exit(
     ensures { Withdrawn (table_of t.now) left.old marks.old left.new marks.new
         (at (slot_at (table_of t.now)) (exit_place i e)) }
 {
-    let j = words::wide(words::target_at(t, i, e));
+    let j = usize::from(words::target_at(t, i, e));
     if j == 0 {
         return;
     }
     let b = words::bit_at(t, i, e);
-    let q = j * COUNTERS + words::wide(b);
+    let q = j * COUNTERS + usize::from(b);
     let n = left[q];
     if n == 0 {
         left[0] = 1;
@@ -69,44 +66,44 @@ fn withdraw_exit(
 }
 
 // What is left at the beginning: all counters.
-fn counters_of(t: &[u16; WORDS]) -> [u16; 256]
+fn counters_of(t: &[u16; WORDS]) -> [u16; COUNTS]
     ensures { result ≡ (table_of t.now).counts }
 {
-    words::sized(t);
-    let mut left = [0u16; 256];
-    let mut q = 0usize;
+    let mut left = [0u16; COUNTS];
     // The counters below q are copied.
-    while q < COUNTS {
+    for q in 0..COUNTS {
         left[q] = words::count_in(t, q);
-        q += 1;
     }
     left
 }
 
 // Whether step k is marked and links to it are left, in the counter of its weak ones.
-fn still_linked(t: &[u16; WORDS], left: &[u16; 256], doubt: &[u16; 128], k: usize) -> bool
+fn still_linked(t: &[u16; WORDS], left: &[u16; COUNTS], doubt: &[u16; PLACES], k: usize) -> bool
     requires { (k < places) × Ranged (table_of t.now) }
     ensures { result ≡ still_linked (table_of t.now) left.now doubt.now k }
 {
     if doubt[k] != 1 {
         return false;
     }
-    left[k * COUNTERS + words::wide(1 - words::own_at(t, k))] != 0
+    left[k * COUNTERS + usize::from(1 - words::own_at(t, k))] != 0
 }
 
 // The candidates, where nothing is pending: `wanted` gets 1 for each marked step that has links left.
-fn mark_wanted(t: &[u16; WORDS], left: &[u16; 256], doubt: &[u16; 128], wanted: &mut [u16; 128])
+fn mark_wanted(
+    t: &[u16; WORDS],
+    left: &[u16; COUNTS],
+    doubt: &[u16; PLACES],
+    wanted: &mut [u16; PLACES],
+)
     requires { Ranged (table_of t.now) × (wanted.old ≡ replicate places 0) }
     ensures { wanted.new ≡
         tabulate places (λ k. one (still_linked (table_of t.now) left.now doubt.now k)) }
 {
-    let mut k = 0usize;
     // The candidates below k are marked.
-    while k < PLACES {
+    for k in 0..PLACES {
         if still_linked(t, left, doubt, k) {
             wanted[k] = 1;
         }
-        k += 1;
     }
 }
 
@@ -116,52 +113,34 @@ pub fn find_doubtful(
     t: &[u16; WORDS],
     i: usize,
     e: usize,
-    doubt: &mut [u16; 128],
-    wanted: &mut [u16; 128],
+    doubt: &mut [u16; PLACES],
+    wanted: &mut [u16; PLACES],
 )
     requires { Losing (table_of t.now) i e × (doubt.old ≡ replicate places 0) × (wanted.old ≡ replicate places 0) }
     ensures doubt { doubt.new ≡ tabulate places (λ k. one (marked (doubtful (emptied (table_of t.now) i e)) k)) }
     ensures wanted { wanted.new ≡ tabulate places (λ k. one (candidate (emptied (table_of t.now) i e) k)) }
 {
-    let j = words::wide(words::target_at(t, i, e));
+    let j = usize::from(words::target_at(t, i, e));
     let mut left = counters_of(t);
     // The counter of the exit's own link, in which no link of a marked step counts: 0, as the search asks of a step that it marks.
-    left[j * COUNTERS + words::wide(words::own_at(t, j))] = 0;
+    left[j * COUNTERS + usize::from(words::own_at(t, j))] = 0;
     doubt[j] = 1;
     withdraw_step(t, &mut left, doubt, j);
     mark_wanted(t, &left, doubt, wanted);
 }
 
 // Whether every counter has come to 0.
-fn all_zero(left: &[u16; 256]) -> bool
+fn all_zero(left: &[u16; COUNTS]) -> bool
     ensures { result ≡ all (places * counters) (λ q. eqb (get_or left.now q 0) 0) }
 {
-    let mut some = 0u16;
-    let mut q = 0usize;
-    // Below q, so many counters are not 0.
-    while q < COUNTS {
-        if left[q] != 0 {
-            some += 1;
-        }
-        q += 1;
-    }
-    some == 0
+    passing(0, COUNTS, |q| left[q] != 0) == 0
 }
 
 // Whether the steps marked are those in use.
-fn all_used<'a>(t: &'a [u16; WORDS], marks: &'a [u16; 128]) -> bool
+fn all_used(t: &[u16; WORDS], marks: &[u16; PLACES]) -> bool
     ensures { result ≡ all places (λ i. eqb (get_or (table_of t.now).used i 0) (get_or marks.now i 0)) }
 {
-    let mut others = 0u16;
-    let mut i = 0usize;
-    // Below i, the mark of so many steps is not that of their use.
-    while i < PLACES {
-        if words::used_at(t, i) != marks[i] {
-            others += 1;
-        }
-        i += 1;
-    }
-    others == 0
+    passing(0, PLACES, |i| words::used_at(t, i) != marks[i]) == 0
 }
 
 // Withdraws step 0 on a copy of the counters, weak links too, each from the counter of its own bit: whether every counter comes to 0, none having
@@ -170,9 +149,8 @@ pub fn spans(t: &[u16; WORDS]) -> bool
     requires { Ranged (table_of t.now) }
     ensures { Spans (table_of t.now) result }
 {
-    words::sized(t);
     let mut left = counters_of(t);
-    let mut marks = [0u16; 128];
+    let mut marks = [0u16; PLACES];
     marks[0] = 1;
     withdraw_step(t, &mut left, &mut marks, 0);
     if !all_zero(&left) {

@@ -5,14 +5,16 @@
 --   part_read       a word of a part
 --   sizes lists      the parts of a table in memory: how long each is, and the lists of the table
 --   store_*         a word that is stored into changes its part alone
+--   run_*           words that are stored one behind the other, which `put_mid_sets` says of a part of a slice; `sets_whole`, where they are a whole list
 use mathlib.Core.Path.{◌≡◌, refl, sym, ◌∙◌, ap, ap₂}
 use mathlib.Core.Bool.{true, false}
 use mathlib.Core.Logic.{⊎_elim}
-use mathlib.Core.List.{List, [], ◌∷◌, map}
-use Prim.Native.Nat.{ℕ, ◌+◌, ◌*◌, ◌-◌, ◌≤◌, ◌<◌}
+use mathlib.Core.List.{List, [], ◌∷◌, ◌++◌, append_assoc, append-nil, map}
+use Prim.Native.Nat.{ℕ, suc, ◌+◌, ◌*◌, ◌-◌, ◌≤◌, ◌<◌}
 use native.Mathlib.Omega.{arith}
-use lib.ListN.{length, get_or, set, drop, length-drop}
-use lib.Seq.{set_out, get_or-set_same, get_or-set_other, get_or-take, get_or-drop, drop-set-lt, drop-set-add, length-take-le, drop-cons}
+use lib.ListN.{length, get_or, set, take, drop, length-drop, drop_of_length-le}
+use borrow.Rule.Slice.PartMut.{put_mid}
+use lib.Seq.{sets, sets-eq, drop-drop, set_out, get_or-set_same, get_or-set_other, get_or-take, get_or-drop, drop-set-lt, drop-set-add, length-take-le, drop-cons}
 use lib.Dec.{eqb}
 use borrow.Author.Tests.{eq-eqb, ne_eqb}
 use Rattle.table.specs.Table.{Table, places, exit_places, counters, quota_numbers, counter_place, with_links, with_steps, with_numbers}
@@ -182,6 +184,58 @@ module _ (w : List ℕ) where
   store_quotas k x l =
       let q : quotas_from + k ≡ 2 + (before sizes 8 + k) = omega arith in
       ap (λ (q : ℕ). table_of (set w q x)) q ∙ store 8 k x l
+
+-- Numbers that are stored one behind the other change their part alone, as their stores one by one.
+module _ (from n : ℕ) (get : Table → List ℕ) (put : Table → List ℕ → Table)
+    (store : (w : List ℕ) (k x : ℕ) → k < n → table_of (set w (from + k) x) ≡ put (table_of w) (set (get (table_of w)) k x))
+    (put_got : (t : Table) → t ≡ put t (get t)) (put_put : (t : Table) (l m : List ℕ) → put (put t l) m ≡ put t m)
+    (get_put : (t : Table) (l : List ℕ) → get (put t l) ≡ l) where
+  store_run : (ys w : List ℕ) (k : ℕ) → k + length ys ≤ n → table_of (sets w (from + k) ys) ≡ put (table_of w) (sets (get (table_of w)) k ys)
+  store_run [] w k l = put_got (table_of w)
+  store_run (y ∷ ys) w k l =
+      let t = table_of w in
+      let q : suc (from + k) ≡ from + suc k = omega arith in
+      ap (λ (q : ℕ). table_of (sets (set w (from + k) y) q ys)) q ∙ store_run ys (set w (from + k) y) (suc k) (omega arith) ∙
+      ap (λ (u : Table). put u (sets (get u) (suc k) ys)) (store w k y (omega arith)) ∙
+      put_put t (set (get t) k y) _ ∙
+      ap (λ (l : List ℕ). put t (sets l (suc k) ys)) (get_put t (set (get t) k y))
+
+pub run_targets : (ys w : List ℕ) (k : ℕ) → k + length ys ≤ exit_places places →
+    table_of (sets w (targets_from + k) ys) ≡ with_links (table_of w) (sets (table_of w).targets k ys) (table_of w).bits (table_of w).counts
+unfolding with_links
+run_targets =
+    store_run targets_from (exit_places places) (λ t. t.targets) (λ t l. with_links t l t.bits t.counts) store_targets (λ t. refl) (λ t l m. refl)
+    (λ t l. refl)
+
+pub run_bits : (ys w : List ℕ) (k : ℕ) → k + length ys ≤ exit_places places →
+    table_of (sets w (bits_from + k) ys) ≡ with_links (table_of w) (table_of w).targets (sets (table_of w).bits k ys) (table_of w).counts
+unfolding with_links
+run_bits =
+    store_run bits_from (exit_places places) (λ t. t.bits) (λ t l. with_links t t.targets l t.counts) store_bits (λ t. refl) (λ t l m. refl) (λ t l. refl)
+
+pub run_counts : (ys w : List ℕ) (k : ℕ) → k + length ys ≤ places * counters →
+    table_of (sets w (counts_from + k) ys) ≡ with_links (table_of w) (table_of w).targets (table_of w).bits (sets (table_of w).counts k ys)
+unfolding with_links
+run_counts =
+    store_run counts_from (places * counters) (λ t. t.counts) (λ t l. with_links t t.targets t.bits l) store_counts (λ t. refl) (λ t l m. refl)
+    (λ t l. refl)
+
+pub run_quotas : (ys w : List ℕ) (k : ℕ) → k + length ys ≤ quota_numbers →
+    table_of (sets w (quotas_from + k) ys) ≡
+    with_numbers (table_of w) (table_of w).capacity (table_of w).last (sets (table_of w).quotas k ys)
+unfolding with_numbers
+run_quotas =
+    store_run quotas_from quota_numbers (λ t. t.quotas) (λ t l. with_numbers t t.capacity t.last l) store_quotas (λ t. refl) (λ t l m. refl) (λ t l. refl)
+
+-- a part of a list that another takes the place of
+pub put_mid_sets : (w ys zs : List ℕ) (a k : ℕ) → ys ≡ zs → k ≡ length zs → a + length zs ≤ length w → put_mid a k w ys ≡ sets w a zs
+put_mid_sets w ys zs a k e n l =
+    ap₂ (λ (m : ℕ) (v : List ℕ). put_mid a m w v) n e ∙ ap (λ (r : List ℕ). take a w ++ (zs ++ r)) (drop-drop (length zs) a w) ∙
+    sym (sets-eq zs w a l ∙ append_assoc (take a w) zs _)
+
+-- a run over a whole list
+pub sets_whole : (l ys : List ℕ) → length l ≡ length ys → sets l 0 ys ≡ ys
+sets_whole l ys e = sets-eq ys l 0 (omega arith) ∙ ap (λ (r : List ℕ). ys ++ r) (drop_of_length-le l (omega arith)) ∙ append-nil ys
 
 pub shape_table : (w : List ℕ) → length w ≡ words → Shape (table_of w)
 unfolding table_of

@@ -5,3 +5,4 @@ pub mod Formed
 pub mod Becomes
 mod Cut
 pub mod Fields
+pub mod Chains

@@ -3,8 +3,9 @@
 
 #![tactic(auto)]
 
-ghost use Rattle.std.specs.Prelude.{◌≡◌, ◌*◌, ◌≤◌, ◌<◌, length, get_or, set, replicate};
+ghost use Rattle.std.specs.Prelude.{◌≡◌, Bool, false, true, ℕ, ◌+◌, ◌*◌, ◌≤◌, ◌<◌, length, get_or, set, replicate};
 ghost use Rattle.std.proofs.lemmas.List.Edits.{sets};
+ghost use Rattle.finite.specs.Below.{count};
 ghost use Rattle.table.specs.Table.{places, exits_of, exit_places, counters, quota_numbers, exit_place, in_use, kind_of, content_of, own_bit, cabin_of, target_of, link_bit, counter_of, with_links, with_steps, with_numbers};
 ghost use Rattle.table.specs.Calls.{lowered, raised, relink, with_step};
 ghost use Rattle.table.specs.Clear.{flipped, blanked};
@@ -29,7 +30,7 @@ pub const CABINS: usize = 8;
 
 pub const QUOTAS: usize = 16;
 
-// The kind of a contact, which alone has a line result.
+// The kind of a contact, which alone has a line result. A number, since any may stand in the word of a kind, and an enum would say no more.
 pub const CONTACT: u16 = 1;
 
 // The bytes that a lent buffer has to have where steps are listed in it: one for every step but step 0.
@@ -57,69 +58,23 @@ const COUNTS_FROM: usize = 1538;
 
 const CABINS_FROM: usize = 1794;
 
-const QUOTAS_FROM: usize = 1922;
+pub const QUOTAS_FROM: usize = 1922;
 
-// The refusals, by the numbers of document 01, "Reasons for no".
-// Table not sound.
-pub const NOT_SOUND: u16 = 1;
-// Capacity not 1 to 128.
-pub const BAD_CAPACITY: u16 = 2;
-// Step not in use.
-pub const NOT_IN_USE: u16 = 3;
-// Exit above 3.
-pub const BAD_EXIT: u16 = 4;
-// Exit to be filled holds a link.
-pub const EXIT_FILLED: u16 = 5;
-// Exit to copy or clear is empty.
-pub const EXIT_EMPTY: u16 = 6;
-// Kind not 1 to 3, or content out of range.
-pub const BAD_KIND: u16 = 7;
-// Steps in use equal the capacity.
-pub const FULL: u16 = 8;
-// Not a key line.
-pub const NOT_KEY_LINE: u16 = 9;
-// Some line result is above 3.
-pub const BAD_RESULT: u16 = 10;
-// A lent buffer is too short.
-pub const TOO_SHORT: u16 = 11;
-// Not an image that is accepted.
-pub const NOT_ACCEPTED: u16 = 12;
-// The capacity is below the steps in use (document 02, W2), or the charges do not fit the new quotas (W5).
-pub const DOES_NOT_FIT: u16 = 13;
-// The cabin is at its limit (W5).
-pub const CABIN_AT_LIMIT: u16 = 14;
-// Only steps reserved for other cabins are free (W5).
-pub const STEPS_RESERVED: u16 = 15;
-// A cabin above 7, or a bad list of guarantees and limits (W5).
-pub const BAD_CABINS: u16 = 16;
-// An image needs edition 2: edition 1 cannot say its cabins, guarantees or limits (W6), or a contact (W9).
-pub const NEEDS_EDITION_2: u16 = 17;
-// A slip is not accepted (W7).
-pub const SLIP_NOT_ACCEPTED: u16 = 18;
-// A cabin above 15, on the line (W11).
-pub const NO_SUCH_CABIN: u16 = 20;
-// Nobody waits for the line (W11).
-pub const NOBODY_WAITS: u16 = 21;
-
-// The same number, as an index.
-pub fn wide(x: u16) -> usize
-    ensures { result ≡ x }
+// How many numbers from `first` on, below `end`, pass a test. Those below `first` are known not to.
+pub fn passing<F: Fn(usize) -> bool>(first: usize, end: usize, test: F) -> u16
+    requires range { (first ≤ end) × (end ≤ 65535) }
+    requires callable { (k : ℕ) → k < end → F.pre test k }
+    ensures { (p : ℕ → Bool) → ((k : ℕ) → k < first → p k ≡ false) →
+        ((k : ℕ) (r : Bool) → first ≤ k → k < end → F.post test k r → r ≡ p k) → result ≡ count end p }
 {
-    x as usize
-}
-
-// Says how many words are lent; no machine code comes of it.
-pub fn sized(t: &[u16; WORDS])
-    ensures { length t.now ≡ words }
-{
-    let _all = &t[..];
-}
-
-// Says how many numbers a lent list of quotas has; no machine code comes of it.
-pub fn listed(quotas: &[u16; QUOTAS])
-    ensures { length quotas.now ≡ quota_numbers }
-{
-    let _all = &quotas[..];
+    let mut n = 0u16;
+    // n numbers below k pass.
+    for k in first..end {
+        if test(k) {
+            n += 1;
+        }
+    }
+    n
 }
 
 pub fn capacity(t: &[u16; WORDS]) -> u16
@@ -277,8 +232,7 @@ pub fn take_step(t: &mut [u16; WORDS], n: u16, kind: u16, content: u16, cabin: u
     requires { n < places }
     ensures { Becomes t.old t.new (with_step (table_of t.old) n kind content cabin) }
 {
-    sized(t);
-    let i = wide(n);
+    let i = usize::from(n);
     t[1] = n;
     t[USED_FROM + i] = 1;
     t[KINDS_FROM + i] = kind;
@@ -290,7 +244,6 @@ pub fn take_step(t: &mut [u16; WORDS], n: u16, kind: u16, content: u16, cabin: u
 pub fn put_numbers(t: &mut [u16; WORDS], capacity: u16, last: u16)
     ensures { Becomes t.old t.new (with_numbers (table_of t.old) capacity last (table_of t.old).quotas) }
 {
-    sized(t);
     t[0] = capacity;
     t[1] = last;
 }
@@ -300,14 +253,7 @@ pub fn put_quotas(t: &mut [u16; WORDS], quotas: &[u16; QUOTAS])
     ensures { Becomes t.old t.new (with_numbers (table_of t.old) (table_of t.old).capacity
         (table_of t.old).last quotas.now) }
 {
-    sized(t);
-    listed(quotas);
-    let mut k: usize = 0;
-    // The numbers below k are set.
-    while k < QUOTAS {
-        t[QUOTAS_FROM + k] = quotas[k];
-        k += 1;
-    }
+    t[QUOTAS_FROM..QUOTAS_FROM + QUOTAS].copy_from_slice(quotas);
 }
 
 // Step i is in use where `used` is 1, free where it is 0, with these fields; its links, its counters and the number last given stay.
@@ -362,6 +308,18 @@ pub fn put_link(t: &mut [u16; WORDS], i: usize, e: usize, j: u16, b: u16)
     t[BITS_FROM + p] = b;
 }
 
+// The words from a place on are set to these few numbers. A `copy_from_slice` would test in each call whether they overlap with the table, which
+// takes a third more time for the record of a step.
+fn put_words(t: &mut [u16; WORDS], from: usize, numbers: &[u16])
+    requires { from + length numbers.now ≤ words }
+    ensures { t.new ≡ sets t.old from numbers.now }
+{
+    // The first k numbers are put.
+    for (k, number) in numbers.iter().enumerate() {
+        t[from + k] = *number;
+    }
+}
+
 // Targets and bits are put into the four exits of step i; no counter changes.
 pub fn put_links(t: &mut [u16; WORDS], i: usize, targets: [u16; EXITS], bits: [u16; EXITS])
     requires { i < places }
@@ -369,10 +327,9 @@ pub fn put_links(t: &mut [u16; WORDS], i: usize, targets: [u16; EXITS], bits: [u
         (sets (table_of t.old).targets (exit_places i) targets) (sets (table_of t.old).bits (exit_places i) bits)
         (table_of t.old).counts) }
 {
-    put_link(t, i, 0, targets[0], bits[0]);
-    put_link(t, i, 1, targets[1], bits[1]);
-    put_link(t, i, 2, targets[2], bits[2]);
-    put_link(t, i, 3, targets[3], bits[3]);
+    let p = exit_places(i);
+    put_words(t, TARGETS_FROM + p, &targets);
+    put_words(t, BITS_FROM + p, &bits);
 }
 
 // Both counters of step i are set.
@@ -381,9 +338,7 @@ fn put_counts(t: &mut [u16; WORDS], i: usize, counts: [u16; COUNTERS])
     ensures { Becomes t.old t.new (with_links (table_of t.old)
         (table_of t.old).targets (table_of t.old).bits (sets (table_of t.old).counts (i * counters) counts)) }
 {
-    let q = i * COUNTERS;
-    t[COUNTS_FROM + q] = counts[0];
-    t[COUNTS_FROM + (q + 1)] = counts[1];
+    put_words(t, COUNTS_FROM + i * COUNTERS, &counts);
 }
 
 // The whole record of step i is set: in use where `used` is 1, free where it is 0, with these fields.
@@ -391,12 +346,9 @@ pub fn put_fields(t: &mut [u16; WORDS], i: usize, used: u16, f: Fields)
     requires { i < places }
     ensures { Becomes t.old t.new (with_fields (table_of t.old) i used f) }
 {
-    let targets = f.targets;
-    let bits = f.bits;
-    let counts = f.counts;
     put_step(t, i, used, f.kind, f.content, f.own, f.cabin);
-    put_links(t, i, targets, bits);
-    put_counts(t, i, counts);
+    put_links(t, i, f.targets, f.bits);
+    put_counts(t, i, f.counts);
 }
 
 // All counters are set to 0.
@@ -404,23 +356,17 @@ pub fn zero_counts(t: &mut [u16; WORDS])
     ensures { Becomes t.old t.new (with_links (table_of t.old)
         (table_of t.old).targets (table_of t.old).bits (replicate (places * counters) 0)) }
 {
-    sized(t);
-    let mut q: usize = 0;
-    // The counters below q are 0.
-    while q < COUNTS {
-        t[COUNTS_FROM + q] = 0;
-        q += 1;
-    }
+    t[COUNTS_FROM..COUNTS_FROM + COUNTS].fill(0);
 }
 
-// Counter b of step j falls by one; step 0 stands for no step.
+// Counter b of step j falls by one; step 0 stands for no step. `raise` stays apart from it: they differ by a sign, but each asks something else.
 fn lower(t: &mut [u16; WORDS], j: u16, b: u16)
     requires { (j < places) × (b < counters) × ((j ≡ 0 → ⊥) → 0 < counter_of (table_of t.old) j b) }
     ensures { Becomes t.old t.new (with_links (table_of t.old)
         (table_of t.old).targets (table_of t.old).bits (lowered j b (table_of t.old).counts)) }
 {
     if j != 0 {
-        let q = wide(j) * COUNTERS + wide(b);
+        let q = usize::from(j) * COUNTERS + usize::from(b);
         t[COUNTS_FROM + q] = count_in(t, q) - 1;
     }
 }
@@ -432,7 +378,7 @@ pub fn raise(t: &mut [u16; WORDS], j: u16, b: u16)
         (table_of t.old).targets (table_of t.old).bits (raised j b (table_of t.old).counts)) }
 {
     if j != 0 {
-        let q = wide(j) * COUNTERS + wide(b);
+        let q = usize::from(j) * COUNTERS + usize::from(b);
         t[COUNTS_FROM + q] = count_in(t, q) + 1;
     }
 }

@@ -1,83 +1,76 @@
 // The call write image, and the length of the image by itself (document 01, "Image"; document 02, W1 and W5). What is said of them is in the crate
-// image. An edition is a bool, `newer`: true for edition 2.
+// image.
 
 #![tactic(auto)]
 
 ghost use Rattle.std.specs.Prelude.{◌≡◌, true, ◌++◌, ◌≤◌, length, drop};
 ghost use Rattle.table.specs.Table.{steps_in_use};
 ghost use Rattle.table.specs.Sound.{sound};
-ghost use Rattle.table.specs.Answer.{first};
+ghost use Rattle.table.specs.Answer.{answer_of, first};
 ghost use Rattle.image.specs.Image.{image, image_length, put, room_tests, length_call, write_call};
 ghost use Rattle.words.specs.Words.{table_of};
 ghost use Rattle.records.specs.Records.{edition_of};
 
-use table::Answer;
+use records::Edition;
+use table::{Answer, Refusal};
 use words::WORDS;
 
 // Puts the image of a sound table, in an edition, at the start of a buffer that has the room; steps is the number of steps in use.
-fn put_image(t: &[u16; WORDS], newer: bool, steps: u16, buffer: &mut [u8])
+fn put_image(t: &[u16; WORDS], edition: Edition, steps: u16, buffer: &mut [u8])
     requires { (sound (table_of t.now) ≡ true) × (steps ≡ steps_in_use (table_of t.now)) ×
-        (image_length (edition_of newer) (table_of t.now) ≤ length buffer.old) }
+        (image_length (edition_of edition) (table_of t.now) ≤ length buffer.old) }
     ensures { buffer.new ≡
-        image (edition_of newer) (table_of t.now) ++ drop (image_length (edition_of newer) (table_of t.now)) buffer.old }
+        image (edition_of edition) (table_of t.now) ++ drop (image_length (edition_of edition) (table_of t.now)) buffer.old }
 {
     let capacity = words::capacity(t);
     let quotas = cabins::quotas_of(t);
-    records::put_header(buffer, newer, capacity, words::last(t), steps, &quotas);
-    let n = words::wide(capacity);
-    let size = records::step_size(newer);
-    let mut at = records::header_size(newer);
-    let mut i: usize = 0;
+    records::put_header(buffer, edition, capacity, words::last(t), steps, &quotas);
+    let n = usize::from(capacity);
+    let size = edition.step_size();
+    let mut at = edition.header_size();
     // The header and the records of the steps in use below i stand before the place at; the rest is as it was.
-    while i < n {
+    for i in 0..n {
         if words::in_use(t, i) {
             let r = recording::step_record(t, i);
-            records::put_step(&mut buffer[at..], newer, r);
+            records::put_step(&mut buffer[at..], edition, r);
             at += size;
         }
-        i += 1;
     }
 }
 
 // The image of a sound table, in an edition, at the start of the buffer, and its length; or refusal 11, and nothing is written.
-pub fn fill(t: &[u16; WORDS], newer: bool, buffer: &mut [u8]) -> Answer
+pub fn fill(t: &[u16; WORDS], edition: Edition, buffer: &mut [u8]) -> Answer
     requires { sound (table_of t.now) ≡ true }
-    ensures answer { result ≡
-        (put (first (room_tests (edition_of newer) (table_of t.now) (length buffer.old)))
-        (edition_of newer) (table_of t.now) buffer.old).answer }
+    ensures answer { answer_of result ≡
+        (put (first (room_tests (edition_of edition) (table_of t.now) (length buffer.old)))
+        (edition_of edition) (table_of t.now) buffer.old).answer }
     ensures written { buffer.new ≡
-        (put (first (room_tests (edition_of newer) (table_of t.now) (length buffer.old)))
-        (edition_of newer) (table_of t.now) buffer.old).buffer }
+        (put (first (room_tests (edition_of edition) (table_of t.now) (length buffer.old)))
+        (edition_of edition) (table_of t.now) buffer.old).buffer }
 {
     let steps = steps::count_used(t);
-    let size = records::image_size(newer, steps);
+    let size = edition.image_size(steps);
     if buffer.len() < size {
-        return Answer::Refused(words::TOO_SHORT);
+        return Err(Refusal::TooShort);
     }
-    put_image(t, newer, steps, buffer);
-    Answer::Given(size as u16, 0)
+    put_image(t, edition, steps, buffer);
+    Ok((size as u16, 0))
 }
 
 // The length of the image that write image would write, which is the room that it needs.
 pub fn image_length(t: &[u16; WORDS]) -> Answer
-    ensures { result ≡ length_call (table_of t.now) }
+    ensures { answer_of result ≡ length_call (table_of t.now) }
 {
-    let refusal = soundness::table_refusal(t);
-    if refusal != 0 {
-        return Answer::Refused(refusal);
-    }
+    soundness::check_table(t)?;
     let steps = steps::count_used(t);
-    Answer::Given(records::image_size(true, steps) as u16, 0)
+    Ok((Edition::Two.image_size(steps) as u16, 0))
 }
 
 // Writes the image of a sound table, in edition 2, to the start of the buffer, and gives back its length. A refused call writes nothing.
 pub fn write_image(t: &[u16; WORDS], buffer: &mut [u8]) -> Answer
-    ensures answer { result ≡ (write_call (table_of t.now) buffer.old).answer }
+    ensures answer { answer_of result ≡ (write_call (table_of t.now) buffer.old).answer }
     ensures written { buffer.new ≡ (write_call (table_of t.now) buffer.old).buffer }
 {
-    let refusal = soundness::table_refusal(t);
-    if refusal != 0 {
-        return Answer::Refused(refusal);
-    }
-    fill(t, true, buffer)
+    soundness::check_table(t)?;
+    fill(t, Edition::Two, buffer)
 }

@@ -1,5 +1,4 @@
--- `cabins::quotas_fit` meets its contract. The loop's invariant: the cabins below c have guarantees within limits, and sum is their total; the measure is
--- what is left of them. Assumes nothing.
+-- `cabins::quotas_fit` meets its contract. The loop's invariant: the cabins below c have guarantees within limits, and sum is their total. Assumes nothing.
 use mathlib.Core.Path.{◌≡◌, refl, sym, ◌∙◌, ap, ap₂}
 use Prim.Native.Nat.{ℕ, ◌+◌, ◌-◌, ◌≤◌, ◌<◌}
 use native.Mathlib.Omega.{arith}
@@ -15,7 +14,7 @@ use Rattle.cabins.proofs.quotas_fit.Goals as goal
 
 pub loop-c-init : goal.loop-c-init
 unfolding total
-loop-c-init c = (omega arith, omega arith, refl, all_none _)
+loop-c-init c = (omega arith, refl, all_none _)
 
 pub returns-then-limit_in-guarantee : goal.returns-then-limit_in-guarantee
 unfolding quotas_fit
@@ -34,10 +33,9 @@ loop-c-preserved c =
     let k = l.loop-c.c in
     let here = c.guarantee_in-guarantee.ensures in
     let low : guarantee_of quotas k ≤ limit_of quotas k = omega (arith, c.if-limit_in-guarantee.false, c.limit_in.ensures) in (
-      omega arith,
-      omega (arith, l.loop-c.invariant.1),
-      ap₂ ◌+◌ l.loop-c.invariant.2 here ∙ sym (total_next k _),
-      all_more k _ l.loop-c.invariant.3 (le-leb _ _ low),
+      omega (arith, l.loop-c.invariant.0),
+      ap₂ ◌+◌ l.loop-c.invariant.1 (c.from-sum.ensures ∙ here) ∙ sym (total_next k _),
+      all_more k _ l.loop-c.invariant.2 (le-leb _ _ low),
     )
 
 pub returns : goal.returns
@@ -48,15 +46,9 @@ returns c =
     let quotas = s.args.quotas.now in
     let capacity = s.args.capacity in
     let least = s.requires in
-    let e : l.c ≡ cabin_count = omega (arith, l.invariant.0) in
-    let sum : l.sum ≡ total cabin_count (guarantee_of quotas) = l.invariant.2 ∙ ap (λ (n : ℕ). total n (guarantee_of quotas)) e in
-    rw (sym (all_done l.c cabin_count (λ k. leb (guarantee_of quotas k) (limit_of quotas k)) l.invariant.3 (omega arith)))
-    (same_test (ltb l.sum capacity) (leb (total cabin_count (guarantee_of quotas)) (capacity - 1))
+    let e : l.c ≡ cabin_count = omega (arith, l.auto) in
+    let sum : l.sum ≡ total cabin_count (guarantee_of quotas) = l.invariant.1 ∙ ap (λ (n : ℕ). total n (guarantee_of quotas)) e in
+    rw (sym (all_done l.c cabin_count (λ k. leb (guarantee_of quotas k) (limit_of quotas k)) l.invariant.2 (omega arith)))
+    (ap (ltb l.sum) s.from.ensures ∙ same_test (ltb l.sum capacity) (leb (total cabin_count (guarantee_of quotas)) (capacity - 1))
     (λ t. let h = ltb-true l.sum capacity t in le-leb (total cabin_count (guarantee_of quotas)) (capacity - 1) (omega arith))
     (λ t. let h = leb-true (total cabin_count (guarantee_of quotas)) (capacity - 1) t in lt-ltb l.sum capacity (omega arith)))
-
-pub guarantee_in-guarantee-requires : goal.guarantee_in-guarantee-requires
-guarantee_in-guarantee-requires c = omega arith
-
-pub limit_in-requires : goal.limit_in-requires
-limit_in-requires c = omega arith

@@ -1,32 +1,32 @@
 -- `clearing::clear` meets its contract: the refusals, then the clearing. Assumes nothing.
-use mathlib.Core.Path.{refl, sym, ◌∙◌}
+use mathlib.Core.Path.{sym}
 use Rattle.table.specs.Clear.{clear_call}
 use Rattle.table.proofs.Calls.{clear_sound, clear_fits}
-use Rattle.words.proofs.Refusals.{refused_answer, refused_words, given_answer, given_words}
+use Rattle.words.proofs.Refusals.{passed_answer, refused_words, given_answer, given_words}
 use Rattle.clearing.proofs.clear.Goals as goal
 
-pub returns-then-refusal-ne0 : goal.returns-then-refusal-ne0
+pub returns-in_err-check_clear : goal.returns-in_err-check_clear
 unfolding clear_call
-returns-then-refusal-ne0 c =
-    let e = c.clear_refusal-refusal.ensures in
+returns-in_err-check_clear c =
+    let e = c.in_err-check_clear.ensures in
     record {
-      answer = refused_answer e _ _ c.if-refusal-ne0.true;
-      table = refused_words e _ _ c.sized.ensures c.if-refusal-ne0.true;
+      answer = passed_answer _ e _ c.from_residual.result c.from_residual.ensures.1 _;
+      table = refused_words _ e _ _ c.told-t;
     }
 
 pub clear_exit-requires : goal.clear_exit-requires
 clear_exit-requires c =
-    let taken = sym c.clear_refusal-refusal.ensures ∙ c.if-refusal-ne0.false in
-    (clear_sound _ _ _ taken, rw (c.wide.ensures, c.wide-2.ensures) (clear_fits _ _ _ taken))
+    let taken = sym c.in_ok-check_clear.ensures in
+    (clear_sound _ _ _ taken, rw (c.from.ensures, c.from-2.ensures) (clear_fits _ _ _ taken))
 
 pub returns : goal.returns
 unfolding clear_call
 returns c =
     let b = c.clear_exit.ensures in
-    let i = c.wide.ensures in
-    let e = c.wide-2.ensures in
-    let q = sym (sym c.clear_refusal-refusal.ensures ∙ c.if-refusal-ne0.false) in
+    let i = c.from.ensures in
+    let e = c.from-2.ensures in
+    let q = c.in_ok-check_clear.ensures in
     record {
-      answer = given_answer q _ _ _ refl (rw (i, e) at b.answer);
-      table = given_words q _ _ _ c.sized.ensures refl (rw (i, e) at b.table);
+      answer = given_answer q _ _ _ (rw (i, e) at b.answer);
+      table = given_words q _ _ _ c.told-t (rw (i, e) at b.table);
     }

@@ -14,20 +14,20 @@ pub keep_steps-requires : goal.keep_steps-requires
 keep_steps-requires c =
     let o = goes_losing c.requires.0 c.requires.1 c.goes_on.ensures c.if-not-goes_on.false in
     let x = searched_before o c.find_doubtful.ensures.doubt c.find_doubtful.ensures.wanted in
-    (c.requires.0.formed, (_, settles o x (c.wide-n.ensures ∙ c.capacity.ensures)))
+    (c.requires.0.formed, (_, settles o x (c.from-n.ensures ∙ c.capacity.ensures)))
 
 pub list_marks-freed-requires : goal.list_marks-freed-requires
 list_marks-freed-requires c =
     let o = goes_losing c.requires.0 c.requires.1 c.goes_on.ensures c.if-not-goes_on.false in
     let x = searched_before o c.find_doubtful.ensures.doubt c.find_doubtful.ensures.wanted in
-    let f = foreseen o x (c.wide-n.ensures ∙ c.capacity.ensures) c.keep_steps.ensures in
+    let f = foreseen o x (c.from-n.ensures ∙ c.capacity.ensures) c.keep_steps.ensures in
     (omega (arith, c.requires.0.formed.most), omega (arith, listed_fits f, c.requires.2))
 
 pub returns : goal.returns
 returns c =
     let o = goes_losing c.requires.0 c.requires.1 c.goes_on.ensures c.if-not-goes_on.false in
     let x = searched_before o c.find_doubtful.ensures.doubt c.find_doubtful.ensures.wanted in
-    let f = foreseen o x (c.wide-n.ensures ∙ c.capacity.ensures) c.keep_steps.ensures in record {
+    let f = foreseen o x (c.from-n.ensures ∙ c.capacity.ensures) c.keep_steps.ensures in record {
       answer = foreseen_answer f _ _ c.count_marks-doubts.ensures c.list_marks-freed.ensures.counted;
       written = c.list_marks-freed.ensures.written ∙ foreseen_written f _;
     }

@@ -9,11 +9,11 @@ use Rattle.clearing.proofs.repair_table.Goals.{After-repair_steps}
 facts : (c : After-repair_steps) →
     let a = c.args in
     let l = c.repair_steps.new in
-    Mended (table_of a.t.now) (table_of l.t) c.wide-n.result a.doubt.now a.wanted.now l.doubt
+    Mended (table_of a.t.now) (table_of l.t) c.from-n.result a.doubt.now a.wanted.now l.doubt
 facts c =
     record {
       searched = c.requires;
-      size = c.wide-n.ensures ∙ c.capacity.ensures;
+      size = c.from-n.ensures ∙ c.capacity.ensures;
       same = c.repair_steps.ensures.repaired;
       capacity = c.repair_steps.ensures.able.capacity;
     }
@@ -21,7 +21,7 @@ facts c =
 pub repair_steps-requires : goal.repair_steps-requires
 repair_steps-requires c =
     let t = table_of c.args.t.now in
-    let size = c.wide-n.ensures ∙ c.capacity.ensures in
+    let size = c.from-n.ensures ∙ c.capacity.ensures in
     (found_able t _ _ size c.requires.doubts c.requires.formed, found_candidates t c.requires _ size)
 
 pub returns-then-freed-ne0 : goal.returns-then-freed-ne0

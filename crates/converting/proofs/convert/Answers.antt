@@ -8,7 +8,7 @@ use lib.ListN.{length}
 use lib.Dec.{eqb}
 use borrow.Author.Tests.{eqb-true, eqb-false}
 use Rattle.finite.proofs.Bools.{and_right}
-use Rattle.table.specs.declared.Answer.TheVariants.{Refused}
+use Rattle.table.specs.Said.{Refused}
 use Rattle.table.specs.Table.{Table}
 use Rattle.table.specs.Sound.{sound}
 use Rattle.table.specs.Answer.{WriteOutcome, not_accepted, needs_edition2, first}
@@ -61,7 +61,7 @@ other bs v a h e = eqb-false _ _ h (kind_said bs a ∙ ap header_kind_of e)
 pub returns-then-not-take_image : goal.returns-then-not-take_image
 returns-then-not-take_image c =
     let a = c.args in
-    let v = edition_of a.newer in
+    let v = edition_of a.edition in
     let bs = a.bytes.now in
     let no : accepted bs ≡ false = sym c.take_image.ensures.answer ∙ c.if-not-take_image.true in
     let w = refused v bs a.buffer.now not_accepted (λ z. omega arith) (refusal_bad v bs _ no) in
@@ -76,7 +76,7 @@ is_of-requires c = least _ (sym c.take_image.ensures.answer ∙ c.if-not-take_im
 pub returns-then-is_of : goal.returns-then-is_of
 returns-then-is_of c =
     let a = c.args in
-    let v = edition_of a.newer in
+    let v = edition_of a.edition in
     let bs = a.bytes.now in
     let taken = sym c.take_image.ensures.answer ∙ c.if-not-take_image.false in
     let same : edition_in bs ≡ v = kind_edition _ _ (sym (kind_said bs taken) ∙ eqb-true _ _ (sym c.is_of.ensures ∙ c.if-is_of.true)) in
@@ -95,7 +95,7 @@ is_sayable-requires c =
 pub returns-then-not-is_sayable : goal.returns-then-not-is_sayable
 returns-then-not-is_sayable c =
     let a = c.args in
-    let v = edition_of a.newer in
+    let v = edition_of a.edition in
     let bs = a.bytes.now in
     let h = c.if-not-take_image.false in
     let taken = sym c.take_image.ensures.answer ∙ h in
@@ -117,7 +117,7 @@ fill-requires c =
 pub returns : goal.returns
 returns c =
     let a = c.args in
-    let v = edition_of a.newer in
+    let v = edition_of a.edition in
     let bs = a.bytes.now in
     let buffer = a.buffer.now in
     let h = c.if-not-take_image.false in

@@ -17,37 +17,37 @@ below w e h = omega (arith, e, h)
 known : (d : Dispatcher) → d.last < line_cabins → {n : ℕ} → n ≡ next_cabin d → n < line_cabins
 known d h e = rw e (next_known d h)
 
-pub returns-then-wide-ge-LINE_CABINS : goal.returns-then-wide-ge-LINE_CABINS
-returns-then-wide-ge-LINE_CABINS c =
+pub returns-then-from-ge-LINE_CABINS : goal.returns-then-from-ge-LINE_CABINS
+returns-then-from-ge-LINE_CABINS c =
     let w = c.args.d.now in
-    refused w c.sized.ensures next (sym (next_unsound (dispatcher_of w) (unfold dispatcher_of in omega (arith, c.if-wide-ge-LINE_CABINS.true, c.wide.ensures))))
+    refused w c.told-d next (sym (next_unsound (dispatcher_of w) (unfold dispatcher_of in omega (arith, c.if-from-ge-LINE_CABINS.true, c.from.ensures))))
     (λ z. omega (arith, z))
 
 pub next_cabin-cabin-requires : goal.next_cabin-cabin-requires
-next_cabin-cabin-requires c = below c.args.d.now c.wide.ensures c.if-wide-ge-LINE_CABINS.false
+next_cabin-cabin-requires c = below c.args.d.now c.from.ensures c.if-from-ge-LINE_CABINS.false
 
 pub bounds-d-served : goal.bounds-d-served
 bounds-d-served c =
     let w = c.args.d.now in
-    let low = below w c.wide.ensures c.if-wide-ge-LINE_CABINS.false in
+    let low = below w c.from.ensures c.if-from-ge-LINE_CABINS.false in
     omega (arith, known (dispatcher_of w) low c.next_cabin-cabin.ensures)
 
 pub returns-then-d-served-eq0 : goal.returns-then-d-served-eq0
 returns-then-d-served-eq0 c =
     let w = c.args.d.now in
-    let low = below w c.wide.ensures c.if-wide-ge-LINE_CABINS.false in
-    let found = c.wide-served.ensures ∙ c.next_cabin-cabin.ensures in
-    let silent = word_silent w c.wide-served.result (known (dispatcher_of w) low found) c.if-d-served-eq0.true in
-    refused w c.sized.ensures next (sym (next_none (dispatcher_of w) low (rw (sym found) silent))) (λ z. omega (arith, z))
+    let low = below w c.from.ensures c.if-from-ge-LINE_CABINS.false in
+    let found = c.from-served.ensures ∙ c.next_cabin-cabin.ensures in
+    let silent = word_silent w c.from-served.result (known (dispatcher_of w) low found) c.if-d-served-eq0.true in
+    refused w c.told-d next (sym (next_none (dispatcher_of w) low (rw (sym found) silent))) (λ z. omega (arith, z))
 
 pub returns : goal.returns
 unfolding line_row
 returns c =
-    let size = c.sized.ensures in
+    let size = c.told-d in
     let w = c.args.d.now in
-    let low = below w c.wide.ensures c.if-wide-ge-LINE_CABINS.false in
-    let found = c.wide-served.ensures ∙ c.next_cabin-cabin.ensures in
+    let low = below w c.from.ensures c.if-from-ge-LINE_CABINS.false in
+    let found = c.from-served.ensures ∙ c.next_cabin-cabin.ensures in
     let cabin = known (dispatcher_of w) low found in
-    let waits = word_waits w c.wide-served.result cabin c.if-d-served-eq0.false in
+    let waits = word_waits w c.from-served.result cabin c.if-d-served-eq0.false in
     given w size next _ _ (next_some (dispatcher_of w) low (rw (sym found) waits)) c.next_cabin-cabin.ensures
     (alarm_words w _ 0 _ size cabin ∙ ap₂ (λ (x y : ℕ). line_words_of (with_alarm (dispatcher_of w) x 0 y)) found c.next_cabin-cabin.ensures)

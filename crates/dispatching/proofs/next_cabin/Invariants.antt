@@ -1,13 +1,9 @@
--- The loop's invariant: the search of the definition, from c on among the cabins left, finds the cabin that is served next.
--- The measure is how many are left. Assumes nothing.
+-- The loop's invariant: the search of the definition, from c on among the cabins left, finds the cabin that is served next. Assumes nothing.
 use mathlib.Core.Path.{◌≡◌}
-use Prim.Native.Nat.{◌<◌}
+use Prim.Native.Nat.{◌-◌, ◌<◌}
 use Rattle.finite.specs.Below.{find}
 use Rattle.line.specs.Line.{line_cabins, waits, around, next_cabin, dispatcher_of}
 use Rattle.dispatching.proofs.next_cabin.Given as goal
 
-abbrev pub invariant-loop-left : goal.invariant-loop-left
-invariant-loop-left l = (l.c < line_cabins) × (find l.left around l.c (waits (dispatcher_of l.d)) ≡ next_cabin (dispatcher_of l.d))
-
-abbrev pub decreases-loop-left : goal.decreases-loop-left
-decreases-loop-left l = l.left
+abbrev pub invariant-loop : goal.invariant-loop
+invariant-loop l = (l.c < line_cabins) × (find (line_cabins - l.counter) around l.c (waits (dispatcher_of l.d)) ≡ next_cabin (dispatcher_of l.d))

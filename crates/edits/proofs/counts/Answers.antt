@@ -1,19 +1,19 @@
 -- `edits::counts` meets its contract. Assumes nothing.
-use mathlib.Core.Path.{sym, ◌∙◌}
+use mathlib.Core.Path.{sym}
 use native.Mathlib.Omega.{arith}
 use Rattle.finite.proofs.Below.{count_le}
 use Rattle.table.specs.Table.{in_use, steps_in_use}
 use Rattle.table.specs.Calls.{spoken_counts, counts_call}
 use Rattle.words.specs.Words.{table_of}
-use Rattle.words.proofs.Refusals.{table_passed, refused_answer, given_answer}
+use Rattle.words.proofs.Refusals.{passed_answer, table_passed, given_answer}
 use Rattle.edits.proofs.counts.Goals as goal
 
-pub returns-then-refusal-ne0 : goal.returns-then-refusal-ne0
+pub returns-in_err-check_table : goal.returns-in_err-check_table
 unfolding counts_call
-returns-then-refusal-ne0 c = refused_answer c.table_refusal-refusal.ensures _ _ c.if-refusal-ne0.true
+returns-in_err-check_table c = passed_answer _ c.in_err-check_table.ensures _ c.from_residual.result c.from_residual.ensures.1 _
 
 pub count_used-n-requires : goal.count_used-n-requires
-count_used-n-requires c = (table_passed _ (sym c.table_refusal-refusal.ensures ∙ c.if-refusal-ne0.false)).formed.most
+count_used-n-requires c = (table_passed _ (sym c.in_ok-check_table.ensures)).formed.most
 
 pub overflow_sub-result : goal.overflow_sub-result
 unfolding steps_in_use
@@ -25,4 +25,4 @@ pub returns : goal.returns
 unfolding counts_call spoken_counts
 returns c =
     let x = c in
-    given_answer x.table_refusal-refusal.ensures _ _ _ x.if-refusal-ne0.false (rw (c.capacity.ensures, c.count_used-n.ensures))
+    given_answer x.in_ok-check_table.ensures _ _ _ (rw (c.capacity.ensures, c.count_used-n.ensures))

@@ -27,7 +27,7 @@ returns-then-not-capacity_fits c =
 list : (c : After-quotas_fit) →
     let a = c.args in
     c.quotas_fit.result ≡ list_fits a.capacity a.quotas.now
-list c = c.quotas_fit.ensures ∙ list_quotas _ _ c.listed.ensures
+list c = c.quotas_fit.ensures ∙ list_quotas _ _ c.told-quotas
 
 pub returns-then-not-quotas_fit : goal.returns-then-not-quotas_fit
 unfolding fresh_call unless first

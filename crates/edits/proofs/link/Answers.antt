@@ -9,7 +9,7 @@ use Rattle.table.specs.Sound.{Sound}
 use Rattle.table.specs.Calls.{weak_bit, link_refusal, link_table, link_call}
 use Rattle.table.proofs.Links.{used_place}
 use Rattle.table.proofs.Calls.{LinkFits, link_fits}
-use Rattle.words.proofs.Refusals.{accepted_sound, refused_answer, refused_words, given_answer, given_words}
+use Rattle.words.proofs.Refusals.{accepted_sound, passed_answer, refused_words, given_answer, given_words}
 use Rattle.words.proofs.Formed.{formed_relinkable}
 use Rattle.edits.proofs.link.Goals as goal
 
@@ -34,51 +34,51 @@ module _ (t : Table) (i e k f : ℕ) (z : link_refusal t i e k f ≡ 0) where
   target_bit : own_bit t (target_of t i e) < counters
   target_bit = sound_table.formed.own _ target_used
 
-pub returns-then-refusal-ne0 : goal.returns-then-refusal-ne0
+pub returns-in_err-check_link : goal.returns-in_err-check_link
 unfolding link_call
-returns-then-refusal-ne0 c =
-    let e = c.link_refusal-refusal.ensures in
+returns-in_err-check_link c =
+    let e = c.in_err-check_link.ensures in
     record {
-      answer = refused_answer e _ _ c.if-refusal-ne0.true;
-      table = refused_words e _ _ c.sized.ensures c.if-refusal-ne0.true;
+      answer = passed_answer _ e _ c.from_residual.result c.from_residual.ensures.1 _;
+      table = refused_words _ e _ _ c.told-t;
     }
 
 pub target_at-j-requires : goal.target_at-j-requires
 target_at-j-requires c =
-    let z = sym c.link_refusal-refusal.ensures ∙ c.if-refusal-ne0.false in
-    rw (c.wide-2.ensures, c.wide.ensures) (source_place _ _ _ _ _ z, (fits _ _ _ _ _ z).hold.exit)
+    let z = sym c.in_ok-check_link.ensures in
+    rw (c.from-2.ensures, c.from.ensures) (source_place _ _ _ _ _ z, (fits _ _ _ _ _ z).hold.exit)
 
 pub own_at-own-requires : goal.own_at-own-requires
 own_at-own-requires c =
-    let z = sym c.link_refusal-refusal.ensures ∙ c.if-refusal-ne0.false in
+    let z = sym c.in_ok-check_link.ensures in
     let target = c.target_at-j.ensures in
-    rw (c.wide-3.ensures, target, c.wide-2.ensures, c.wide.ensures) (target_place _ _ _ _ _ z)
+    rw (c.from-3.ensures, target, c.from-2.ensures, c.from.ensures) (target_place _ _ _ _ _ z)
 
 pub overflow_sub-weak : goal.overflow_sub-weak
 overflow_sub-weak c =
-    let z = sym c.link_refusal-refusal.ensures ∙ c.if-refusal-ne0.false in
+    let z = sym c.in_ok-check_link.ensures in
     let target = c.target_at-j.ensures in
-    rw (c.own_at-own.ensures, c.wide-3.ensures, target, c.wide-2.ensures, c.wide.ensures) (omega (arith, target_bit _ _ _ _ _ z))
+    rw (c.own_at-own.ensures, c.from-3.ensures, target, c.from-2.ensures, c.from.ensures) (omega (arith, target_bit _ _ _ _ _ z))
 
 pub relink-requires : goal.relink-requires
 relink-requires c =
-    let z = sym c.link_refusal-refusal.ensures ∙ c.if-refusal-ne0.false in
+    let z = sym c.in_ok-check_link.ensures in
     let f = fits _ _ _ _ _ z in
     let target = c.target_at-j.ensures in
-    rw (c.wide-5.ensures, c.wide-4.ensures, target, c.wide-2.ensures, c.wide.ensures)
+    rw (c.from-5.ensures, c.from-4.ensures, target, c.from-2.ensures, c.from.ensures)
     (formed_relinkable (sound_table _ _ _ _ _ z).formed _ _ _ _ f.fill.used f.fill.exit (target_place _ _ _ _ _ z) (omega arith))
 
 pub returns : goal.returns
 unfolding link_call link_table weak_bit
 returns c =
-    let e = c.link_refusal-refusal.ensures in
-    let size = c.sized.ensures in
+    let e = c.in_ok-check_link.ensures in
+    let size = c.told-t in
     let target = c.target_at-j.ensures in record {
-      answer = given_answer e _ _ _ c.if-refusal-ne0.false refl;
-      table = given_words e _ _ _ size c.if-refusal-ne0.false
+      answer = given_answer e _ _ _ refl;
+      table = given_words e _ _ _ size
           (record {
             table = c.relink.ensures.table
-                ∙ rw (c.wide-5.ensures, c.wide-4.ensures, c.own_at-own.ensures, c.wide-3.ensures, target, c.wide-2.ensures, c.wide.ensures);
+                ∙ rw (c.from-5.ensures, c.from-4.ensures, c.own_at-own.ensures, c.from-3.ensures, target, c.from-2.ensures, c.from.ensures);
             size = c.relink.ensures.size;
           });
     }

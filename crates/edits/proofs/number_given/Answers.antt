@@ -29,7 +29,7 @@ loop-left-preserved c =
     let e = c.next_number-k-in-loop-left.ensures in
     let left = c.if-left-eq0.false in
     let used : not (in_use (table_of c.args.t.now) loop.k) ≡ false =
-    ap not (rw c.wide.ensures at (sym c.in_use.ensures ∙ c.if-not-in_use.false)) in (
+    ap not (rw c.from.ensures at (sym c.in_use.ensures ∙ c.if-not-in_use.false)) in (
       rw e (after_place n loop.k (rw c.capacity-capacity.ensures c.requires.0)),
       rw e (find_turn loop.left (after n) loop.k (free c.args.t.now) left used ∙ loop.invariant.1),
     )
@@ -43,6 +43,6 @@ returns c =
     elim c.then-left-eq0.branch [
       | then-left-eq0-via-then-left-eq0 w ↦ sym (find_none loop.left next loop.k (free t) w.if-left-eq0.true)
       | then-left-eq0-via-else-left-eq0+then-not-in_use w ↦
-          sym (find_here loop.left next loop.k (free t) (ap not (rw w.wide.ensures at (sym w.in_use.ensures ∙ w.if-not-in_use.true))))
+          sym (find_here loop.left next loop.k (free t) (ap not (rw w.from.ensures at (sym w.in_use.ensures ∙ w.if-not-in_use.true))))
     ] in
     found ∙ loop.invariant.1 ∙ ap (λ (n : ℕ). number_given n (table_of t).last (free t)) c.capacity-capacity.ensures

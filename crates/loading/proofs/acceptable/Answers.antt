@@ -18,9 +18,9 @@ sure c = sym c.is_sound.ensures ∙ c.if-not-is_sound.false
 pub has_old_contents-requires : goal.has_old_contents-requires
 has_old_contents-requires c = (test_sound _ (sure c.before)).formed.most
 
-pub returns-then-newer : goal.returns-then-newer
-unfolding contents_sayable
-returns-then-newer c = rw (sure c.before, c.if-newer.true)
+pub returns-in-One : goal.returns-in-One
+returns-in-One c = rw (sure c.before.before, c.in-One.is) c.has_old_contents.ensures
 
-pub returns-else-newer : goal.returns-else-newer
-returns-else-newer c = rw (sure c.before.before, c.if-newer.false) c.has_old_contents.ensures
+pub returns-in-Two : goal.returns-in-Two
+unfolding contents_sayable
+returns-in-Two c = rw (sure c.before, c.in-Two.is)

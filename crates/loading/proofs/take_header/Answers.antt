@@ -10,10 +10,10 @@ unfolding blank_table
 returns c =
     let q = c.quotas_in-quotas in
     let e = c.erase.ensures in
-    let a = c.args in
+    let h = c.args.header.now in
     let put = c.put_quotas.ensures in record {
       table = put.table
           ∙ ap (λ (t : Table). with_numbers t t.capacity t.last q.result) (erased_table _ _ _ e)
-          ∙ ap (with_numbers (blank_table a.capacity a.last) a.capacity a.last) q.ensures;
+          ∙ ap (with_numbers (blank_table h.capacity h.last) h.capacity h.last) q.ensures;
       size = put.size ∙ erased_size _ _ _ e;
     }

@@ -7,50 +7,44 @@ use Rattle.table.specs.Table.{Table, counters, exit_places}
 use Rattle.words.specs.Words.{table_of}
 use Rattle.recording.proofs.Counting.{counted_to, counted_none, counted_hit, counted_miss, counted_le, counted_bit, counted_all}
 use Rattle.recording.proofs.count_links.Goals as goal
-use Rattle.recording.proofs.count_links.Goals.{else-wide-lt-PLACES, then-wide-lt-PLACES}
+use Rattle.recording.proofs.count_links.Goals.{else-from-lt-PLACES, then-from-lt-PLACES}
 
 -- the bit at an exit's place is 0 or 1
 small : (t : Table) {u : Table} (p : ℕ) {b : ℕ} → u ≡ counted_to t p → ((q : ℕ) → get_or t.bits q 0 < counters) → b ≡ get_or u.bits p 0 → b < 2
 small t {u} p q r e = rw e (counted_bit t u p q r)
 
-pub exit_places-n-requires : goal.exit_places-n-requires
-exit_places-n-requires c =
-    let e = c.wide.ensures ∙ c.capacity.ensures in
-    rw e c.requires.0
-
 pub loop-p-init : goal.loop-p-init
 loop-p-init c =
-    let e = c.wide.ensures ∙ c.capacity.ensures in
-    (omega arith, c.exit_places-n.ensures ∙ ap (λ (n : ℕ). exit_places n) e, record { table = counted_none _ c.requires.2; size = refl })
+    let e = c.from.ensures ∙ c.capacity.ensures in
+    (c.exit_places-n.ensures ∙ ap (λ (n : ℕ). exit_places n) e, record { table = counted_none _ c.requires.2; size = refl })
 
 pub raise-requires : goal.raise-requires
 raise-requires c =
     let t = table_of c.args.t.now in
     let inv = c.loop-p.invariant in
-    let low = rw c.wide-in-loop-p.ensures at c.if-wide-lt-PLACES.true in
-    let bit = small t c.loop-p.p inv.2.table c.requires.1 c.bit_in-bit.ensures in
-    let le = counted_le t _ c.loop-p.p inv.2.table _ _ low bit in
-    (low, bit, λ d. omega (arith, le, inv.1, c.requires.0, c.loop-p-test.true))
+    let low = rw c.from-in-loop-p.ensures at c.if-from-lt-PLACES.true in
+    let bit = small t c.loop-p.p inv.1.table c.requires.1 c.bit_in-bit.ensures in
+    let le = counted_le t _ c.loop-p.p inv.1.table _ _ low bit in
+    (low, bit, λ d. omega (arith, le, inv.0, c.requires.0, c.loop-p-test.true))
 
 pub loop-p-preserved : goal.loop-p-preserved
 loop-p-preserved c =
     let u = table_of c.args.t.now in
     let p = c.loop-p.p in
     let inv = c.loop-p.invariant in
-    let e = inv.2.table in
+    let e = inv.1.table in
     let j = c.target_in-target.ensures in
-    let to = c.wide-in-loop-p.ensures in (
-      omega arith,
-      inv.1,
-      elim c.if-wide-lt-PLACES.branch [
-        | then-wide-lt-PLACES w ↦
+    let to = c.from-in-loop-p.ensures in (
+      inv.0,
+      elim c.if-from-lt-PLACES.branch [
+        | then-from-lt-PLACES w ↦
             let b = w.bit_in-bit.ensures in
             rw w.t-is
             (record {
-              table = counted_hit u _ p e _ _ _ w.raise.ensures.table j b (rw to at w.if-wide-lt-PLACES.true) (small u p e c.requires.1 b);
-              size = w.raise.ensures.size ∙ inv.2.size;
+              table = counted_hit u _ p e _ _ _ w.raise.ensures.table j b (rw to at w.if-from-lt-PLACES.true) (small u p e c.requires.1 b);
+              size = w.raise.ensures.size ∙ inv.1.size;
             })
-        | else-wide-lt-PLACES w ↦ rw w.t-is (record { table = counted_miss u _ p e _ j (rw to at w.if-wide-lt-PLACES.false); size = inv.2.size })
+        | else-from-lt-PLACES w ↦ rw w.t-is (record { table = counted_miss u _ p e _ j (rw to at w.if-from-lt-PLACES.false); size = inv.1.size })
       ],
     )
 
@@ -58,11 +52,5 @@ pub returns : goal.returns
 returns c =
     let t = table_of c.args.t.now in
     let inv = c.loop-p.invariant in
-    let e : c.loop-p.p ≡ exit_places t.capacity = omega (arith, inv.0, inv.1) in
-    record { table = inv.2.table ∙ ap (counted_to t) e ∙ counted_all t; size = inv.2.size }
-
-pub target_in-target-requires : goal.target_in-target-requires
-target_in-target-requires c = omega (arith, c.loop-p.invariant.1, c.requires.0)
-
-pub bit_in-bit-requires : goal.bit_in-bit-requires
-bit_in-bit-requires c = omega (arith, c.loop-p.invariant.1, c.requires.0)
+    let e : c.loop-p.p ≡ exit_places t.capacity = omega (arith, inv.0) in
+    record { table = inv.1.table ∙ ap (counted_to t) e ∙ counted_all t; size = inv.1.size }

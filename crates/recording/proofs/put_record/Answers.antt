@@ -14,7 +14,7 @@ returns c =
     let step = c in
     let wide = step in
     let r = wide.args.r in
-    let p = exit_places wide.wide-i.result in
+    let p = exit_places wide.from-i.result in
     let s = r.bits in
     record {
       table =
@@ -24,6 +24,6 @@ returns c =
           with_links t (sets t.targets p (r.first ∷ r.second ∷ r.third ∷ r.fourth ∷ []))
           (sets t.bits p (s % 2 ∷ s / 2 % 2 ∷ s / 4 % 2 ∷ s / 8 % 2 ∷ [])) t.counts)
           step.put_step.ensures.table ∙
-          rw wide.wide-i.ensures;
+          rw wide.from-i.ensures;
       size = c.put_links.ensures.size ∙ step.put_step.ensures.size;
     }

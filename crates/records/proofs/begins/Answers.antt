@@ -5,13 +5,13 @@ use lib.Dec.{eqb}
 use borrow.Author.Tests.{eq-eqb, ne_eqb}
 use Rattle.records.proofs.begins.Goals as goal
 
-pub returns-then-wide-size : goal.returns-then-wide-size
-returns-then-wide-size c =
+pub returns-then-from-size : goal.returns-then-from-size
+returns-then-from-size c =
     let kind = c.args.kind in
-    let long = sym (c.wide.ensures ∙ c.word_at.ensures) ∙ c.if-wide-size.true in
-    rw (eq-eqb _ _ long) (ap (λ (n : ℕ). eqb n kind) c.word_at-then-wide-size.ensures)
+    let long = sym (c.from.ensures ∙ c.word_at.ensures) ∙ c.if-from-size.true in
+    rw (eq-eqb _ _ long) (ap (λ (n : ℕ). eqb n kind) c.word_at-then-from-size.ensures)
 
-pub returns-else-wide-size : goal.returns-else-wide-size
-returns-else-wide-size c =
-    let first = c.wide.ensures ∙ c.word_at.ensures in
-    rw (ne_eqb _ _ (λ e. c.if-wide-size.false (first ∙ e))) (ne_eqb _ _ c.if-wide-size.false)
+pub returns-else-from-size : goal.returns-else-from-size
+returns-else-from-size c =
+    let first = c.from.ensures ∙ c.word_at.ensures in
+    rw (ne_eqb _ _ (λ e. c.if-from-size.false (first ∙ e))) (ne_eqb _ _ c.if-from-size.false)

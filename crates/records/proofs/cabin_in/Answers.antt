@@ -4,10 +4,10 @@ use Rattle.image.specs.Image.{field_at}
 use Rattle.records.specs.Records.{cabin_at}
 use Rattle.records.proofs.cabin_in.Goals as goal
 
-pub returns-then-newer : goal.returns-then-newer
+pub returns-in-Two : goal.returns-in-Two
 unfolding cabin_at field_at
-returns-then-newer c = rw c.if-newer.true c.word_at.ensures
+returns-in-Two c = rw c.in-Two.is c.word_at.ensures
 
-pub returns : goal.returns
+pub returns-in-One : goal.returns-in-One
 unfolding cabin_at
-returns c = rw c.if-newer.false refl
+returns-in-One c = rw c.in-One.is refl

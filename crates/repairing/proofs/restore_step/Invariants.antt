@@ -1,14 +1,8 @@
-use mathlib.Core.Path.{◌≡◌}
-use Prim.Native.Nat.{◌-◌, ◌≤◌}
 use Rattle.finite.specs.Below.{rounds}
-use Rattle.table.specs.Table.{exits_of}
 use Rattle.table.specs.Clear.{weakened}
 use Rattle.words.specs.Words.{table_of, Becomes}
 use Rattle.repairing.specs.Repairing.{Standing}
 use Rattle.repairing.proofs.restore_step.Given as goal
 
 abbrev pub invariant-loop-e : goal.invariant-loop-e
-invariant-loop-e l = (l.n ≡ exits_of l.k) × (l.e ≤ l.n) × Standing (table_of l.t) l.k × Becomes l.initial.t l.t (rounds l.e (λ f u. weakened u l.k f) (table_of l.initial.t))
-
-abbrev pub decreases-loop-e : goal.decreases-loop-e
-decreases-loop-e l = l.n - l.e
+invariant-loop-e l = Standing (table_of l.t) l.k × Becomes l.initial.t l.t (rounds l.e (λ f u. weakened u l.k f) (table_of l.initial.t))

@@ -1,5 +1,5 @@
 -- `repairing::unlink_step` meets its contract. The loop's invariant: the exits below e are empty, by the definition's own rounds, and the table is in
--- order. The measure is what is left of the exits. Assumes nothing.
+-- order. Assumes nothing.
 use mathlib.Core.Path.{◌≡◌}
 use native.Mathlib.Omega.{arith}
 use Rattle.table.specs.Table.{exits_of}
@@ -10,20 +10,18 @@ use Rattle.repairing.proofs.Laws.{standing_relinkable, standing_emptied, standin
 use Rattle.repairing.proofs.unlink_step.Goals as goal
 
 pub loop-e-init : goal.loop-e-init
-loop-e-init c = (c.exits_of-n.ensures, omega arith, c.requires, becomes_none _ _)
+loop-e-init c = (c.requires, becomes_none _ _)
 
 pub relink-requires : goal.relink-requires
-relink-requires c = let l = c.loop-e in standing_relinkable l.invariant.2 l.e (omega arith) 0 0 (omega arith) (omega arith)
+relink-requires c = let l = c.loop-e in standing_relinkable l.invariant.0 l.e (omega arith) 0 0 (omega arith) (omega arith)
 
 pub loop-e-preserved : goal.loop-e-preserved
 loop-e-preserved c =
     let l = c.loop-e in
     let k = c.args.k in
     let b = c.relink.ensures in (
-      l.invariant.0,
-      omega arith,
-      standing_after b (standing_emptied l.invariant.2 l.e (omega arith)),
-      becomes_next (λ f u. relink u k f 0 0) l.invariant.3 b,
+      standing_after b (standing_emptied l.invariant.0 l.e (omega arith)),
+      becomes_next (λ f u. relink u k f 0 0) l.invariant.1 b,
     )
 
 pub returns : goal.returns
@@ -32,10 +30,4 @@ returns c =
     let l = c.loop-e in
     let k = c.args.k in
     let e : l.e ≡ exits_of k = omega arith in
-    becomes_done (λ f u. relink u k f 0 0) _ l.e (exits_of k) e l.invariant.3
-
-pub overflow_add-e : goal.overflow_add-e
-overflow_add-e c = omega arith
-
-pub loop-e-smaller : goal.loop-e-smaller
-loop-e-smaller c = omega arith
+    becomes_done (λ f u. relink u k f 0 0) _ l.e (exits_of k) e l.invariant.1

@@ -1,4 +1,3 @@
-use Prim.Native.Nat.{◌-◌, ◌≤◌}
 use Rattle.finite.specs.Below.{rounds}
 use Rattle.table.specs.Clear.{unlinked}
 use Rattle.words.specs.Words.{table_of, Becomes}
@@ -8,7 +7,4 @@ use Rattle.repairing.proofs.unlink_steps.Given as goal
 
 abbrev pub invariant-loop-k : goal.invariant-loop-k
 invariant-loop-k l =
-    (l.k ≤ l.n) × Repairable (table_of l.t) l.n l.doubt × Becomes l.initial.t l.t (rounds l.k (each_round (as_marks l.n l.doubt) unlinked) (table_of l.initial.t))
-
-abbrev pub decreases-loop-k : goal.decreases-loop-k
-decreases-loop-k l = l.n - l.k
+    Repairable (table_of l.t) l.n l.doubt × Becomes l.initial.t l.t (rounds l.k (each_round (as_marks l.n l.doubt) unlinked) (table_of l.initial.t))

@@ -1,5 +1,4 @@
--- `repairing::want_targets` meets its contract. The loop's invariant: what the exits below e lead to has been added. The measure is what is left of
--- the exits. Assumes nothing.
+-- `repairing::want_targets` meets its contract. The loop's invariant: what the exits below e lead to has been added. Assumes nothing.
 use mathlib.Core.Path.{◌≡◌, ◌∙◌, subst}
 use Prim.Native.Nat.{ℕ, ◌<◌}
 use native.Mathlib.Omega.{arith}
@@ -14,7 +13,7 @@ use Rattle.repairing.proofs.want_targets.Goals as goal
 pub loop-e-init : goal.loop-e-init
 loop-e-init c =
     let a = c.args in
-    (c.exits_of-n.ensures, omega arith, added_start (table_of a.t.now) a.doubt.now a.wanted.now a.k a.low)
+    added_start (table_of a.t.now) a.doubt.now a.wanted.now a.k a.low
 
 pub want_step-mark-requires : goal.want_step-mark-requires
 want_step-mark-requires c =
@@ -22,18 +21,14 @@ want_step-mark-requires c =
     let s = c in
     let e : l.e < exits_of s.args.k = omega arith in
     let j = target_place s.requires.2 s.args.k l.e e in
-    (rw (c.wide.ensures, c.target_at.ensures) j, l.invariant.2.size ∙ s.requires.1)
+    (rw (c.from.ensures, c.target_at.ensures) j, l.invariant.size ∙ s.requires.1)
 
 pub loop-e-preserved : goal.loop-e-preserved
 loop-e-preserved c =
     let l = c.loop-e in
     let a = c.args in
-    let j = c.wide.ensures ∙ c.target_at.ensures in (
-      l.invariant.0,
-      omega arith,
-      added_exit (table_of a.t.now) a.doubt.now a.wanted.now l.wanted _ a.k l.e a.low l.mark _ l.invariant.2
-          (rw j at c.want_step-mark.ensures),
-    )
+    let j = c.from.ensures ∙ c.target_at.ensures in
+    added_exit (table_of a.t.now) a.doubt.now a.wanted.now l.wanted _ a.k l.e a.low l.mark _ l.invariant (rw j at c.want_step-mark.ensures)
 
 pub returns : goal.returns
 unfolding linked linked_within
@@ -42,13 +37,4 @@ returns c =
     let a = c.args in
     let e : l.e ≡ exits_of a.k = omega arith in
     subst (λ (m : ℕ). Added (linked_within m (table_of a.t.now) a.k) a.doubt.now a.wanted.now l.wanted a.low l.mark) e
-    l.invariant.2
-
-pub target_at-requires : goal.target_at-requires
-target_at-requires c = let p = c.requires in (p.0, omega arith)
-
-pub overflow_add-e : goal.overflow_add-e
-overflow_add-e c = omega arith
-
-pub loop-e-smaller : goal.loop-e-smaller
-loop-e-smaller c = omega arith
+    l.invariant

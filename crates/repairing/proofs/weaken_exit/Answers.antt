@@ -18,7 +18,7 @@ pub returns-then-j-eq0 : goal.returns-then-j-eq0
 returns-then-j-eq0 c =
     let a = c.args in
     record {
-      table = weaken_none (table_of a.t.now) a.k a.e (sym (c.wide-j.ensures ∙ c.target_at-target.ensures) ∙ c.if-j-eq0.true);
+      table = weaken_none (table_of a.t.now) a.k a.e (sym (c.from-j.ensures ∙ c.target_at-target.ensures) ∙ c.if-j-eq0.true);
       size = refl;
     }
 
@@ -26,7 +26,7 @@ pub returns-then-b-own_at : goal.returns-then-b-own_at
 returns-then-b-own_at c =
     let a = c.args in
     let t = table_of a.t.now in
-    let own = c.own_at.ensures ∙ ap (own_bit t) (c.wide-j.ensures ∙ c.target_at-target.ensures) in
+    let own = c.own_at.ensures ∙ ap (own_bit t) (c.from-j.ensures ∙ c.target_at-target.ensures) in
     record { table = weaken_weak t a.k a.e (λ q. c.if-b-own_at.true (c.bit_at-b.ensures ∙ q ∙ sym own)); size = refl }
 
 pub overflow_sub-b : goal.overflow_sub-b
@@ -44,10 +44,10 @@ returns c =
     let a = c.args in
     let t = table_of a.t.now in
     let target = c.target_at-target.ensures in
-    let own = c.own_at.ensures ∙ ap (own_bit t) (c.wide-j.ensures ∙ target) in
+    let own = c.own_at.ensures ∙ ap (own_bit t) (c.from-j.ensures ∙ target) in
     subst (Becomes a.t.now _)
     (ap₂ (λ (j b : ℕ). relink t a.k a.e j (1 - b)) target c.bit_at-b.ensures ∙
-    weaken_strong t a.k a.e (λ z. c.if-j-eq0.false (c.wide-j.ensures ∙ target ∙ z))
+    weaken_strong t a.k a.e (λ z. c.if-j-eq0.false (c.from-j.ensures ∙ target ∙ z))
     (sym c.bit_at-b.ensures ∙ c.if-b-own_at.false ∙ own))
     c.relink.ensures
 
@@ -58,4 +58,4 @@ pub bit_at-b-requires : goal.bit_at-b-requires
 bit_at-b-requires c = let p = c.requires in (standing_place p.0, p.1)
 
 pub own_at-requires : goal.own_at-requires
-own_at-requires c = rw c.wide-j.ensures (target_below c.requires.0 c.requires.1 c.target_at-target.ensures)
+own_at-requires c = rw c.from-j.ensures (target_below c.requires.0 c.requires.1 c.target_at-target.ensures)

@@ -1,31 +1,35 @@
--- `session::feed` meets its contract. The loop's invariant is `Fedto`; the measure is what is left of the block. Assumes nothing.
-use mathlib.Core.Path.{sym}
+-- `session::feed` meets its contract. The loop's invariant is `Fedto`. Assumes nothing.
+use mathlib.Core.Path.{refl}
 use native.Mathlib.Omega.{arith}
-use lib.Seq.{length-take-le}
 use Rattle.words.specs.Words.{table_of}
 use Rattle.session.specs.Session.{state_of}
 use Rattle.session.proofs.Laws.{fed_none, fed_line, fed_byte, fed_all}
+use Rattle.std.proofs.Common.{rules}
 use Rattle.session.proofs.feed.Goals as goal
+use Rattle.session.proofs.feed.Goals.{then-byte-eq-LINE_END, else-byte-eq-LINE_END}
 
-pub loop-i-init : goal.loop-i-init
-loop-i-init c =
+pub loop-byte-init : goal.loop-byte-init
+loop-byte-init c =
     let a = c.args in
-    fed_none a.block.now a.out.now a.line.now (table_of a.t.now) a.kept c.requires.0 c.sized.ensures
+    fed_none a.block.now a.line.now (table_of a.t.now) _
 
-pub slice_bounds-end_line-end : goal.slice_bounds-end_line-end
-slice_bounds-end_line-end c =
-    let k = c.loop-i in
-    sym (length-take-le k.kept k.line (omega (arith, k.invariant.most, k.invariant.size)))
-
-pub loop-i-preserved-then-byte-eq-LINE_END : goal.loop-i-preserved-then-byte-eq-LINE_END
-loop-i-preserved-then-byte-eq-LINE_END c =
-    let p = c.end_line-end.ensures in
-    fed_line c.loop-i.invariant c.loop-i-test.true c.if-byte-eq-LINE_END.true p.table p.place p.text p.room
-
-pub loop-i-preserved : goal.loop-i-preserved
-loop-i-preserved c =
-    fed_byte c.loop-i.invariant c.loop-i-test.true c.if-byte-eq-LINE_END.false c.keep_byte-kept.ensures
+pub loop-byte-preserved : goal.loop-byte-preserved
+loop-byte-preserved c =
+    let before = c.loop-byte.invariant in
+    let inside = c.loop-byte-test.true in
+    elim c.if-byte-eq-LINE_END.branch [
+      | then-byte-eq-LINE_END w ↦
+          let p = w.end_line.ensures in
+          let q = w.as_bytes.ensures in
+          rw (w.t-is, w.line-is, w.writer-is, w.clear.ensures)
+          (fed_line before inside w.if-byte-eq-LINE_END.true (rw q at p.table) (rw q at p.text) p.room)
+      | else-byte-eq-LINE_END w ↦ rw (w.t-is, w.line-is, w.writer-is) (fed_byte before inside w.if-byte-eq-LINE_END.false w.keep.ensures)
+    ]
 
 pub returns : goal.returns
 unfolding state_of
-returns c = fed_all c.loop-i.invariant c.loop-i-test.false c.requires.1
+returns c =
+    let f = c.loop-byte.invariant in
+    -- the bytes are those lent, so `search` finds what `out` is at the end
+    let l = f.puts.lent in
+    fed_all f (omega arith) refl c.requires (search rules)

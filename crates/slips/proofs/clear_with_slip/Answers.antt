@@ -4,11 +4,12 @@ use mathlib.Core.List.{List, ◌++◌}
 use Prim.Native.Nat.{ℕ}
 use native.Mathlib.Omega.{arith}
 use lib.ListN.{length, drop}
+use Rattle.std.proofs.lemmas.Result.{err_from_is_err_and}
 use Rattle.finite.specs.Below.{count}
-use Rattle.table.specs.declared.Answer.TheVariants.{Refused}
+use Rattle.table.specs.Said.{Refused}
 use Rattle.table.specs.Table.{Table}
 use Rattle.table.specs.Clear.{cleared, clear_refusal}
-use Rattle.table.proofs.Calls.{clear_fits, clear_sound}
+use Rattle.table.proofs.Calls.{number_not_zero, clear_fits, clear_sound}
 use Rattle.table.proofs.Sound.{sound_test}
 use Rattle.image.specs.Slip.{changed, slip, slip_size, slip_length, SlipOutcome, clear_slip_call}
 use Rattle.image.proofs.TakenBack.{Led, cleared_led, slip_refused, slip_short, slip_fits, slip_made}
@@ -53,56 +54,52 @@ written t v i e n buffer out q m h =
     h ∙ ap (λ (k : ℕ). slip i e t v ++ drop (slip_size k) buffer) m
     ∙ ap (λ (u : Table). slip i e t u ++ drop (slip_size (count t.capacity (changed t u))) buffer) q
 
-pub returns-then-refusal-ne0 : goal.returns-then-refusal-ne0
-returns-then-refusal-ne0 c =
+pub returns-in_err-check_clear : goal.returns-in_err-check_clear
+returns-in_err-check_clear c =
     let t = table_of c.args.t.now in
-    let e = c.clear_refusal-refusal.ensures in
-    unchanged c.args.t.now c.args.buffer.now c.args.step c.args.exit c.sized.ensures
-    (slip_refused t c.args.step c.args.exit c.args.buffer.now (λ z. c.if-refusal-ne0.true (e ∙ z))
-    ∙ ap (λ (n : ℕ). record { answer = Refused n; table = t; buffer = c.args.buffer.now }) (sym e))
+    let e = c.in_err-check_clear.ensures in
+    let p = err_from_is_err_and c.from_residual.result c.from_residual.ensures.1 in
+    rw (p.1, p.2)
+    (unchanged c.args.t.now c.args.buffer.now c.args.step c.args.exit c.told-t
+    (slip_refused t c.args.step c.args.exit c.args.buffer.now (λ z. number_not_zero _ (e ∙ z))
+    ∙ ap (λ (n : ℕ). record { answer = Refused n; table = t; buffer = c.args.buffer.now }) (sym e)))
 
-pub clear_exit-answer-requires : goal.clear_exit-answer-requires
-clear_exit-answer-requires c =
+pub clear_exit-counts-requires : goal.clear_exit-counts-requires
+clear_exit-counts-requires c =
     let t = table_of c.args.t.now in
-    let z = sym c.clear_refusal-refusal.ensures ∙ c.if-refusal-ne0.false in
-    (clear_sound t _ _ z, rw (c.wide.ensures, c.wide-2.ensures) (clear_fits t c.args.step c.args.exit z))
+    let z = sym c.in_ok-check_clear.ensures in
+    (clear_sound t _ _ z, rw (c.from.ensures, c.from-2.ensures) (clear_fits t c.args.step c.args.exit z))
 
-pub count_changed-steps-requires : goal.count_changed-steps-requires
-count_changed-steps-requires c =
-    let z = sym c.clear_refusal-refusal.ensures ∙ c.if-refusal-ne0.false in
-    let b = c.clear_exit-answer.ensures.table.table in
-    led _ _ _ z (rw (c.wide.ensures, c.wide-2.ensures) at b)
+pub invariant_of-tables : goal.invariant_of-tables
+invariant_of-tables c =
+    let z = sym c.in_ok-check_clear.ensures in
+    let b = c.clear_exit-counts.ensures.table.table in
+    record { sound = led _ _ _ z (rw (c.from.ensures, c.from-2.ensures) at b) }
 
 pub returns-then-buffer-slip_size : goal.returns-then-buffer-slip_size
 returns-then-buffer-slip_size c =
     let t = table_of c.args.t.now in
-    let z = sym c.clear_refusal-refusal.ensures ∙ c.if-refusal-ne0.false in
-    let b = c.clear_exit-answer.ensures.table.table in
-    let l = long _ _ _ z (rw (c.wide.ensures, c.wide-2.ensures) at b) c.count_changed-steps.ensures c.slip_size.ensures in
-    unchanged c.args.t.now c.args.buffer.now c.args.step c.args.exit c.sized.ensures
+    let z = sym c.in_ok-check_clear.ensures in
+    let b = c.clear_exit-counts.ensures.table.table in
+    let l = long _ _ _ z (rw (c.from.ensures, c.from-2.ensures) at b) c.count_changed-steps.ensures c.slip_size.ensures in
+    unchanged c.args.t.now c.args.buffer.now c.args.step c.args.exit c.told-t
     (slip_short t c.args.step c.args.exit c.args.buffer.now z (omega (arith, c.if-buffer-slip_size.true, l)))
-
-pub put_slip-requires : goal.put_slip-requires
-put_slip-requires c =
-    let z = sym c.clear_refusal-refusal.ensures ∙ c.if-refusal-ne0.false in
-    let b = c.clear_exit-answer.ensures.table.table in
-    (led _ _ _ z (rw (c.wide.ensures, c.wide-2.ensures) at b), c.count_changed-steps.ensures, omega (arith, c.if-buffer-slip_size.false, c.slip_size.ensures))
 
 pub returns : goal.returns
 returns c =
     let t = table_of c.args.t.now in
-    let w = c.clear_exit-answer.new.t in
-    let z = sym c.clear_refusal-refusal.ensures ∙ c.if-refusal-ne0.false in
-    let a = c.clear_exit-answer.ensures.answer in
-    let b = c.clear_exit-answer.ensures.table.table in
-    let worked = rw (c.wide.ensures, c.wide-2.ensures) at b in
+    let w = c.clear_exit-counts.new.t in
+    let z = sym c.in_ok-check_clear.ensures in
+    let a = c.clear_exit-counts.ensures.answer in
+    let b = c.clear_exit-counts.ensures.table.table in
+    let worked = rw (c.from.ensures, c.from-2.ensures) at b in
     let l = long _ _ _ z worked c.count_changed-steps.ensures c.slip_size.ensures in
     let made = slip_made t c.args.step c.args.exit c.args.buffer.now
     (slip_fits t c.args.step c.args.exit c.args.buffer.now z (omega (arith, c.if-buffer-slip_size.false, l))) in
     record {
-      answer = (rw (c.wide.ensures, c.wide-2.ensures) at a) ∙ sym (ap (λ (o : SlipOutcome). o.answer) made);
+      answer = (rw (c.from.ensures, c.from-2.ensures) at a) ∙ sym (ap (λ (o : SlipOutcome). o.answer) made);
       table =
-          sym (words_table w (c.clear_exit-answer.ensures.table.size ∙ c.sized.ensures))
+          sym (words_table w (c.clear_exit-counts.ensures.table.size ∙ c.told-t))
           ∙ ap words_of worked ∙ sym (ap (λ (o : SlipOutcome). words_of o.table) made);
       written =
           written t (table_of w) _ _ _ _ _ worked c.count_changed-steps.ensures c.put_slip.ensures

@@ -64,16 +64,16 @@ put_pairs-requires c =
     let p = c.put_word-3.new.part in
     let k = length-drop 6 p in
     let m = length-take-le (length p - 6) (drop 6 p) (omega arith) in
-    let size = pairs_size (table_of c.args.t.now) (table_of c.args.u.now) c.args.steps c.requires.1 in
-    (c.requires.0, omega (arith, size, k, m))
+    let size = pairs_size (table_of c.args.tables.now.t.now) (table_of c.args.tables.now.u.now) c.args.steps c.requires.0 in
+    omega (arith, size, k, m)
 
 pub returns : goal.returns
 returns c =
-    let t = table_of c.args.t.now in
-    let u = table_of c.args.u.now in
+    let t = table_of c.args.tables.now.t.now in
+    let u = table_of c.args.tables.now.u.now in
     let e = begun c.args.buffer.now c.args.step c.args.exit c.args.steps c.put_word.ensures c.put_word-2.ensures c.put_word-3.ensures in
     let p : List ℕ → List ℕ → List ℕ = λ q b. take 6 b ++ (q ++ drop (length b - 6) (drop 6 b)) in
     ap (p c.put_pairs.new.part) e
-    ∙ slip_put t u c.args.buffer.now c.put_pairs.new.part c.args.step c.args.exit c.args.steps c.requires.1 c.requires.2
+    ∙ slip_put t u c.args.buffer.now c.put_pairs.new.part c.args.step c.args.exit c.args.steps c.requires.0 c.requires.1
     (c.put_pairs.ensures
     ∙ ap (λ (b : List ℕ). pairs_below t u t.capacity ++ drop (length (pairs_below t u t.capacity)) (take (length b - 6) (drop 6 b))) e)

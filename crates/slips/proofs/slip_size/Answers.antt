@@ -4,4 +4,4 @@ use Rattle.slips.proofs.slip_size.Goals as goal
 
 pub returns : goal.returns
 unfolding record_size
-returns c = rw c.wide.ensures
+returns c = rw c.from.ensures

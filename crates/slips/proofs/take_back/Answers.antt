@@ -1,5 +1,5 @@
 -- `slips::take_back` meets its contract: each return is one of the cases of the definition. Assumes nothing.
-use mathlib.Core.Path.{◌≡◌, refl, sym, ◌∙◌, ap, subst}
+use mathlib.Core.Path.{◌≡◌, sym, ◌∙◌, ap, subst}
 use mathlib.Core.Bool.{Bool, true}
 use mathlib.Core.List.{List, [], ◌∷◌}
 use Prim.Native.Nat.{ℕ, ◌+◌, ◌-◌, ◌*◌, ◌≤◌}
@@ -9,22 +9,22 @@ use lib.Seq.{take_all}
 use Rattle.finite.specs.Below.{count, same}
 use Rattle.finite.proofs.Bools.{clash}
 use Rattle.finite.proofs.Select.{same_true, same_lists}
-use Rattle.table.specs.declared.Answer.{Answer}
-use Rattle.table.specs.declared.Answer.TheVariants.{Given}
+use Rattle.table.specs.declared.Refusal.TheVariants.{SlipNotAccepted}
+use Rattle.table.specs.Said.{Answer, Given}
 use Rattle.table.specs.Table.{Table, with_links}
 use Rattle.table.specs.Sound.{Sound}
 use Rattle.table.specs.Answer.{Outcome, slip_not_accepted, first, second_of}
 use Rattle.table.specs.Calls.{table_tests}
 use Rattle.table.specs.Clear.{cleared, clear_refusal}
-use Rattle.table.proofs.Calls.{clear_fits, clear_sound}
+use Rattle.table.proofs.Calls.{number_not_zero, none_found, one_found, clear_fits, clear_sound}
 use Rattle.table.proofs.Sound.{sound_test}
 use Rattle.image.specs.Image.{Bytes, record_size, words, word_at, counted}
-use Rattle.image.specs.Slip.{changed, pairs_below, slip, slip_step, slip_exit, slip_count, rebuilt, cleared_again, take_back_refusal, take_back_call}
+use Rattle.image.specs.Slip.{changed, pairs_below, slip, slip_step, slip_exit, slip_count, rebuilt, take_back_refusal, take_back_call}
 use Rattle.image.proofs.Slips.{slip_length_lem, slip_count_lem, slip_low, slip_pairs, pairs_slip, head_bytes, length_pairs}
 use Rattle.image.proofs.TakenBack.{Taken, again_made, taken_accepted, not_taken}
 use Rattle.words.specs.Words.{words as wordCount, table_of, words_of, Becomes}
 use Rattle.words.proofs.Laws.{words_table}
-use Rattle.words.proofs.Refusals.{table_passed, table_stopped, refused_answer, refused_words, given_answer, given_words}
+use Rattle.words.proofs.Refusals.{table_passed, table_stopped, refused_answer, passed_answer, refused_words, given_answer, given_words}
 use Rattle.slips.specs.Framed.{framed, Framed}
 use Rattle.pairs.specs.SoundPair.{SoundPair}
 use Rattle.slips.proofs.Back.{after_capacity, framed_test, test_framed}
@@ -39,7 +39,7 @@ refused : (w bs : List ℕ) → length w ≡ wordCount → Sound (table_of w) �
 unfolding take_back_call
 refused w bs l s d =
     let q = sym (not_taken (table_of w) bs s d) in
-    record { answer = refused_answer q _ _ (λ z. omega arith); table = refused_words q _ w l (λ z. omega arith) }
+    record { answer = refused_answer SlipNotAccepted q _ _; table = refused_words SlipNotAccepted q _ w l }
 
 -- an accepted slip has its form
 taken_framed : (t : Table) (bs : List ℕ) → Taken t bs → Framed bs
@@ -60,8 +60,8 @@ record Lent (w bs : List ℕ) : Type 0 where
   sound : Sound (table_of w)
   form : Framed bs
 
-lent : {w bs : List ℕ} {r : ℕ} {b : Bool} → length w ≡ wordCount → r ≡ first (table_tests (table_of w)) → r ≡ 0 → b ≡ framed bs → b ≡ true → Lent w bs
-lent l e z f h = record { size = l; sound = table_passed _ (sym e ∙ z); form = test_framed _ (sym f ∙ h) }
+lent : {w bs : List ℕ} {b : Bool} → length w ≡ wordCount → 0 ≡ first (table_tests (table_of w)) → b ≡ framed bs → b ≡ true → Lent w bs
+lent l e f h = record { size = l; sound = table_passed _ (sym e); form = test_framed _ (sym f ∙ h) }
 
 least : {w bs : List ℕ} → Lent w bs → 6 ≤ length bs
 unfolding record_size
@@ -157,97 +157,97 @@ module _ {w bs : List ℕ} {v : Table} {i e : ℕ} (d : Lent w bs) (b : Built w 
     q.size ∙ l ∙ d.size,
   )
 
-pub returns-then-unsound-ne0 : goal.returns-then-unsound-ne0
+pub returns-in_err-check_table : goal.returns-in_err-check_table
 unfolding take_back_call take_back_refusal
-returns-then-unsound-ne0 c =
-    let e = c.table_refusal-unsound.ensures in
-    let q = e ∙ table_stopped _ _ (λ z. c.if-unsound-ne0.true (e ∙ z)) in
+returns-in_err-check_table c =
+    let e = c.in_err-check_table.ensures in
+    let q = e ∙ table_stopped _ _ (λ z. number_not_zero _ (e ∙ z)) in
     record {
-      answer = refused_answer q _ _ c.if-unsound-ne0.true;
-      table = refused_words q _ _ c.sized.ensures c.if-unsound-ne0.true;
+      answer = passed_answer _ q _ c.from_residual.result c.from_residual.ensures.1 _;
+      table = refused_words _ q _ _ c.told-t;
     }
 
 pub returns-then-not-is_framed : goal.returns-then-not-is_framed
 returns-then-not-is_framed c =
-    refused c.args.t.now c.args.bytes.now c.sized.ensures (table_passed _ (sym c.table_refusal-unsound.ensures ∙ c.if-unsound-ne0.false))
+    refused c.args.t.now c.args.bytes.now c.told-t (table_passed _ (sym c.in_ok-check_table.ensures))
     (λ x. clash (c.is_framed.ensures.framed ∙ framed_test _ (taken_framed _ _ x)) c.if-not-is_framed.true)
 
 pub word_at-step-requires : goal.word_at-step-requires
 word_at-step-requires c =
-    let d = lent c.sized.ensures c.table_refusal-unsound.ensures c.if-unsound-ne0.false c.is_framed.ensures.framed c.if-not-is_framed.false in
+    let d = lent c.told-t c.in_ok-check_table.ensures c.is_framed.ensures.framed c.if-not-is_framed.false in
     let l = least d in
     omega arith
 
 pub word_at-exit-requires : goal.word_at-exit-requires
 word_at-exit-requires c =
-    let d = lent c.sized.ensures c.table_refusal-unsound.ensures c.if-unsound-ne0.false c.is_framed.ensures.framed c.if-not-is_framed.false in
+    let d = lent c.told-t c.in_ok-check_table.ensures c.is_framed.ensures.framed c.if-not-is_framed.false in
     let l = least d in
     omega arith
 
 pub put_back-requires : goal.put_back-requires
 put_back-requires c =
-    let d = lent c.sized.ensures c.table_refusal-unsound.ensures c.if-unsound-ne0.false c.is_framed.ensures.framed c.if-not-is_framed.false in
+    let d = lent c.told-t c.in_ok-check_table.ensures c.is_framed.ensures.framed c.if-not-is_framed.false in
     (sound_test _ d.sound, d.form)
 
-pub returns-then-clear_refusal-ne0 : goal.returns-then-clear_refusal-ne0
-returns-then-clear_refusal-ne0 c =
-    let d = lent c.sized.ensures c.table_refusal-unsound.ensures c.if-unsound-ne0.false c.is_framed.ensures.framed c.if-not-is_framed.false in
+pub returns-then-is_err : goal.returns-then-is_err
+returns-then-is_err c =
+    let d = lent c.told-t c.in_ok-check_table.ensures c.is_framed.ensures.framed c.if-not-is_framed.false in
     let b = built c.put_back.ensures.table c.word_at-step.ensures c.word_at-exit.ensures in
-    refused c.args.t.now c.args.bytes.now d.size d.sound (λ x. c.if-clear_refusal-ne0.true (c.clear_refusal.ensures ∙ taken_fits d b x))
+    refused c.args.t.now c.args.bytes.now d.size d.sound (λ x. one_found _ (sym c.is_err.ensures.value ∙ c.if-is_err.true) (c.check_clear.ensures ∙ taken_fits d b x))
 
-pub count_changed-requires : goal.count_changed-requires
-count_changed-requires c =
-    let d = lent c.sized.ensures c.table_refusal-unsound.ensures c.if-unsound-ne0.false c.is_framed.ensures.framed c.if-not-is_framed.false in
+pub invariant_of-tables : goal.invariant_of-tables
+invariant_of-tables c =
+    let d = lent c.told-t c.in_ok-check_table.ensures c.is_framed.ensures.framed c.if-not-is_framed.false in
     let b = built c.put_back.ensures.table c.word_at-step.ensures c.word_at-exit.ensures in
-    pair d b (sym c.clear_refusal.ensures ∙ c.if-clear_refusal-ne0.false)
+    record { sound = pair d b (sym c.check_clear.ensures ∙ none_found _ (sym c.is_err.ensures.value ∙ c.if-is_err.false)) }
 
 pub word_at-requires : goal.word_at-requires
 word_at-requires c =
-    let d = lent c.sized.ensures c.table_refusal-unsound.ensures c.if-unsound-ne0.false c.is_framed.ensures.framed c.if-not-is_framed.false in
+    let d = lent c.told-t c.in_ok-check_table.ensures c.is_framed.ensures.framed c.if-not-is_framed.false in
     let l = least d in
     omega arith
 
 pub returns-then-count_changed-word_at : goal.returns-then-count_changed-word_at
 returns-then-count_changed-word_at c =
-    let d = lent c.sized.ensures c.table_refusal-unsound.ensures c.if-unsound-ne0.false c.is_framed.ensures.framed c.if-not-is_framed.false in
+    let d = lent c.told-t c.in_ok-check_table.ensures c.is_framed.ensures.framed c.if-not-is_framed.false in
     let b = built c.put_back.ensures.table c.word_at-step.ensures c.word_at-exit.ensures in
     refused c.args.t.now c.args.bytes.now d.size d.sound (λ x. c.if-count_changed-word_at.true (taken_count d b c.count_changed.ensures c.word_at.ensures x))
 
 pub slice_bounds-has_pairs-count : goal.slice_bounds-has_pairs-count
 slice_bounds-has_pairs-count c =
-    let d = lent c.sized.ensures c.table_refusal-unsound.ensures c.if-unsound-ne0.false c.is_framed.ensures.framed c.if-not-is_framed.false in
+    let d = lent c.told-t c.in_ok-check_table.ensures c.is_framed.ensures.framed c.if-not-is_framed.false in
     let l = least d in
     omega arith
 
 pub slice_bounds-has_pairs-start : goal.slice_bounds-has_pairs-start
 slice_bounds-has_pairs-start c =
-    let d = lent c.sized.ensures c.table_refusal-unsound.ensures c.if-unsound-ne0.false c.is_framed.ensures.framed c.if-not-is_framed.false in
+    let d = lent c.told-t c.in_ok-check_table.ensures c.is_framed.ensures.framed c.if-not-is_framed.false in
     let l = least d in
     omega arith
 
 pub has_pairs-requires : goal.has_pairs-requires
 has_pairs-requires c =
-    let d = lent c.sized.ensures c.table_refusal-unsound.ensures c.if-unsound-ne0.false c.is_framed.ensures.framed c.if-not-is_framed.false in
+    let d = lent c.told-t c.in_ok-check_table.ensures c.is_framed.ensures.framed c.if-not-is_framed.false in
     let b = built c.put_back.ensures.table c.word_at-step.ensures c.word_at-exit.ensures in
-    let z = sym c.clear_refusal.ensures ∙ c.if-clear_refusal-ne0.false in
-    (pair d b z, pairs_long d b z c.count_changed.ensures c.word_at.ensures c.if-count_changed-word_at.false)
+    let z = sym c.check_clear.ensures ∙ none_found _ (sym c.is_err.ensures.value ∙ c.if-is_err.false) in
+    pairs_long d b z c.count_changed.ensures c.word_at.ensures c.if-count_changed-word_at.false
 
 pub returns-then-not-has_pairs : goal.returns-then-not-has_pairs
 returns-then-not-has_pairs c =
-    let d = lent c.sized.ensures c.table_refusal-unsound.ensures c.if-unsound-ne0.false c.is_framed.ensures.framed c.if-not-is_framed.false in
+    let d = lent c.told-t c.in_ok-check_table.ensures c.is_framed.ensures.framed c.if-not-is_framed.false in
     let b = built c.put_back.ensures.table c.word_at-step.ensures c.word_at-exit.ensures in
     refused c.args.t.now c.args.bytes.now d.size d.sound (λ x. clash (taken_pairs d b c.has_pairs.ensures x) c.if-not-has_pairs.true)
 
-pub clear_exit-answer-requires : goal.clear_exit-answer-requires
-clear_exit-answer-requires c =
-    let z = sym c.clear_refusal.ensures ∙ c.if-clear_refusal-ne0.false in
-    rw (c.wide.ensures, c.wide-2.ensures) (clear_sound _ _ _ z, clear_fits _ _ _ z)
+pub clear_exit-freed-requires : goal.clear_exit-freed-requires
+clear_exit-freed-requires c =
+    let z = sym c.check_clear.ensures ∙ none_found _ (sym c.is_err.ensures.value ∙ c.if-is_err.false) in
+    rw (c.from.ensures, c.from-2.ensures) (clear_sound _ _ _ z, clear_fits _ _ _ z)
 
 pub returns-then-not-same_words : goal.returns-then-not-same_words
 returns-then-not-same_words c =
-    let d = lent c.sized.ensures c.table_refusal-unsound.ensures c.if-unsound-ne0.false c.is_framed.ensures.framed c.if-not-is_framed.false in
+    let d = lent c.told-t c.in_ok-check_table.ensures c.is_framed.ensures.framed c.if-not-is_framed.false in
     let b = built c.put_back.ensures.table c.word_at-step.ensures c.word_at-exit.ensures in
-    let w = worked d b c.wide.ensures c.wide-2.ensures c.put_back.ensures.size c.clear_exit-answer.ensures.answer c.clear_exit-answer.ensures.table in
+    let w = worked d b c.from.ensures c.from-2.ensures c.put_back.ensures.size c.clear_exit-freed.ensures.answer c.clear_exit-freed.ensures.table in
     refused c.args.t.now c.args.bytes.now d.size d.sound
     (λ x. clash
     (c.same_words.ensures ∙ same_lists (sym (words_table _ w.2) ∙ ap words_of (w.1 ∙ x.table) ∙ words_table c.args.t.now d.size))
@@ -255,18 +255,18 @@ returns-then-not-same_words c =
 
 pub put_back-requires-2 : goal.put_back-requires-2
 put_back-requires-2 c =
-    let d = lent c.sized.ensures c.table_refusal-unsound.ensures c.if-unsound-ne0.false c.is_framed.ensures.framed c.if-not-is_framed.false in
+    let d = lent c.told-t c.in_ok-check_table.ensures c.is_framed.ensures.framed c.if-not-is_framed.false in
     (sound_test _ d.sound, d.form)
 
 pub returns : goal.returns
-unfolding take_back_call
+unfolding take_back_call second_of
 returns c =
     let t = table_of c.args.t.now in
     let bs = c.args.bytes.now in
-    let d = lent c.sized.ensures c.table_refusal-unsound.ensures c.if-unsound-ne0.false c.is_framed.ensures.framed c.if-not-is_framed.false in
+    let d = lent c.told-t c.in_ok-check_table.ensures c.is_framed.ensures.framed c.if-not-is_framed.false in
     let b = built c.put_back.ensures.table c.word_at-step.ensures c.word_at-exit.ensures in
-    let z = sym c.clear_refusal.ensures ∙ c.if-clear_refusal-ne0.false in
-    let w = worked d b c.wide.ensures c.wide-2.ensures c.put_back.ensures.size c.clear_exit-answer.ensures.answer c.clear_exit-answer.ensures.table in
+    let z = sym c.check_clear.ensures ∙ none_found _ (sym c.is_err.ensures.value ∙ c.if-is_err.false) in
+    let w = worked d b c.from.ensures c.from-2.ensures c.put_back.ensures.size c.clear_exit-freed.ensures.answer c.clear_exit-freed.ensures.table in
     let x : Taken t bs = record {
       sound = clear_sound _ _ _ (fits d b z);
       fits = fits d b z;
@@ -276,9 +276,8 @@ returns c =
           c.if-not-has_pairs.false;
     } in
     let q = sym (taken_accepted t bs d.sound x) in
-    let a : c.back_of.result ≡ Given (second_of (cleared_again t bs).answer) 0 =
-    c.back_of.ensures ∙ ap (λ (r : Answer). Given (second_of r) 0) (w.0 ∙ sym (ap (λ (o : Outcome). o.answer) (again_made t bs x.fits))) in
+    let a = ap (λ (r : Answer). Given (second_of r) 0) (w.0 ∙ sym (ap (λ (o : Outcome). o.answer) (again_made t bs x.fits))) in
     record {
-      answer = given_answer q _ _ _ refl a;
-      table = given_words q _ _ _ d.size refl c.put_back-2.ensures;
+      answer = given_answer q _ _ _ a;
+      table = given_words q _ _ _ d.size c.put_back-2.ensures;
     }

@@ -11,7 +11,7 @@ returns c =
     record {
       table =
           c.put_fields-2.ensures.table ∙
-          ap (λ (t : Table). with_fields t c.wide-k.result 1 c.moved_fields-f.result) c.put_fields.ensures.table ∙
-          rw (c.wide-k.ensures, c.no_fields.ensures, c.moved_fields-f.ensures);
+          ap (λ (t : Table). with_fields t c.from-k.result 1 c.moved_fields-f.result) c.put_fields.ensures.table ∙
+          rw (c.from-k.ensures, c.no_fields.ensures, c.moved_fields-f.ensures);
       size = c.put_fields-2.ensures.size ∙ c.put_fields.ensures.size;
     }

@@ -1,5 +1,5 @@
--- `squeezing::new_numbers` meets its contract. The loop's invariant: the numbers below i are the new ones, and `next` is that of i; the measure is
--- what is left of the places. Assumes nothing.
+-- `squeezing::new_numbers` meets its contract. The loop's invariant: the numbers below i are the new ones, and `next` is that of i.
+-- Assumes nothing.
 use mathlib.Core.Path.{◌≡◌, sym, ◌∙◌}
 use mathlib.Core.Logic.{⊎_elim}
 use native.Mathlib.Omega.{arith}
@@ -15,11 +15,11 @@ use Rattle.squeezing.proofs.new_numbers.Goals as goal
 use Rattle.squeezing.proofs.new_numbers.Goals.{else-in_use, then-in_use}
 
 pub loop-i-init : goal.loop-i-init
-loop-i-init c = (omega arith, search rules, sym (new_zero _), λ k l. absurd (omega arith))
+loop-i-init c = (search rules, sym (new_zero _), λ k l. absurd (omega arith))
 
 pub overflow_add-next : goal.overflow_add-next
 overflow_add-next c =
-    omega (arith, new_most (table_of c.args.t.now) c.loop-i.i, c.loop-i.invariant.2)
+    omega (arith, new_most (table_of c.args.t.now) c.loop-i.i, c.loop-i.invariant.1)
 
 pub loop-i-preserved : goal.loop-i-preserved
 loop-i-preserved c =
@@ -27,20 +27,19 @@ loop-i-preserved c =
     let i = c.loop-i.i in
     let inv = c.loop-i.invariant in
     let e = c.in_use.ensures in (
-      omega arith,
-      length-set c.loop-i.numbers i c.loop-i.next ∙ inv.1,
+      length-set c.loop-i.numbers i c.loop-i.next ∙ inv.0,
       elim c.if-in_use.branch [
-        | then-in_use w ↦ omega (arith, new_used t i (sym e ∙ w.if-in_use.true), inv.2)
-        | else-in_use w ↦ omega (arith, new_free t i (sym e ∙ w.if-in_use.false), inv.2)
+        | then-in_use w ↦ omega (arith, new_used t i (sym e ∙ w.if-in_use.true), inv.1)
+        | else-in_use w ↦ omega (arith, new_free t i (sym e ∙ w.if-in_use.false), inv.1)
       ],
       λ k h.
           ⊎_elim
-          (λ (s : k ≡ i). rw s (get_or-set_same c.loop-i.numbers i c.loop-i.next 0 (omega arith) ∙ inv.2))
-          (λ (d : k ≡ i → ⊥). get_or-set_other c.loop-i.numbers i k c.loop-i.next 0 d ∙ inv.3 k (omega arith))
+          (λ (s : k ≡ i). rw s (get_or-set_same c.loop-i.numbers i c.loop-i.next 0 (omega arith) ∙ inv.1))
+          (λ (d : k ≡ i → ⊥). get_or-set_other c.loop-i.numbers i k c.loop-i.next 0 d ∙ inv.2 k (omega arith))
           (eq_or_ne k i),
     )
 
 pub returns : goal.returns
 returns c =
     let inv = c.loop-i.invariant in
-    sym (tabulate_entries places _ c.loop-i.numbers 0 inv.1 (λ k h. sym (inv.3 k (omega arith))))
+    sym (tabulate_entries places _ c.loop-i.numbers 0 inv.0 (λ k h. sym (inv.2 k (omega arith))))

@@ -8,44 +8,44 @@ use Rattle.table.specs.Sound.{Sound}
 use Rattle.table.specs.Squeeze.{squeezed, squeeze_refusal, squeeze_call}
 use Rattle.table.proofs.Links.{sound_wired}
 use Rattle.table.proofs.Renumber.{new_below}
-use Rattle.words.proofs.Refusals.{accepted_sound, refused_answer, refused_words, given_answer, given_words}
+use Rattle.words.proofs.Refusals.{accepted_sound, passed_answer, refused_words, given_answer, given_words}
 use Rattle.squeezing.specs.Moves.{squeezed_steps}
 use Rattle.squeezing.proofs.squeeze.Goals as goal
 
-sound_table : {t : Table} {r : ℕ} (capacity : ℕ) (quotas : List ℕ) → r ≡ squeeze_refusal t capacity quotas → r ≡ 0 → Sound t
+sound_table : {t : Table} (capacity : ℕ) (quotas : List ℕ) → 0 ≡ squeeze_refusal t capacity quotas → Sound t
 unfolding squeeze_refusal
-sound_table capacity quotas e z = accepted_sound _ _ (sym e ∙ z)
+sound_table capacity quotas e = accepted_sound _ _ (sym e)
 
-pub returns-then-refusal-ne0 : goal.returns-then-refusal-ne0
+pub returns-in_err-check_squeeze : goal.returns-in_err-check_squeeze
 unfolding squeeze_call
-returns-then-refusal-ne0 c =
-    let e = c.squeeze_refusal-refusal.ensures in
+returns-in_err-check_squeeze c =
+    let e = c.in_err-check_squeeze.ensures in
     record {
-      answer = refused_answer e _ _ c.if-refusal-ne0.true;
-      table = refused_words e _ _ c.sized.ensures c.if-refusal-ne0.true;
+      answer = passed_answer _ e _ c.from_residual.result c.from_residual.ensures.1 _;
+      table = refused_words _ e _ _ c.told-t;
     }
 
 pub count_used-steps-requires : goal.count_used-steps-requires
-count_used-steps-requires c = (sound_table _ _ c.squeeze_refusal-refusal.ensures c.if-refusal-ne0.false).formed.most
+count_used-steps-requires c = (sound_table _ _ c.in_ok-check_squeeze.ensures).formed.most
 
 pub move_steps-requires : goal.move_steps-requires
-move_steps-requires c = sound_table _ _ c.squeeze_refusal-refusal.ensures c.if-refusal-ne0.false
+move_steps-requires c = sound_table _ _ c.in_ok-check_squeeze.ensures
 
 -- step 0 is in use, so there is a last number
 pub overflow_sub-steps : goal.overflow_sub-steps
 overflow_sub-steps c =
-    let s = sound_table _ _ c.squeeze_refusal-refusal.ensures c.if-refusal-ne0.false in
+    let s = sound_table _ _ c.in_ok-check_squeeze.ensures in
     omega (arith, c.count_used-steps.ensures, new_below (sound_wired s) 0 s.formed.alarm)
 
 pub returns : goal.returns
 unfolding squeeze_call squeezed squeezed_steps with_numbers
 returns c =
     let a = c.args in
-    let e = c.squeeze_refusal-refusal.ensures in
+    let e = c.in_ok-check_squeeze.ensures in
     record {
-      answer = given_answer e _ _ _ c.if-refusal-ne0.false refl;
+      answer = given_answer e _ _ _ refl;
       table =
-          given_words e _ _ _ c.sized.ensures c.if-refusal-ne0.false
+          given_words e _ _ _ c.told-t
           (record {
             table =
                 c.put_quotas.ensures.table ∙

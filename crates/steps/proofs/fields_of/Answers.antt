@@ -1,27 +1,23 @@
 -- `steps::fields_of` meets its contract. Assumes nothing.
-use mathlib.Core.List.{[], ◌∷◌}
-use Rattle.finite.specs.Below.{tabulate_from, tabulate}
+use Rattle.table.specs.Table.{exits, counters, target_of, link_bit, counter_of}
 use Rattle.table.specs.Calls.{fields_of}
+use Rattle.words.specs.Words.{table_of}
+use Rattle.words.proofs.Chains.{from_fn_tabulate}
+use borrow.Author.Rules.{rules}
 use Rattle.steps.proofs.fields_of.Goals as goal
 
 pub returns : goal.returns
-unfolding fields_of tabulate tabulate_from
+unfolding fields_of
 returns c =
-    let counts = c in
-    let bits = counts in
-    let targets = bits in
-    let own = targets in
-    λ i.
+    let t = table_of c.args.t.now in
+    let i = c.args.i in
+    λ x.
     record {
-      kind = own.kind_at-kind.ensures i;
-      content = own.content_at-content.ensures i;
-      own = own.own_at-own.ensures i;
-      targets =
-          targets.target_at.ensures i ∷ targets.target_at-2.ensures i ∷
-          targets.target_at-3.ensures i ∷ targets.target_at-4.ensures i ∷ [];
-      bits =
-          bits.bit_at.ensures i ∷ bits.bit_at-2.ensures i ∷
-          bits.bit_at-3.ensures i ∷ bits.bit_at-4.ensures i ∷ [];
-      counts = counts.counter_at.ensures i ∷ counts.counter_at-2.ensures i ∷ [];
-      cabin = c.cabin_at-cabin.ensures i;
+      kind = c.kind_at.ensures x;
+      content = c.content_at.ensures x;
+      own = c.own_at.ensures x;
+      targets = from_fn_tabulate _ _ exits (target_of t i) (λ k y q l h. search rules) _ c.from_fn.ensures.items x;
+      bits = from_fn_tabulate _ _ exits (link_bit t i) (λ k y q l h. search rules) _ c.from_fn-2.ensures.items x;
+      counts = from_fn_tabulate _ _ counters (counter_of t i) (λ k y q l h. search rules) _ c.from_fn-3.ensures.items x;
+      cabin = c.cabin_at.ensures x;
     }

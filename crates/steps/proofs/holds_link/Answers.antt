@@ -9,8 +9,8 @@ pub target_at-requires : goal.target_at-requires
 target_at-requires c =
     let z = c in
     let p = z.requires in
-    rw (c.wide-2.ensures, c.wide.ensures) (used_place (shape_table _ z.sized.ensures) _ p.0, own_exit _ _ p.1)
+    rw (c.from-2.ensures, c.from.ensures) (used_place (shape_table _ z.told-t) _ p.0, own_exit _ _ p.1)
 
 pub returns : goal.returns
 unfolding holds
-returns c = rw (c.target_at.ensures, c.wide-2.ensures, c.wide.ensures)
+returns c = rw (c.target_at.ensures, c.from-2.ensures, c.from.ensures)

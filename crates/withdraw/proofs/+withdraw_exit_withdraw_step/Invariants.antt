@@ -1,6 +1,5 @@
 -- The measures: with u steps not marked, an exit is 2u and a step 2u + 1. The loop's invariant: the exits below e are withdrawn.
-use Rattle.std.proofs.Common.{◌≡◌, ◌+◌, ◌-◌, ◌≤◌}
-use Rattle.table.specs.Table.{exits_of}
+use Rattle.std.proofs.Common.{◌+◌}
 use Rattle.words.specs.Words.{table_of}
 use Rattle.withdraw.specs.Search.{unmarked}
 use Rattle.withdraw.proofs.Laws.{Upto}
@@ -13,8 +12,4 @@ abbrev pub decreases-withdraw_step : goal.decreases-withdraw_step
 decreases-withdraw_step l = unmarked l.marks.now + unmarked l.marks.now + 1
 
 abbrev pub invariant-withdraw_step-loop-e : goal.invariant-withdraw_step-loop-e
-invariant-withdraw_step-loop-e l =
-    (l.n ≡ exits_of l.i) × (l.e ≤ l.n) × Upto (table_of l.t) l.i l.initial.left l.initial.marks l.e l.left l.marks
-
-abbrev pub decreases-withdraw_step-loop-e : goal.decreases-withdraw_step-loop-e
-decreases-withdraw_step-loop-e l = l.n - l.e
+invariant-withdraw_step-loop-e l = Upto (table_of l.t) l.i l.initial.left l.initial.marks l.e l.left l.marks

@@ -26,20 +26,20 @@ pub target_at-requires : goal.target_at-requires
 target_at-requires c = (formed_place c.requires.0.sound.formed _ c.requires.0.fits.used, c.requires.0.fits.exit)
 
 pub own_at-requires : goal.own_at-requires
-own_at-requires c = target_below _ _ _ c.requires.0 _ (c.wide-j.ensures ∙ c.target_at.ensures)
+own_at-requires c = target_below _ _ _ c.requires.0 _ (c.from-j.ensures ∙ c.target_at.ensures)
 
 pub bounds-left-j : goal.bounds-left-j
-bounds-left-j c = counter_below _ _ _ c.requires.0 _ (c.wide-j.ensures ∙ c.target_at.ensures) _ (c.wide.ensures ∙ c.own_at.ensures)
+bounds-left-j c = counter_below _ _ _ c.requires.0 _ (c.from-j.ensures ∙ c.target_at.ensures) _ (c.from.ensures ∙ c.own_at.ensures)
 
 pub bounds-doubt-j : goal.bounds-doubt-j
-bounds-doubt-j c = target_below _ _ _ c.requires.0 _ (c.wide-j.ensures ∙ c.target_at.ensures)
+bounds-doubt-j c = target_below _ _ _ c.requires.0 _ (c.from-j.ensures ∙ c.target_at.ensures)
 
 pub withdraw_step-requires : goal.withdraw_step-requires
 withdraw_step-requires c =
     let t = table_of c.args.t.now in
     let o = c.requires.0 in
-    let target = c.wide-j.ensures ∙ c.target_at.ensures in
-    let own = counter _ _ _ o _ target _ (c.wide.ensures ∙ c.own_at.ensures) in (
+    let target = c.from-j.ensures ∙ c.target_at.ensures in
+    let own = counter _ _ _ o _ target _ (c.from.ensures ∙ c.own_at.ensures) in (
       target_below _ _ _ o _ target,
       ranged _ _ _ o,
       (t.counts, (_, (λ (q : ℕ). 0), begin_doubt _ _ _ o _ _ _ _ target own c.counters_of-left.ensures c.requires.1)),
@@ -51,8 +51,8 @@ mark_wanted-requires c = (ranged _ _ _ c.requires.0, c.requires.2)
 pub returns : goal.returns
 returns c =
     let o = c.requires.0 in
-    let target = c.wide-j.ensures ∙ c.target_at.ensures in
-    let own = counter _ _ _ o _ target _ (c.wide.ensures ∙ c.own_at.ensures) in
+    let target = c.from-j.ensures ∙ c.target_at.ensures in
+    let own = counter _ _ _ o _ target _ (c.from.ensures ∙ c.own_at.ensures) in
     let n = c.counters_of-left.ensures in
     let ends = c.withdraw_step.ensures in
     record {

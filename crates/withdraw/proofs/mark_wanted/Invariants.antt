@@ -1,5 +1,5 @@
 -- The loop's invariant: the steps below k have their marks, and no other step has one.
-use Rattle.std.proofs.Common.{◌≡◌, Bool, List, ℕ, ◌-◌, ◌≤◌, ◌<◌, length, get_or}
+use Rattle.std.proofs.Common.{◌≡◌, Bool, List, ℕ, ◌≤◌, ◌<◌, length, get_or}
 use Rattle.finite.specs.Below.{one}
 use Rattle.table.specs.Table.{places}
 use Rattle.words.specs.Words.{table_of}
@@ -12,7 +12,4 @@ pub record MarkedBelow (passes : ℕ → Bool) (wanted : List ℕ) (k : ℕ) : T
   pub above : (i : ℕ) → k ≤ i → get_or wanted i 0 ≡ 0
 
 abbrev pub invariant-loop-k : goal.invariant-loop-k
-invariant-loop-k l = (l.k ≤ places) × MarkedBelow (still_linked (table_of l.t) l.left l.doubt) l.wanted l.k
-
-abbrev pub decreases-loop-k : goal.decreases-loop-k
-decreases-loop-k l = places - l.k
+invariant-loop-k l = MarkedBelow (still_linked (table_of l.t) l.left l.doubt) l.wanted l.k

@@ -30,7 +30,7 @@ overflow_sub-own_at c =
 
 pub returns : goal.returns
 returns c =
-    let b = c.wide.ensures ∙ ap (λ (x : ℕ). 1 - x) c.own_at.ensures in
+    let b = c.from.ensures ∙ ap (λ (x : ℕ). 1 - x) c.own_at.ensures in
     other_left _ _ _ _ _ c.if-doubt-k-ne1.false b
 
 pub returns-then-doubt-k-ne1 : goal.returns-then-doubt-k-ne1

@@ -11,8 +11,8 @@ unfolding counter_of counter_place
 overflow_sub-t c =
     let h = c.requires.2 c.if-j-ne0.true in
     let r = c.count_in.ensures in
-    let e₁ = c.wide.ensures in
-    let e₂ = c.wide-then-j-ne0.ensures in
+    let e₁ = c.from.ensures in
+    let e₂ = c.from-then-j-ne0.ensures in
     rw r (rw (e₁, e₂) (omega (arith, h)))
 
 pub returns-then-j-ne0 : goal.returns-then-j-ne0
@@ -20,8 +20,8 @@ unfolding counter_place
 returns-then-j-ne0 c =
     let s = c in
     let w = s.args.t.now in
-    let e₁ = c.wide.ensures in
-    let e₂ = c.wide-then-j-ne0.ensures in
+    let e₁ = c.from.ensures in
+    let e₂ = c.from-then-j-ne0.ensures in
     let l = s.requires.0 in
     let k = s.requires.1 in
     record {

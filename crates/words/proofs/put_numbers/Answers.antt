@@ -13,7 +13,6 @@ returns c =
     let w = s.args.t.now in
     let n = s.args.capacity in
     let last = s.args.last in
-    let l = c.sized.ensures in
     record {
       table =
           store_last (set w 0 n) last (omega (arith, length-set w 0 n)) ∙

@@ -14,8 +14,8 @@ unfolding with_steps with_step
 returns c =
     let s = c in
     let w = s.args.t.now in
-    let i = c.wide-i.result in
-    let e : i ≡ s.args.n = c.wide-i.ensures in
+    let i = c.from-i.result in
+    let e : i ≡ s.args.n = c.from-i.ensures in
     let l : i < places = rw e s.requires in
     let w₁ = set w 1 s.args.n in
     let w₂ = set w₁ (used_from + i) 1 in
@@ -31,7 +31,7 @@ returns c =
           ap (λ (t : Table). with_steps t t.last t.used (set t.kinds i s.args.kind) t.contents t.own t.cabins)
           (store_used w₁ i 1 l ∙
           ap (λ (t : Table). with_steps t t.last (set t.used i 1) t.kinds t.contents t.own t.cabins)
-          (store_last w s.args.n (let z = c.sized.ensures in omega arith)))))) ∙
+          (store_last w s.args.n (omega arith)))))) ∙
           ap
           (λ (k : ℕ).
           with_steps (table_of w) s.args.n (set (table_of w).used k 1) (set (table_of w).kinds k s.args.kind)

@@ -4,7 +4,7 @@ use Prim.Native.Nat.{ℕ, ◌≤◌, ◌<◌}
 use mathlib.Core.List.{List, ◌++◌}
 use native.Mathlib.Omega.{arith}
 use lib.ListN.{length, drop}
-use Rattle.table.specs.declared.Answer.TheVariants.{Refused, Given}
+use Rattle.table.specs.Said.{Refused, Given}
 use Rattle.table.specs.Table.{Table, steps_in_use}
 use Rattle.table.specs.Answer.{WriteOutcome, too_short, first}
 use Rattle.table.proofs.Sound.{test_sound}
@@ -35,7 +35,7 @@ count_used-steps-requires c = (test_sound (table_of c.args.t.now) c.requires).fo
 
 pub returns-then-buffer-size : goal.returns-then-buffer-size
 returns-then-buffer-size c =
-    let v = edition_of c.args.newer in
+    let v = edition_of c.args.edition in
     let t = table_of c.args.t.now in
     let n = size v t _ _ c.image_size-size.ensures c.count_used-steps.ensures in
     let e = short v t c.args.buffer.now (omega (arith, n, c.if-buffer-size.true)) in
@@ -46,19 +46,19 @@ returns-then-buffer-size c =
 
 pub put_image-requires : goal.put_image-requires
 put_image-requires c =
-    let n = size (edition_of c.args.newer) (table_of c.args.t.now) _ _ c.image_size-size.ensures c.count_used-steps.ensures in
+    let n = size (edition_of c.args.edition) (table_of c.args.t.now) _ _ c.image_size-size.ensures c.count_used-steps.ensures in
     (c.requires, c.count_used-steps.ensures, omega (arith, n, c.if-buffer-size.false))
 
 pub overflow_cast-result : goal.overflow_cast-result
 overflow_cast-result c =
-    let v = edition_of c.args.newer in
+    let v = edition_of c.args.edition in
     let t = table_of c.args.t.now in
     let n = size v t _ _ c.image_size-size.ensures c.count_used-steps.ensures in
     omega (arith, n, image_small v t (test_sound t c.requires))
 
 pub returns : goal.returns
 returns c =
-    let v = edition_of c.args.newer in
+    let v = edition_of c.args.edition in
     let t = table_of c.args.t.now in
     let n = size v t _ _ c.image_size-size.ensures c.count_used-steps.ensures in
     let e = long v t c.args.buffer.now (omega (arith, n, c.if-buffer-size.false)) in record {
