@@ -45,7 +45,7 @@
  * Measured, without the caller's table of 3,876 bytes or dispatcher of 34. A conversion is lent no table and keeps one of its own on the stack; a
  * clearing with a slip and a take-back keep one beside the lent one:
  *
- *     plan_edition, plan_sole_quotas, plan_fresh                                    120 bytes
+ *     plan_edition, plan_sole_quotas, plan_fresh                                     88 bytes
  *     plan_is_sound, plan_counts, plan_image_length, plan_read                    7,552
  *     plan_add                                                                    7,712
  *     plan_link                                                                   7,568
@@ -55,9 +55,9 @@
  *     plan_preview_clear                                                          8,576
  *     plan_squeeze                                                                7,872
  *     plan_trial, plan_write_image                                                7,584
- *     plan_rung                                                                   8,304
- *     plan_load_image                                                             7,680
- *     plan_convert_up, plan_convert_down                                         11,648
+ *     plan_rung                                                                   8,064
+ *     plan_load_image                                                             7,568
+ *     plan_convert_up, plan_convert_down                                         11,568
  *     plan_key_line                                                               7,776
  *     plan_line_fresh, plan_line_raise, plan_line_withdraw, plan_line_next           56
  *

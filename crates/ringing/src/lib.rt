@@ -77,10 +77,10 @@ fn ways(t: &[u16; WORDS], i: usize) -> usize
     1
 }
 
-// The marks of the steps that some trial of a sound table enters. Each step met, step 0 first, is asked once where it goes on to.
-fn marks_entered(t: &[u16; WORDS]) -> [u16; PLACES]
+// The steps that some trial of a sound table enters, by their marks. Each step met, step 0 first, is asked once where it goes on to.
+fn marks_entered(t: &[u16; WORDS]) -> Met
     requires { Sound (table_of t.now) }
-    ensures { (k : ℕ) → is_marked result k ≡ is_entered (goes_on (table_of t.now)) (table_of t.now).capacity k }
+    ensures { (k : ℕ) → is_marked result.seen k ≡ is_entered (goes_on (table_of t.now)) (table_of t.now).capacity k }
 {
     let mut met = Met::start();
     let mut at = 0;
@@ -93,7 +93,7 @@ fn marks_entered(t: &[u16; WORDS]) -> [u16; PLACES]
         at += 1;
     }
     met.seen[0] = 0;
-    met.seen
+    met
 }
 
 // How many of the marked steps below n are contacts.
@@ -110,10 +110,10 @@ fn list_entered(t: &[u16; WORDS], buffer: &mut [u8]) -> (u16, u16)
     ensures answer { answer_of (Ok result) ≡ (rung_of (table_of t.now) buffer.old).answer }
     ensures written { buffer.new ≡ (rung_of (table_of t.now) buffer.old).buffer }
 {
-    let seen = marks_entered(t);
+    let met = marks_entered(t);
     let n = usize::from(words::capacity(t));
-    let contacts = count_contacts(t, n, &seen);
-    let steps = marking::list_marks(n, &seen, buffer);
+    let contacts = count_contacts(t, n, &met.seen);
+    let steps = marking::list_marks(n, &met.seen, buffer);
     (steps, contacts)
 }
 

@@ -253,7 +253,7 @@ pub fn put_quotas(t: &mut [u16; WORDS], quotas: &[u16; QUOTAS])
     ensures { Becomes t.old t.new (with_numbers (table_of t.old) (table_of t.old).capacity
         (table_of t.old).last quotas.now) }
 {
-    t[QUOTAS_FROM..QUOTAS_FROM + QUOTAS].copy_from_slice(quotas);
+    put_words(t, QUOTAS_FROM, quotas);
 }
 
 // Step i is in use where `used` is 1, free where it is 0, with these fields; its links, its counters and the number last given stay.

@@ -1,12 +1,11 @@
 -- `words::put_quotas` meets its contract: the quotas are put in the place of the old ones. Assumes nothing.
-use mathlib.Core.Path.{◌≡◌, sym, ◌∙◌, ap}
+use mathlib.Core.Path.{sym, ◌∙◌, ap}
 use native.Mathlib.Omega.{arith}
 use lib.ListN.{length}
-use lib.Seq.{length-sets, sets}
-use borrow.Rule.Slice.PartMut.{put_mid}
+use lib.Seq.{length-sets}
 use Rattle.table.specs.Table.{with_numbers}
 use Rattle.words.specs.Words.{table_of}
-use Rattle.words.proofs.Laws.{run_quotas, put_mid_sets, sets_whole, shape_table}
+use Rattle.words.proofs.Laws.{run_quotas, sets_whole, shape_table}
 use Rattle.words.proofs.put_quotas.Goals as goal
 
 pub returns : goal.returns
@@ -14,8 +13,7 @@ returns c =
     let w = c.args.t.now in
     let q = c.args.quotas.now in
     let t = table_of w in
-    let e : put_mid 1922 16 w c.copy_from_slice.new.self ≡ sets w 1922 q =
-    put_mid_sets w c.copy_from_slice.new.self q 1922 16 c.copy_from_slice.ensures.after (sym c.told-quotas) (omega arith) in
+    let e = c.put_words.ensures in
     record {
       table =
           ap table_of e ∙ run_quotas q w 0 (omega arith) ∙
