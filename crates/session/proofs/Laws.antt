@@ -1,17 +1,23 @@
 -- Laws of the output: runs of bytes stored one after another, the digits of a number, and a block fed so far. Assumes nothing.
 --   sets_append      two runs stored one after the other are one
 --   puts_more        the same of a writer
---   spelled_small, spelled_more    the digits of a number below ten, and of another
+--   spelled_small, spelled_more    the digits of a number below ten, and of another; length_spelled_more, how many they are
+--   kept_few         a line keeps thirteen bytes at most
 --   Fedto            the loop's invariant: the session after the first i bytes of a block
 use mathlib.Core.Path.{◌≡◌, refl, sym, ◌∙◌, ap}
+use mathlib.Core.Bool.{true, false}
+use mathlib.Core.Logic.{⊎_elim}
 use mathlib.Core.List.{List, [], ◌∷◌, ◌++◌, append-nil}
-use Prim.Native.Nat.{ℕ, suc, ◌+◌, ◌*◌, ◌^◌, ◌≤◌, ◌<◌}
+use Prim.Native.Nat.{ℕ, zero, suc, ◌+◌, ◌*◌, ◌/◌, ◌%◌, ◌^◌, ◌≤◌, ◌<◌}
 use native.Mathlib.Nat.{add-zero}
 use native.Mathlib.Numerals.{add-one}
 use native.Mathlib.Omega.{arith}
 use lib.ListN.{length, get_or, take, set, length-append}
+use Rattle.std.proofs.lemmas.List.{length-take}
 use lib.Seq.{sets, take-suc, take-suc-set, length-take-le, take_all}
-use borrow.Author.Tests.{lt-ltb, le-ltb, eq-eqb, ne_eqb}
+use lib.Dec.{ltb}
+use borrow.Author.Tests.{lt-ltb, le-ltb, ltb-false, eq-eqb, ne_eqb}
+use Rattle.finite.proofs.Bools.{test}
 use Rattle.std.proofs.lemmas.Fmt.{decimal_from_appends, length-decimal-le, length-decimal-le_succ}
 use Rattle.std.specs.Fmt.{decimal}
 use Rattle.table.specs.Table.{Table, places}
@@ -21,7 +27,7 @@ use Rattle.table.specs.Calls.{fresh_table}
 use Rattle.table.proofs.Edits.{sound_fresh}
 use Rattle.words.specs.Words.{words, table_of, words_of}
 use Rattle.words.proofs.Laws.{table_words, shape_table}
-use Rattle.keyline.specs.Keys.{key_call}
+use Rattle.keyline.specs.Keys.{digit, key_call}
 use Rattle.keying.proofs.Laws.{key_shape}
 use Rattle.session.specs.declared.Writer.{Writer}
 use Rattle.session.specs.Puts.{Puts}
@@ -45,6 +51,31 @@ puts_more {a} {b} {c} {r} {s} p q =
       size = q.size ∙ p.size;
       lent = q.lent ∙ p.lent;
     }
+
+digits_enough : (f g n : ℕ) → n < f → n < g → digits f n ≡ digits g n
+unfolding digits
+digits_enough zero g n l m = absurd (omega arith)
+digits_enough (suc f) zero n l m = absurd (omega arith)
+digits_enough (suc f) (suc g) n l m =
+    ⊎_elim (λ (h : ltb n 10 ≡ true). rw h)
+    (λ (h : ltb n 10 ≡ false).
+    let k : 10 ≤ n = ltb-false n 10 h in
+    let e : digits f (n / 10) ≡ digits g (n / 10) = digits_enough f g (n / 10) (omega arith) (omega arith) in
+    rw (h, e))
+    (test (ltb n 10))
+
+pub spelled_small : (n : ℕ) → n < 10 → spelled n ≡ digit n ∷ []
+unfolding spelled digits
+spelled_small n l = rw (lt-ltb n 10 l)
+
+pub spelled_more : (n : ℕ) → 10 ≤ n → spelled n ≡ spelled (n / 10) ++ (digit (n % 10) ∷ [])
+unfolding spelled digits
+spelled_more n l =
+    let e : digits n (n / 10) ≡ digits (suc (n / 10)) (n / 10) = digits_enough n (suc (n / 10)) (n / 10) (omega arith) (omega arith) in
+    rw (le-ltb n 10 l, e)
+
+pub length_spelled_more : (n : ℕ) → 10 ≤ n → length (spelled n) ≡ length (spelled (n / 10)) + 1
+length_spelled_more n l = rw (spelled_more n l, length-append)
 
 -- the digits of a number are those that the library writes
 pub spelled_decimal : (n : ℕ) → n < 2 ^ 16 → spelled n ≡ decimal n
@@ -75,6 +106,10 @@ module _ (line : List ℕ) (kept b : ℕ) (size : length line ≡ kept_most) whe
   keep_long l =
       let e : length (take kept line) ≡ kept = length-take-le kept line (omega arith) in
       rw (le-ltb (length (take kept line)) kept_most (omega arith))
+
+-- what is kept of a line is thirteen bytes at most
+pub kept_few : (bytes line : List ℕ) (kept : ℕ) → take kept bytes ≡ line → kept ≤ kept_most → length line ≤ kept_most
+kept_few bytes line kept e l = let q = length-take kept bytes in let r = ap length e in grind arith
 
 -- after the first i bytes of a block; `start` is the writer before them
 pub record Fedto (s : State) (block : List ℕ) (start : Writer) (table : Table) (line : List ℕ) (w : Writer) (i : ℕ) : Type 0 where

@@ -20,7 +20,7 @@ const LINE_END: u8 = b'\n';
 // The blank between two numbers.
 const BLANK: u8 = b' ';
 // The bytes that are kept of a line: one more than the longest key line has.
-const KEPT: usize = 13;
+pub const KEPT: usize = 13;
 // The capacity of the table.
 const CAPACITY: u16 = 128;
 
@@ -164,6 +164,7 @@ pub fn start(t: &mut [u16; WORDS])
 // place after them.
 pub fn feed(t: &mut [u16; WORDS], line: &mut Line, block: &[u8], out: &mut [u8]) -> usize
     requires { 18 * length block.now ≤ length out.old }
+    ensures kept { length line.new ≤ kept_most }
     ensures state { state_of t.new line.new ≡ feed (state_of t.old line.old) block.now }
     ensures place { result ≡ length (fed_output (state_of t.old line.old) block.now) }
     ensures text { out.new ≡ sets out.old 0 (fed_output (state_of t.old line.old) block.now) }
@@ -179,6 +180,8 @@ pub fn feed(t: &mut [u16; WORDS], line: &mut Line, block: &[u8], out: &mut [u8])
             line.keep(*byte);
         }
     }
+    // A line keeps thirteen bytes at most; no machine code comes of it.
+    let _ = &line.kept;
     writer.at
 }
 

@@ -3,7 +3,7 @@ use mathlib.Core.Path.{refl}
 use native.Mathlib.Omega.{arith}
 use Rattle.words.specs.Words.{table_of}
 use Rattle.session.specs.Session.{state_of}
-use Rattle.session.proofs.Laws.{fed_none, fed_line, fed_byte, fed_all}
+use Rattle.session.proofs.Laws.{fed_none, fed_line, fed_byte, fed_all, kept_few}
 use Rattle.std.proofs.Common.{rules}
 use Rattle.session.proofs.feed.Goals as goal
 use Rattle.session.proofs.feed.Goals.{then-byte-eq-LINE_END, else-byte-eq-LINE_END}
@@ -32,4 +32,5 @@ returns c =
     let f = c.loop-byte.invariant in
     -- the bytes are those lent, so `search` finds what `out` is at the end
     let l = f.puts.lent in
-    fed_all f (omega arith) refl c.requires (search rules)
+    let r = fed_all f (omega arith) refl c.requires (search rules) in
+    record { kept = kept_few _ _ _ c.line.view_is c.line.invariant; state = r.state; place = r.place; text = r.text; room = r.room }
